@@ -1,14 +1,43 @@
-"""The examples in the comments of the public items, as a crate of tests: each block is the body of a test."""
+"""The examples in the comments of the public items, as a crate of tests and a crate of proofs.
+
+Each block is the body of a test. A function in it that has a clause is also proved: in a crate of its own, with no proof file.
+"""
 import functools
+import os
 import re
+import subprocess
+import tempfile
 import textwrap
 
-from sources import MODULES, Sources
+from repository import read_text
+from sources import MODULES, USE as SOURCE_USE, Sources, leaves
 from vocabulary import snake
 
 # The crate that the tests are compiled in, and its line for crates.txt.
 NAME = "examples"
 LINE = f"{NAME} tests_may=Threads+Wait: futures_lite futures rand_core rand_pcg"
+# The crate in crates.txt that has the functions with clauses.
+PROVED = "proved_examples"
+# What an example may name with no import of its own: the words of a clause, and what a function that waits takes.
+GHOST = {
+    "Rattle.std.specs.Prelude": (
+        *("◌≡◌", "◌⊎◌", "◌==◌", "◌≤◌", "◌%◌", "◌/◌", "◌*◌", "◌+◌", "◌-◌", "◌++◌", "◌^◌", "◌∷◌", "[]", "if◌then◌else◌"),
+        *("Err", "IfOk", "None", "Ok", "Some", "drop", "flat_map", "length", "map", "nat_lt", "not", "replicate", "string_bytes", "take"),
+    ),
+    "Rattle.std.specs.List": (
+        *("enumerate_from", "filter", "filter_map", "find", "fold", "last_or", "list_all", "list_any", "position", "prefix_len"),
+        *("range_with_len", "slice_get", "zip"),
+    ),
+    "Rattle.std.specs.Option": ("option_transpose",),
+    "Rattle.futures_lite.specs.Lines": ("byte_lines", "byte_pieces", "through_first"),
+    "Rattle.futures_lite.specs.Lists": ("map_while", "scan", "step_from", "try_pair"),
+    "Rattle.futures_lite.specs.Uses": ("first_error", "try_fold"),
+}
+STD = {"alloc": ("AllocError", "AllocGlobal"), "random": ("RandomSource",), "sync": ("Wait",)}
+# A function of a block that stands at its margin, with its comment.
+FUNCTION = re.compile(r"^(?:///.*\n)*fn \w+.*?^\}\n?", re.M | re.S)
+USE = re.compile(r"^use .*?;\n", re.M | re.S)
+CLAUSES = re.compile(r"(?:requires|ensures)\b[^{]*(\{.*)")
 
 
 def name_of(item, number):
@@ -23,15 +52,76 @@ def test_of(item, number, block):
     return f"#[test]\nfn {name_of(item, number)}(rt: HostRuntime) -> Result<(), Fail> {{\n{body}\n    Ok(())\n}}\n"
 
 
+def blocks(module):
+    """Returns each example of a module: its item, its number among the item's, and its text."""
+    return [(item, number, block) for item in Sources().items_of(module).values() for number, block in enumerate(item.examples)]
+
+
+def named(word, text):
+    """Tells whether a text names a word, or an operator by its parts."""
+    parts = [re.escape(it) if re.search(r"\W", it) else rf"\b{it}\b" for it in word.split("◌") if it]
+    return bool(re.search(".*".join(parts), text))
+
+
+def imports(text, uses=""):
+    """Returns the imports of what a text names and these do not import."""
+    clauses = " ".join(CLAUSES.findall(text))
+    ghost = {module: [it for it in words if named(it, clauses)] for module, words in GHOST.items()}
+    std = {module: [it for it in words if named(it, text) and not named(it, uses)] for module, words in STD.items()}
+    lines = [f"ghost use {module}.{{{', '.join(words)}}};" for module, words in ghost.items() if words]
+    lines += [f"use std::{module}::{{{', '.join(words)}}};" for module, words in std.items() if words]
+    return "".join(f"{it}\n" for it in lines)
+
+
 @functools.cache
 def tests():
     """Returns the files of the crate of tests, by their paths in it."""
-    sources = Sources()
     files = {"src/lib.rt": "//! The examples of the documentation.\n\n" + "".join(f"mod {it};\n" for it in MODULES)}
     for module in MODULES:
-        found = [(item, number, block) for item in sources.items_of(module).values() for number, block in enumerate(item.examples)]
-        files[f"src/{module}.rt"] = "\n".join([f"//! The examples of `futures_lite::{module}`.\nuse std::test::Fail;\n", *(test_of(*it) for it in found)])
+        written = "\n".join(test_of(*it) for it in blocks(module))
+        files[f"src/{module}.rt"] = f"//! The examples of `futures_lite::{module}`.\n{imports(written)}use std::test::Fail;\n\n{written}"
     return files
+
+
+def proved_in(block):
+    """Returns the functions of an example that have a clause."""
+    return [it for it in FUNCTION.findall(f"{block}\n") if re.search(r"^ +ensures\b", it, re.M)]
+
+
+def merged(uses):
+    """Returns these imports, each name once."""
+    found = {(name, path) for use in uses for it in SOURCE_USE.finditer(use) for name, path in leaves(it["tree"])}
+    return "".join(f"use {'::'.join(path)}{'' if path[-1] == name else f' as {name}'};\n" for name, path in sorted(found, key=lambda it: it[1]))
+
+
+@functools.cache
+def proofs():
+    """Returns the files of the crate of proofs, by their paths in it, as `rt fmt` lays them out."""
+    files = {}
+    for module in MODULES:
+        functions, uses = [], []
+        for item, number, block in blocks(module):
+            found = proved_in(block)
+            uses += USE.findall(block) if found else []
+            # (two examples may have functions of one name)
+            functions += [re.sub(r"^fn (\w+)", rf"pub fn {name_of(item, number)}_\1", it, flags=re.M) for it in found]
+        if functions:
+            text, there = "\n".join(functions), merged(uses)
+            files[f"src/{module}.rt"] = f"//! The examples of `futures_lite::{module}` that have clauses.\n{imports(text, there)}{there}\n{text}"
+    lines = "".join(f"pub mod {it};\n" for it in MODULES if f"src/{it}.rt" in files)
+    files["src/lib.rt"] = f"//! The functions with clauses in the examples of the documentation.\n#![tactic(auto)]\n\n{lines}"
+    return laid_out(files)
+
+
+def laid_out(files):
+    """Returns the files of a crate as `rt fmt` writes them."""
+    with tempfile.TemporaryDirectory(prefix="layout-") as place:
+        for path, text in files.items():
+            os.makedirs(os.path.dirname(f"{place}/{path}"), exist_ok=True)
+            with open(f"{place}/{path}", "w", encoding="utf-8") as file:
+                file.write(text)
+        subprocess.run(["rt", "fmt"], cwd=place, stdin=subprocess.DEVNULL, stdout=subprocess.DEVNULL, check=True)
+        return {path: read_text(f"{place}/{path}") for path in files}
 
 
 def calls(item, block):

@@ -1,7 +1,9 @@
-"""The files of docs/ that are generated, whole or in part."""
+"""The files that are generated, whole or in part."""
 import os
 
+import examples
 import markers
+import original_examples
 import originals
 import speed
 import vocabulary
@@ -9,7 +11,7 @@ from reference import Reference
 from repository import TOP, files_of, read_text
 
 # The folders in which every file is generated.
-WHOLE = ("docs/api", "docs/pictures")
+WHOLE = ("docs/api", "docs/pictures", f"crates/{examples.PROVED}/src")
 
 
 def files():
@@ -17,6 +19,9 @@ def files():
     yield from Reference().pages()
     yield speed.PLOT, speed.plot()
     yield vocabulary.PAGE, vocabulary.glossary()
+    yield original_examples.PAGE, original_examples.page()
+    for file, text in examples.proofs().items():
+        yield f"crates/{examples.PROVED}/{file}", text
     for page, parts in ((originals.PAGE, {**originals.tables(), **originals.added()}), (speed.PAGE, {"speed": speed.table()})):
         yield page, markers.filled(read_text(f"{TOP}/{page}"), parts)
 

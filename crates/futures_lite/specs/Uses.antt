@@ -75,7 +75,7 @@ pub use Rattle.lite_views.specs.Lists.{map_while, scan, step_from}
 pub use Rattle.lite_views.specs.OkLists.{AllTaken, OkListsAs}
 unfoldable pub use Rattle.lite_views.specs.OkLists.{OkLists, OkSeen}
 pub use Rattle.lite_views.specs.Trying.{TriesCollect, first_error, try_fold}
-pub use Rattle.lite_views.specs.Views.{FrontsAs, ListsAs, ValueHolds, ValueIs}
+pub use Rattle.lite_views.specs.Views.{FrontsAs, ListsAs, OfItems, ValueHolds, ValueIs}
 unfoldable pub use Rattle.lite_views.specs.Views.{Fronts, GoesOn, HasValue, Lists, Seen, Waited}
 pub use Rattle.lite_views.specs.Waiting.{WhenLeft}
 unfoldable pub use Rattle.lite_views.specs.Waiting.{LeftAs, LeftSeen}

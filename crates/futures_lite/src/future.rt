@@ -69,11 +69,24 @@ pub fn pending<T>() -> Pending<T>
 /// ```
 /// use futures_lite::future;
 ///
-/// let both = future::or(future::ready(1u8), future::ready(2));
-/// assert_eq!(rt; future::block_on(&rt, both)?, 1);
+/// fn second<R>(rt: &R) -> Result<u8, AllocError>
+/// where
+///     R: Wait + RandomSource + AllocGlobal,
+///     ensures { IfOk result (λ v. v ≡ 2) }
+/// {
+///     future::block_on(rt, future::or(future::pending(), future::ready(2)))
+/// }
 ///
-/// let second = future::or(future::pending(), future::ready(2u8));
-/// assert_eq!(rt; future::block_on(&rt, second)?, 2);
+/// fn preferred<R>(rt: &R) -> Result<u8, AllocError>
+/// where
+///     R: Wait + RandomSource + AllocGlobal,
+///     ensures { IfOk result (λ v. v ≡ 1) }
+/// {
+///     future::block_on(rt, future::or(future::ready(1), future::ready(2)))
+/// }
+///
+/// assert_eq!(rt; second(&rt)?, 2);
+/// assert_eq!(rt; preferred(&rt)?, 1);
 /// ```
 pub fn or<T, F1, F2>(future1: F1, future2: F2) -> Or<F1, F2>
 where
@@ -103,9 +116,26 @@ where
 /// use rand_core::SeedableRng;
 /// use rand_pcg::Pcg32;
 ///
-/// let rng = Pcg32::seed_from_u64(7);
-/// let second = future::race(future::pending(), future::ready(2u8), rng);
-/// assert_eq!(rt; future::block_on(&rt, second)?, 2);
+/// fn first<R>(rt: &R) -> Result<u8, AllocError>
+/// where
+///     R: Wait + RandomSource + AllocGlobal,
+///     ensures { IfOk result (λ v. v ≡ 1) }
+/// {
+///     let rng = Pcg32::seed_from_u64(7);
+///     future::block_on(rt, future::race(future::ready(1), future::pending(), rng))
+/// }
+///
+/// fn second<R>(rt: &R) -> Result<u8, AllocError>
+/// where
+///     R: Wait + RandomSource + AllocGlobal,
+///     ensures { IfOk result (λ v. v ≡ 2) }
+/// {
+///     let rng = Pcg32::seed_from_u64(7);
+///     future::block_on(rt, future::race(future::pending(), future::ready(2), rng))
+/// }
+///
+/// assert_eq!(rt; first(&rt)?, 1);
+/// assert_eq!(rt; second(&rt)?, 2);
 /// ```
 pub fn race<T, F1, F2, G>(future1: F1, future2: F2, rng: G) -> Race<F1, F2, G>
 where
@@ -127,6 +157,16 @@ where
 ///
 /// ```
 /// use futures_lite::future;
+///
+/// fn second<R>(rt: &R) -> Result<u8, AllocError>
+/// where
+///     R: Wait + RandomSource + AllocGlobal,
+///     ensures { IfOk result (λ v. v ≡ 2) }
+/// {
+///     future::block_on(rt, future::race_with_seed(future::pending(), future::ready(2), 0x42))
+/// }
+///
+/// assert_eq!(rt; second(&rt)?, 2);
 ///
 /// let mut firsts = 0u32;
 /// for seed in 0..50u64 {
@@ -162,12 +202,20 @@ where
 /// ```
 /// use futures_lite::future;
 ///
+/// fn failed<R>(rt: &R) -> Result<Result<(u8, u8), u8>, AllocError>
+/// where
+///     R: Wait + RandomSource + AllocGlobal,
+///     ensures { IfOk result (λ v. v ≡ Err 2) }
+/// {
+///     let first = future::ready(Ok::<u8, u8>(1));
+///     let second = future::ready(Err::<u8, u8>(2));
+///     future::block_on(rt, future::try_zip(first, second))
+/// }
+///
+/// assert_eq!(rt; failed(&rt)?, Err(2));
+///
 /// let both = future::try_zip(future::ready(Ok::<u8, &str>(1)), future::ready(Ok::<u8, &str>(2)));
 /// assert_eq!(rt; future::block_on(&rt, both)?, Ok((1, 2)));
-///
-/// let second = future::ready(Err::<u8, &str>("full"));
-/// let failed = future::try_zip(future::pending::<Result<u8, &str>>(), second);
-/// assert_eq!(rt; future::block_on(&rt, failed)?, Err("full"));
 /// ```
 pub fn try_zip<T1, T2, E, F1, F2>(future1: F1, future2: F2) -> TryZip<F1, T1, F2, T2>
 where
@@ -206,8 +254,15 @@ where
 /// ```
 /// use futures_lite::future;
 ///
-/// let both = future::zip(future::yield_now(), future::ready(7u8));
-/// assert_eq!(rt; future::block_on(&rt, both)?, ((), 7));
+/// fn sum<R>(rt: &R) -> Result<u8, AllocError>
+/// where
+///     R: Wait + RandomSource + AllocGlobal,
+///     ensures { IfOk result (λ v. v ≡ 3) }
+/// {
+///     future::block_on(rt, future::ready(1 + 2))
+/// }
+///
+/// assert_eq!(rt; sum(&rt)?, 3);
 /// ```
 pub fn block_on<R, F>(rt: &R, future: F) -> Result<F::Output, AllocError>
 where
@@ -265,11 +320,24 @@ pub trait FutureExt: Future {
     /// ```
     /// use futures_lite::{FutureExt, future};
     ///
-    /// let both = future::ready(1u8).or(future::ready(2));
-    /// assert_eq!(rt; future::block_on(&rt, both)?, 1);
+    /// fn second<R>(rt: &R) -> Result<u8, AllocError>
+    /// where
+    ///     R: Wait + RandomSource + AllocGlobal,
+    ///     ensures { IfOk result (λ v. v ≡ 2) }
+    /// {
+    ///     future::block_on(rt, future::pending().or(future::ready(2)))
+    /// }
     ///
-    /// let second = future::pending().or(future::ready(2u8));
-    /// assert_eq!(rt; future::block_on(&rt, second)?, 2);
+    /// fn preferred<R>(rt: &R) -> Result<u8, AllocError>
+    /// where
+    ///     R: Wait + RandomSource + AllocGlobal,
+    ///     ensures { IfOk result (λ v. v ≡ 1) }
+    /// {
+    ///     future::block_on(rt, future::ready(1).or(future::ready(2)))
+    /// }
+    ///
+    /// assert_eq!(rt; second(&rt)?, 2);
+    /// assert_eq!(rt; preferred(&rt)?, 1);
     /// ```
     final fn or<F>(self, other: F) -> Or<Self, F>
     where
@@ -297,9 +365,16 @@ pub trait FutureExt: Future {
     /// use rand_core::SeedableRng;
     /// use rand_pcg::Pcg32;
     ///
-    /// let rng = Pcg32::seed_from_u64(7);
-    /// let second = future::pending().race(future::ready(2u8), rng);
-    /// assert_eq!(rt; future::block_on(&rt, second)?, 2);
+    /// fn second<R>(rt: &R) -> Result<u8, AllocError>
+    /// where
+    ///     R: Wait + RandomSource + AllocGlobal,
+    ///     ensures { IfOk result (λ v. v ≡ 2) }
+    /// {
+    ///     let rng = Pcg32::seed_from_u64(7);
+    ///     future::block_on(rt, future::pending().race(future::ready(2), rng))
+    /// }
+    ///
+    /// assert_eq!(rt; second(&rt)?, 2);
     /// ```
     final fn race<F, G>(self, other: F, rng: G) -> Race<Self, F, G>
     where

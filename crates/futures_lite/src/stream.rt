@@ -4,7 +4,7 @@ ghost use Rattle.std.specs.Prelude.{drop, false, flat_map, length, map, not, rep
 ghost use Rattle.futures_lite.specs.Uses.{AllByRecursion, enumerate_from, filter, filter_map, find, fold, last_or, list_all, list_any, position, prefix_len};
 ghost use Rattle.futures_lite.specs.Uses.{range_with_len, slice_get, zip, ActsAs, ActsAsAt, ActsAsOnTwo, CallKeepsClosure, Called, CalledAt, AllocError, Bor};
 ghost use Rattle.futures_lite.specs.Uses.{until_end, Calls, MayCallEach, items_in, Filters, SkipsFirst, SkipsWhile, StepsBy, Fuses, Inspects, Takes};
-ghost use Rattle.futures_lite.specs.Uses.{TakesWhile, Zips, ActsAsOnState, map_while, scan, step_from, Fronts, FrontsAs, GoesOn, HasValue, Lists, ListsAs};
+ghost use Rattle.futures_lite.specs.Uses.{TakesWhile, Zips, ActsAsOnState, map_while, scan, step_from, Fronts, FrontsAs, GoesOn, HasValue, Lists, ListsAs, OfItems};
 ghost use Rattle.futures_lite.specs.Uses.{Seen, ValueHolds, ValueIs, CountRuns, FindRuns, FoldRuns, LastRuns, NthRuns, TryFoldRuns, TriesCollect, first_error};
 ghost use Rattle.futures_lite.specs.Uses.{try_fold, option_transpose, AllTaken, OkLists, OkSeen, Budgets, CycleOf, FlatMaps, Flattens, Thens, First};
 
@@ -44,8 +44,16 @@ use std::{array, iter as iterators, slice, vec};
 /// ```
 /// use futures_lite::{StreamExt, future, stream};
 ///
-/// let mut nothing = stream::empty::<u8>();
-/// assert_eq!(rt; future::block_on(&rt, nothing.next())?, None);
+/// fn nothing<R>(rt: &R) -> Result<Option<u8>, AllocError>
+/// where
+///     R: Wait + RandomSource + AllocGlobal,
+///     ensures { IfOk result (λ v. v ≡ None) }
+/// {
+///     let mut empty = stream::empty::<u8>();
+///     future::block_on(rt, empty.next())
+/// }
+///
+/// assert_eq!(rt; nothing(&rt)?, None);
 /// ```
 pub fn empty<T>() -> Empty<T>
     ensures made { result ≡ record { item = record {} } }
@@ -64,9 +72,16 @@ pub fn empty<T>() -> Empty<T>
 /// ```
 /// use futures_lite::{StreamExt, future, stream};
 ///
-/// let words = stream::iter_vec(vec![in rt.alloc(); "a", "bc", "def"]?);
-/// let lengths = words.map(|word: &str| word.len()).collect::<Vec<_>>(rt.alloc());
-/// assert_eq!(rt; future::block_on(&rt, lengths)??.as_slice(), [1, 2, 3].as_slice());
+/// fn first<R>(rt: &R) -> Result<Option<u8>, AllocError>
+/// where
+///     R: Wait + RandomSource + AllocGlobal,
+///     ensures { IfOk result (λ v. v ≡ Some 1) }
+/// {
+///     let mut numbers = stream::iter_vec(vec![in rt.alloc(); 1u8, 2]?);
+///     future::block_on(rt, numbers.next())
+/// }
+///
+/// assert_eq!(rt; first(&rt)?, Some(1));
 /// ```
 pub fn iter_vec<T: Drop>(items: Vec<T>) -> Iter<vec::IntoIter<T>>
     ensures fronts { Fronts ⟦<Iter<vec::IntoIter<T>> as Stream>⟧.run result items.items }
@@ -85,9 +100,15 @@ pub fn iter_vec<T: Drop>(items: Vec<T>) -> Iter<vec::IntoIter<T>>
 /// ```
 /// use futures_lite::{StreamExt, future, stream};
 ///
-/// let prices = [3u32, 5];
-/// let total = stream::iter_slice(&prices).fold(0, |sum: u32, price: u32| sum + price);
-/// assert_eq!(rt; future::block_on(&rt, total)?, prices[0] + prices[1]);
+/// fn copied<R>(rt: &R, prices: &[u32]) -> Result<Vec<u32>, AllocError>
+/// where
+///     R: Wait + RandomSource + AllocGlobal,
+///     ensures { IfOk result (λ v. v.items ≡ prices.now) }
+/// {
+///     future::block_on(rt, stream::iter_slice(prices).collect::<Vec<u32>>(rt.alloc()))?.map_err(|_| AllocError)
+/// }
+///
+/// assert_eq!(rt; copied(&rt, &[3, 5])?.as_slice(), [3, 5].as_slice());
 /// ```
 pub fn iter_slice<'a, T: Copy>(items: &'a [T]) -> Iter<iterators::Copied<slice::Iter<'a, T>>>
     ensures fronts { Fronts ⟦<Iter<iterators::Copied<slice::Iter<'a, T>>> as Stream>⟧.run result items.now }
@@ -107,10 +128,15 @@ pub fn iter_slice<'a, T: Copy>(items: &'a [T]) -> Iter<iterators::Copied<slice::
 /// ```
 /// use futures_lite::{StreamExt, future, stream};
 ///
-/// let mut letters = stream::iter_array(['a', 'b']);
-/// assert_eq!(rt; future::block_on(&rt, letters.next())?, Some('a'));
-/// assert_eq!(rt; future::block_on(&rt, letters.next())?, Some('b'));
-/// assert_eq!(rt; future::block_on(&rt, letters.next())?, None);
+/// fn letters<R>(rt: &R, first: char, second: char) -> Result<Vec<char>, AllocError>
+/// where
+///     R: Wait + RandomSource + AllocGlobal,
+///     ensures { IfOk result (λ v. v.items ≡ first ∷ second ∷ []) }
+/// {
+///     future::block_on(rt, stream::iter_array([first, second]).collect::<Vec<char>>(rt.alloc()))?.map_err(|_| AllocError)
+/// }
+///
+/// assert_eq!(rt; letters(&rt, 'a', 'b')?.as_slice(), ['a', 'b'].as_slice());
 /// ```
 pub fn iter_array<T: Drop, const N: usize>(items: [T; N]) -> Iter<array::IntoIter<T, N>>
     ensures fronts { Fronts ⟦<Iter<array::IntoIter<T, N>> as Stream>⟧.run result items }
@@ -128,8 +154,15 @@ pub fn iter_array<T: Drop, const N: usize>(items: [T; N]) -> Iter<array::IntoIte
 /// ```
 /// use futures_lite::{StreamExt, future, stream};
 ///
-/// let numbers = stream::iter_range(2..5).collect::<Vec<_>>(rt.alloc());
-/// assert_eq!(rt; future::block_on(&rt, numbers)??.as_slice(), [2, 3, 4].as_slice());
+/// fn numbers<R>(rt: &R, start: usize, end: usize) -> Result<Vec<usize>, AllocError>
+/// where
+///     R: Wait + RandomSource + AllocGlobal,
+///     ensures { IfOk result (λ v. v.items ≡ range_with_len start (end - start)) }
+/// {
+///     future::block_on(rt, stream::iter_range(start..end).collect::<Vec<usize>>(rt.alloc()))?.map_err(|_| AllocError)
+/// }
+///
+/// assert_eq!(rt; numbers(&rt, 2, 5)?.as_slice(), [2, 3, 4].as_slice());
 /// ```
 pub fn iter_range(items: Range<usize>) -> Iter<Range<usize>>
     ensures fronts { (n : ℕ) → items.end - items.start ≡ n
@@ -148,6 +181,17 @@ pub fn iter_range(items: Range<usize>) -> Iter<Range<usize>>
 ///
 /// ```
 /// use futures_lite::{StreamExt, future, stream};
+///
+/// fn only<R>(rt: &R) -> Result<Option<u8>, AllocError>
+/// where
+///     R: Wait + RandomSource + AllocGlobal,
+///     ensures { IfOk result (λ v. v ≡ Some 7) }
+/// {
+///     let mut seven = stream::once(7u8);
+///     future::block_on(rt, seven.next())
+/// }
+///
+/// assert_eq!(rt; only(&rt)?, Some(7));
 ///
 /// let mut one = stream::once(7u8);
 /// assert_eq!(rt; future::block_on(&rt, one.next())?, Some(7));
@@ -172,8 +216,16 @@ pub fn once<T>(t: T) -> Once<T>
 /// ```
 /// use futures_lite::{StreamExt, future, stream};
 ///
-/// let sevens = stream::repeat(7u8).take(2).collect::<Vec<_>>(rt.alloc());
-/// assert_eq!(rt; future::block_on(&rt, sevens)??.as_slice(), [Ok(7), Ok(7)].as_slice());
+/// fn repeated<R>(rt: &R, item: u8, n: usize) -> Result<Vec<Result<u8, AllocError>>, AllocError>
+/// where
+///     R: Wait + RandomSource + AllocGlobal,
+///     ensures { IfOk result (λ v. v.items ≡ replicate n (Ok item)) }
+/// {
+///     let items = stream::repeat(item).take(n);
+///     future::block_on(rt, items.collect::<Vec<_>>(rt.alloc()))?.map_err(|_| AllocError)
+/// }
+///
+/// assert_eq!(rt; repeated(&rt, 7, 2)?.as_slice(), [Ok(7), Ok(7)].as_slice());
 /// ```
 pub fn repeat<T: Clone>(item: T) -> Repeat<T>
     ensures made { result ≡ record { item = item } }
@@ -237,8 +289,16 @@ pub trait StreamExt: Stream {
     /// ```
     /// use futures_lite::{StreamExt, future, stream};
     ///
-    /// let tens = stream::iter(1u8..=3).map(|x: u8| x * 10).collect::<Vec<_>>(rt.alloc());
-    /// assert_eq!(rt; future::block_on(&rt, tens)??.as_slice(), [10, 20, 30].as_slice());
+    /// fn doubled<R>(rt: &R, numbers: Vec<u32>) -> Result<Vec<u64>, AllocError>
+    /// where
+    ///     R: Wait + RandomSource + AllocGlobal,
+    ///     ensures { IfOk result (λ v. v.items ≡ map (λ x. x * 2) numbers.items) }
+    /// {
+    ///     let doubled = stream::iter_vec(numbers).map(|x: u32| x as u64 * 2);
+    ///     future::block_on(rt, doubled.collect::<Vec<u64>>(rt.alloc()))?.map_err(|_| AllocError)
+    /// }
+    ///
+    /// assert_eq!(rt; doubled(&rt, vec![in rt.alloc(); 1, 2, 3]?)?.as_slice(), [2, 4, 6].as_slice());
     /// ```
     final fn map<U, F>(self, f: F) -> Map<Self, F>
     where
@@ -265,8 +325,16 @@ pub trait StreamExt: Stream {
     /// ```
     /// use futures_lite::{StreamExt, future, stream};
     ///
-    /// let evens = stream::iter(1u8..=5).filter(|x: &u8| *x % 2 == 0).collect::<Vec<_>>(rt.alloc());
-    /// assert_eq!(rt; future::block_on(&rt, evens)??.as_slice(), [2, 4].as_slice());
+    /// fn evens<R>(rt: &R, numbers: Vec<u32>) -> Result<Vec<u32>, AllocError>
+    /// where
+    ///     R: Wait + RandomSource + AllocGlobal,
+    ///     ensures { IfOk result (λ v. v.items ≡ filter (λ x. x % 2 == 0) numbers.items) }
+    /// {
+    ///     let evens = stream::iter_vec(numbers).filter(|x: &u32| *x % 2 == 0);
+    ///     future::block_on(rt, evens.collect::<Vec<u32>>(rt.alloc()))?.map_err(|_| AllocError)
+    /// }
+    ///
+    /// assert_eq!(rt; evens(&rt, vec![in rt.alloc(); 1, 2, 3, 4]?)?.as_slice(), [2, 4].as_slice());
     /// ```
     final fn filter<P>(self, predicate: P) -> Filter<Self, P>
     where
@@ -293,9 +361,16 @@ pub trait StreamExt: Stream {
     /// ```
     /// use futures_lite::{StreamExt, future, stream};
     ///
-    /// let counts = stream::iter(0u8..=3).flat_map(|n: u8| stream::iter(0..n));
-    /// let got = future::block_on(&rt, counts.collect::<Vec<_>>(rt.alloc()))??;
-    /// assert_eq!(rt; got.as_slice(), [0, 0, 1, 0, 1, 2].as_slice());
+    /// fn twice<R>(rt: &R, numbers: Vec<u32>) -> Result<Vec<u32>, AllocError>
+    /// where
+    ///     R: Wait + RandomSource + AllocGlobal,
+    ///     ensures { IfOk result (λ v. v.items ≡ flat_map (λ x. x ∷ x ∷ []) numbers.items) }
+    /// {
+    ///     let twice = stream::iter_vec(numbers).flat_map(|x: u32| stream::iter_array([x, x]));
+    ///     future::block_on(rt, twice.collect::<Vec<u32>>(rt.alloc()))?.map_err(|_| AllocError)
+    /// }
+    ///
+    /// assert_eq!(rt; twice(&rt, vec![in rt.alloc(); 1, 2]?)?.as_slice(), [1, 1, 2, 2].as_slice());
     /// ```
     final fn flat_map<U, F>(self, f: F) -> FlatMap<Self, U, F>
     where
@@ -352,9 +427,16 @@ pub trait StreamExt: Stream {
     /// ```
     /// use futures_lite::{StreamExt, future, stream};
     ///
-    /// let doubled = stream::iter(1u8..=3).then(|x: u8| future::ready(x * 2));
-    /// let got = future::block_on(&rt, doubled.collect::<Vec<_>>(rt.alloc()))??;
-    /// assert_eq!(rt; got.as_slice(), [2, 4, 6].as_slice());
+    /// fn doubled<R>(rt: &R, numbers: Vec<u32>) -> Result<Vec<u64>, AllocError>
+    /// where
+    ///     R: Wait + RandomSource + AllocGlobal,
+    ///     ensures { IfOk result (λ v. v.items ≡ map (λ x. x * 2) numbers.items) }
+    /// {
+    ///     let doubled = stream::iter_vec(numbers).then(|x: u32| future::ready(x as u64 * 2));
+    ///     future::block_on(rt, doubled.collect::<Vec<u64>>(rt.alloc()))?.map_err(|_| AllocError)
+    /// }
+    ///
+    /// assert_eq!(rt; doubled(&rt, vec![in rt.alloc(); 1, 2, 3]?)?.as_slice(), [2, 4, 6].as_slice());
     /// ```
     final fn then<F, Fut>(self, f: F) -> Then<Self, F, Fut>
     where
@@ -380,10 +462,16 @@ pub trait StreamExt: Stream {
     /// ```
     /// use futures_lite::{StreamExt, future, stream};
     ///
-    /// let words = stream::iter_array(["1", "lol", "3", "NaN", "5"]);
-    /// let numbers = words.filter_map(|word: &str| word.parse::<u32>().ok());
-    /// let got = future::block_on(&rt, numbers.collect::<Vec<_>>(rt.alloc()))??;
-    /// assert_eq!(rt; got.as_slice(), [1, 3, 5].as_slice());
+    /// fn halves<R>(rt: &R, numbers: Vec<u32>) -> Result<Vec<u32>, AllocError>
+    /// where
+    ///     R: Wait + RandomSource + AllocGlobal,
+    ///     ensures { IfOk result (λ v. v.items ≡ filter_map (λ x. if x % 2 == 0 then Some (x / 2) else None) numbers.items) }
+    /// {
+    ///     let halves = stream::iter_vec(numbers).filter_map(|x: u32| if x % 2 == 0 { Some(x / 2) } else { None });
+    ///     future::block_on(rt, halves.collect::<Vec<u32>>(rt.alloc()))?.map_err(|_| AllocError)
+    /// }
+    ///
+    /// assert_eq!(rt; halves(&rt, vec![in rt.alloc(); 1, 2, 4]?)?.as_slice(), [1, 2].as_slice());
     /// ```
     final fn filter_map<T, F>(self, f: F) -> FilterMap<Self, F>
     where
@@ -407,15 +495,23 @@ pub trait StreamExt: Stream {
     /// ```
     /// use futures_lite::{StreamExt, future, stream};
     ///
-    /// let firsts = stream::iter(1u8..=9).take(2).collect::<Vec<_>>(rt.alloc());
-    /// assert_eq!(rt; future::block_on(&rt, firsts)??.as_slice(), [1, 2].as_slice());
+    /// fn firsts<R>(rt: &R) -> Result<Vec<u8>, AllocError>
+    /// where
+    ///     R: Wait + RandomSource + AllocGlobal,
+    ///     ensures { IfOk result (λ v. v.items ≡ 1 ∷ 2 ∷ []) }
+    /// {
+    ///     let firsts = stream::iter_array([1, 2, 3, 4]).take(2);
+    ///     future::block_on(rt, firsts.collect::<Vec<u8>>(rt.alloc()))?.map_err(|_| AllocError)
+    /// }
+    ///
+    /// assert_eq!(rt; firsts(&rt)?.as_slice(), [1, 2].as_slice());
     /// ```
-    #[tactic(auto, using(lite_views::proofs::Adapting::taken_lists, lite_views::proofs::Adapting::repeated_lists))]
+    #[tactic(auto, using(lite_views::proofs::Views::seen, lite_views::proofs::Adapting::taken_lists, lite_views::proofs::Adapting::repeated_lists))]
     final fn take(self, n: usize) -> Take<Self>
     where
         Self: Sized,
         ensures parts { result ≡ record { stream = self; n = n } }
-        ensures lists { (xs : List Self.Item) → Lists Self.run self xs → ListsAs (Takes Self.run) result (take n xs) }
+        ensures lists { OfItems Self.run self (λ xs. ListsAs (Takes Self.run) result (take n xs)) }
         ensures repeats { (x : Self.Item) → GoesOn Self.run self x → ListsAs (Takes Self.run) result (replicate n x) }
     {
         make::take(self, n)
@@ -431,6 +527,17 @@ pub trait StreamExt: Stream {
     ///
     /// ```
     /// use futures_lite::{StreamExt, future, stream};
+    ///
+    /// fn small<R>(rt: &R, numbers: Vec<u32>) -> Result<Vec<u32>, AllocError>
+    /// where
+    ///     R: Wait + RandomSource + AllocGlobal,
+    ///     ensures { IfOk result (λ v. v.items ≡ take (prefix_len (λ x. nat_lt x 5) numbers.items) numbers.items) }
+    /// {
+    ///     let small = stream::iter_vec(numbers).take_while(|x: &u32| *x < 5);
+    ///     future::block_on(rt, small.collect::<Vec<u32>>(rt.alloc()))?.map_err(|_| AllocError)
+    /// }
+    ///
+    /// assert_eq!(rt; small(&rt, vec![in rt.alloc(); 1, 7, 2]?)?.as_slice(), [1].as_slice());
     ///
     /// let mut small = stream::iter_array([1u8, 7, 2]).take_while(|x: &u8| *x < 5);
     /// assert_eq!(rt; future::block_on(&rt, small.next())?, Some(1));
@@ -459,6 +566,17 @@ pub trait StreamExt: Stream {
     /// ```
     /// use futures_lite::{StreamExt, future, stream};
     ///
+    /// fn halves<R>(rt: &R, numbers: Vec<u32>) -> Result<Vec<u32>, AllocError>
+    /// where
+    ///     R: Wait + RandomSource + AllocGlobal,
+    ///     ensures { IfOk result (λ v. v.items ≡ map_while (λ x. if x % 2 == 0 then Some (x / 2) else None) numbers.items) }
+    /// {
+    ///     let halves = stream::iter_vec(numbers).map_while(|x: u32| if x % 2 == 0 { Some(x / 2) } else { None });
+    ///     future::block_on(rt, halves.collect::<Vec<u32>>(rt.alloc()))?.map_err(|_| AllocError)
+    /// }
+    ///
+    /// assert_eq!(rt; halves(&rt, vec![in rt.alloc(); 2, 1, 4]?)?.as_slice(), [1].as_slice());
+    ///
     /// let mut below = stream::iter_array([1u8, 0, 5]).map_while(|x: u8| x.checked_sub(1));
     /// assert_eq!(rt; future::block_on(&rt, below.next())?, Some(0));
     /// assert_eq!(rt; future::block_on(&rt, below.next())?, None);
@@ -486,15 +604,23 @@ pub trait StreamExt: Stream {
     /// ```
     /// use futures_lite::{StreamExt, future, stream};
     ///
-    /// let rest = stream::iter(1u8..=5).skip(3).collect::<Vec<_>>(rt.alloc());
-    /// assert_eq!(rt; future::block_on(&rt, rest)??.as_slice(), [4, 5].as_slice());
+    /// fn rest<R>(rt: &R) -> Result<Vec<u8>, AllocError>
+    /// where
+    ///     R: Wait + RandomSource + AllocGlobal,
+    ///     ensures { IfOk result (λ v. v.items ≡ 2 ∷ 3 ∷ []) }
+    /// {
+    ///     let rest = stream::iter_array([1, 2, 3]).skip(1);
+    ///     future::block_on(rt, rest.collect::<Vec<u8>>(rt.alloc()))?.map_err(|_| AllocError)
+    /// }
+    ///
+    /// assert_eq!(rt; rest(&rt)?.as_slice(), [2, 3].as_slice());
     /// ```
-    #[tactic(auto, using(lite_views::proofs::Adapting::skipped_lists))]
+    #[tactic(auto, using(lite_views::proofs::Views::seen, lite_views::proofs::Adapting::skipped_lists))]
     final fn skip(self, n: usize) -> Skip<Self>
     where
         Self: Sized,
         ensures parts { result ≡ record { stream = self; n = n } }
-        ensures lists { (xs : _) → Lists Self.run self xs → ListsAs (SkipsFirst Self.run) result (drop n xs) }
+        ensures lists { OfItems Self.run self (λ xs. ListsAs (SkipsFirst Self.run) result (drop n xs)) }
     {
         lite_reshape::make::skip(self, n)
     }
@@ -511,9 +637,16 @@ pub trait StreamExt: Stream {
     /// ```
     /// use futures_lite::{StreamExt, future, stream};
     ///
-    /// let rest = stream::iter_array([-2i32, -1, 3, -4]).skip_while(|x: &i32| *x < 0);
-    /// let got = future::block_on(&rt, rest.collect::<Vec<_>>(rt.alloc()))??;
-    /// assert_eq!(rt; got.as_slice(), [3, -4].as_slice());
+    /// fn rest<R>(rt: &R, numbers: Vec<u32>) -> Result<Vec<u32>, AllocError>
+    /// where
+    ///     R: Wait + RandomSource + AllocGlobal,
+    ///     ensures { IfOk result (λ v. v.items ≡ drop (prefix_len (λ x. nat_lt x 3) numbers.items) numbers.items) }
+    /// {
+    ///     let rest = stream::iter_vec(numbers).skip_while(|x: &u32| *x < 3);
+    ///     future::block_on(rt, rest.collect::<Vec<u32>>(rt.alloc()))?.map_err(|_| AllocError)
+    /// }
+    ///
+    /// assert_eq!(rt; rest(&rt, vec![in rt.alloc(); 1, 2, 3, 1]?)?.as_slice(), [3, 1].as_slice());
     /// ```
     final fn skip_while<P>(self, predicate: P) -> SkipWhile<Self, P>
     where
@@ -537,17 +670,24 @@ pub trait StreamExt: Stream {
     /// ```
     /// use futures_lite::{StreamExt, future, stream};
     ///
-    /// let thirds = stream::iter(0u8..8).step_by(3).collect::<Vec<_>>(rt.alloc());
-    /// assert_eq!(rt; future::block_on(&rt, thirds)??.as_slice(), [0, 3, 6].as_slice());
+    /// fn seconds<R>(rt: &R) -> Result<Vec<u8>, AllocError>
+    /// where
+    ///     R: Wait + RandomSource + AllocGlobal,
+    ///     ensures { IfOk result (λ v. v.items ≡ 0 ∷ 2 ∷ 4 ∷ []) }
+    /// {
+    ///     let seconds = stream::iter_array([0, 1, 2, 3, 4]).step_by(2);
+    ///     future::block_on(rt, seconds.collect::<Vec<u8>>(rt.alloc()))?.map_err(|_| AllocError)
+    /// }
+    ///
+    /// assert_eq!(rt; seconds(&rt)?.as_slice(), [0, 2, 4].as_slice());
     /// ```
-    #[tactic(auto, using(lite_views::proofs::Adapting::stepped_lists, lite_views::proofs::Adapting::step_fewer))]
+    #[tactic(auto, using(lite_views::proofs::Views::seen, lite_views::proofs::Adapting::stepped_lists, lite_views::proofs::Adapting::step_fewer))]
     final fn step_by(self, step: usize) -> StepBy<Self>
     where
         Self: Sized,
         requires { 0 < step }
         ensures parts { result ≡ record { stream = self; step = step; i = 0 } }
-        ensures lists { (xs : List Self.Item) → Lists Self.run self xs
-            → ListsAs (StepsBy Self.run) result (step_from step 0 xs) × (length (step_from step 0 xs) ≤ length xs) }
+        ensures lists { OfItems Self.run self (λ xs. ListsAs (StepsBy Self.run) result (step_from step 0 xs) × (length (step_from step 0 xs) ≤ length xs)) }
     {
         lite_reshape::make::step_by(self, step)
     }
@@ -562,9 +702,17 @@ pub trait StreamExt: Stream {
     /// ```
     /// use futures_lite::{StreamExt, future, stream};
     ///
-    /// let joined = stream::iter(1u8..3).chain(stream::once(9));
-    /// let got = future::block_on(&rt, joined.collect::<Vec<_>>(rt.alloc()))??;
-    /// assert_eq!(rt; got.as_slice(), [1, 2, 9].as_slice());
+    /// fn joined<R>(rt: &R, first: Vec<u8>, second: Vec<u8>) -> Result<Vec<u8>, AllocError>
+    /// where
+    ///     R: Wait + RandomSource + AllocGlobal,
+    ///     ensures { IfOk result (λ v. v.items ≡ first.items ++ second.items) }
+    /// {
+    ///     let both = stream::iter_vec(first).chain(stream::iter_vec(second));
+    ///     future::block_on(rt, both.collect::<Vec<u8>>(rt.alloc()))?.map_err(|_| AllocError)
+    /// }
+    ///
+    /// let joined = joined(&rt, vec![in rt.alloc(); 1, 2]?, vec![in rt.alloc(); 7, 8]?)?;
+    /// assert_eq!(rt; joined.as_slice(), [1, 2, 7, 8].as_slice());
     /// ```
     #[tactic(auto, using(lite_views::proofs::Adapting::joined_lists))]
     final fn chain<U>(self, other: U) -> Chain<Self, U>
@@ -590,9 +738,17 @@ pub trait StreamExt: Stream {
     /// ```
     /// use futures_lite::{StreamExt, future, stream};
     ///
-    /// let pairs = stream::iter(1u8..=9).zip(stream::iter_array(['a', 'b']));
-    /// let got = future::block_on(&rt, pairs.collect::<Vec<_>>(rt.alloc()))??;
-    /// assert_eq!(rt; got.as_slice(), [(1, 'a'), (2, 'b')].as_slice());
+    /// fn pairs<R>(rt: &R, first: Vec<u32>, second: Vec<u8>) -> Result<Vec<(u32, u8)>, AllocError>
+    /// where
+    ///     R: Wait + RandomSource + AllocGlobal,
+    ///     ensures { IfOk result (λ v. v.items ≡ zip first.items second.items) }
+    /// {
+    ///     let pairs = stream::iter_vec(first).zip(stream::iter_vec(second));
+    ///     future::block_on(rt, pairs.collect::<Vec<(u32, u8)>>(rt.alloc()))?.map_err(|_| AllocError)
+    /// }
+    ///
+    /// let pairs = pairs(&rt, vec![in rt.alloc(); 1, 2, 3]?, vec![in rt.alloc(); 4, 5]?)?;
+    /// assert_eq!(rt; pairs.as_slice(), [(1, 4), (2, 5)].as_slice());
     /// ```
     #[tactic(auto, using(lite_views::proofs::Adapting::paired_lists))]
     final fn zip<U>(self, other: U) -> Zip<Self, U>
@@ -742,18 +898,33 @@ pub trait StreamExt: Stream {
     /// ```
     /// use futures_lite::{StreamExt, future, stream};
     ///
+    /// fn unchanged<R>(rt: &R) -> Result<Vec<u8>, AllocError>
+    /// where
+    ///     R: Wait + RandomSource + AllocGlobal,
+    ///     ensures { IfOk result (λ v. v.items ≡ 1 ∷ 2 ∷ 3 ∷ []) }
+    /// {
+    ///     let paced = stream::iter_array([1, 2, 3]).with_budget(2);
+    ///     future::block_on(rt, paced.collect::<Vec<u8>>(rt.alloc()))?.map_err(|_| AllocError)
+    /// }
+    ///
+    /// assert_eq!(rt; unchanged(&rt)?.as_slice(), [1, 2, 3].as_slice());
+    /// ```
+    ///
+    /// ```
+    /// use futures_lite::{StreamExt, future, stream};
+    ///
     /// let mut paced = stream::iter(1u8..=3).with_budget(2);
     /// for expected in [Some(Some(1)), Some(Some(2)), None, Some(Some(3))] {
     ///     assert_eq!(rt; future::block_on(&rt, future::poll_once(paced.next()))?, expected);
     /// }
     /// ```
-    #[tactic(auto, using(lite_views::proofs::Adapting::paced_lists))]
+    #[tactic(auto, using(lite_views::proofs::Views::seen, lite_views::proofs::Adapting::paced_lists))]
     final fn with_budget(self, items: usize) -> Budgeted<Self>
     where
         Self: Sized,
         requires { 0 < items }
         ensures parts { result ≡ record { stream = self; budget = items; left = items } }
-        ensures lists { (xs : List Self.Item) → Lists Self.run self xs → ListsAs (Budgets Self.run) result xs }
+        ensures lists { OfItems Self.run self (λ xs. ListsAs (Budgets Self.run) result xs) }
     {
         lite_merge::make::with_budget(self, items)
     }
@@ -765,6 +936,21 @@ pub trait StreamExt: Stream {
     /// polling this stream. The result is `OkCounted` if this stream is `Counted`. Size hint: `(0, None)`.
     ///
     /// # Examples
+    ///
+    /// ```
+    /// use futures_lite::{StreamExt, future, stream};
+    ///
+    /// fn copy_of<R>(rt: &R, number: &u32) -> Result<Option<Result<u32, AllocError>>, AllocError>
+    /// where
+    ///     R: Wait + RandomSource + AllocGlobal,
+    ///     ensures { IfOk result (λ v. v ≡ slice_get (map (λ x. Ok x.now) (number.entry ∷ [])) 0) }
+    /// {
+    ///     let mut clones = stream::once(number).cloned();
+    ///     future::block_on(rt, clones.next())
+    /// }
+    ///
+    /// assert_eq!(rt; copy_of(&rt, &7)?, Some(Ok(7)));
+    /// ```
     ///
     /// ```
     /// use futures_lite::{StreamExt, future, stream};
@@ -796,18 +982,25 @@ pub trait StreamExt: Stream {
     /// ```
     /// use futures_lite::{StreamExt, future, stream};
     ///
-    /// let numbers = [1u8, 2];
-    /// let copies = stream::iter(numbers.iter()).copied().collect::<Vec<_>>(rt.alloc());
-    /// assert_eq!(rt; future::block_on(&rt, copies)??.as_slice(), numbers.as_slice());
+    /// fn first<R>(rt: &R) -> Result<Option<u8>, AllocError>
+    /// where
+    ///     R: Wait + RandomSource + AllocGlobal,
+    ///     ensures { IfOk result (λ v. v ≡ Some 1) }
+    /// {
+    ///     let numbers = [1u8, 2];
+    ///     let mut copies = stream::iter_array([&numbers[0], &numbers[1]]).copied();
+    ///     future::block_on(rt, copies.next())
+    /// }
+    ///
+    /// assert_eq!(rt; first(&rt)?, Some(1));
     /// ```
-    #[tactic(auto, using(lite_views::proofs::Adapting::copied_lists))]
+    #[tactic(auto, using(lite_views::proofs::Views::seen, lite_views::proofs::Adapting::copied_lists))]
     final fn copied<'a, T: 'a>(self) -> Copied<Self>
     where
         Self: Stream<Item = &'a T> + Sized,
         T: Copy,
         ensures parts { result ≡ record { stream = self } }
-        ensures lists { (xs : List (Bor T)) → Lists Self.run self xs
-            → ListsAs ⟦<Copied<Self> as Stream>⟧.run result (map (λ x. x.now) xs) }
+        ensures lists { OfItems Self.run self (λ xs. ListsAs ⟦<Copied<Self> as Stream>⟧.run result (map (λ x. x.now) xs)) }
     {
         make::copied(self)
     }
@@ -823,12 +1016,19 @@ pub trait StreamExt: Stream {
     /// ```
     /// use futures_lite::{StreamExt, future, stream};
     ///
-    /// let sums = stream::iter(1u32..=9).scan(0u32, |sum: &mut u32, x: u32| {
-    ///     *sum += x;
-    ///     if *sum < 10 { Some(*sum) } else { None }
-    /// });
-    /// let got = future::block_on(&rt, sums.collect::<Vec<_>>(rt.alloc()))??;
-    /// assert_eq!(rt; got.as_slice(), [1, 3, 6].as_slice());
+    /// fn sums<R>(rt: &R, numbers: Vec<u32>) -> Result<Vec<u32>, AllocError>
+    /// where
+    ///     R: Wait + RandomSource + AllocGlobal,
+    ///     ensures { IfOk result (λ v. v.items ≡ scan (λ s x. ((s + x) % 2 ^ 32, Some ((s + x) % 2 ^ 32))) 0 numbers.items) }
+    /// {
+    ///     let sums = stream::iter_vec(numbers).scan(0u32, |sum: &mut u32, x: u32| {
+    ///         *sum = sum.wrapping_add(x);
+    ///         Some(*sum)
+    ///     });
+    ///     future::block_on(rt, sums.collect::<Vec<u32>>(rt.alloc()))?.map_err(|_| AllocError)
+    /// }
+    ///
+    /// assert_eq!(rt; sums(&rt, vec![in rt.alloc(); 1, 2, 3]?)?.as_slice(), [1, 3, 6].as_slice());
     /// ```
     final fn scan<St, B, F>(self, initial_state: St, f: F) -> Scan<Self, St, F>
     where
@@ -850,6 +1050,21 @@ pub trait StreamExt: Stream {
     /// # Examples
     ///
     /// ```
+    /// use futures_lite::{StreamExt, future, stream};
+    ///
+    /// fn first<R>(rt: &R) -> Result<Option<u8>, AllocError>
+    /// where
+    ///     R: Wait + RandomSource + AllocGlobal,
+    ///     ensures { IfOk result (λ v. v ≡ Some 1) }
+    /// {
+    ///     let mut fused = stream::once(1u8).fuse();
+    ///     future::block_on(rt, fused.next())
+    /// }
+    ///
+    /// assert_eq!(rt; first(&rt)?, Some(1));
+    /// ```
+    ///
+    /// ```
     /// use futures_lite::{Poll, StreamExt, future, stream};
     ///
     /// let results = vec![in rt.alloc(); Poll::Ready(Some(1u8)), Poll::Ready(None), Poll::Ready(Some(2))]?;
@@ -858,12 +1073,12 @@ pub trait StreamExt: Stream {
     /// assert_eq!(rt; future::block_on(&rt, fused.next())?, None);
     /// assert_eq!(rt; future::block_on(&rt, fused.next())?, None);
     /// ```
-    #[tactic(auto, using(lite_views::proofs::Adapting::fused_lists))]
+    #[tactic(auto, using(lite_views::proofs::Views::seen, lite_views::proofs::Adapting::fused_lists))]
     final fn fuse(self) -> Fuse<Self>
     where
         Self: Sized,
         ensures parts { result ≡ record { stream = self; done = false } }
-        ensures lists { (xs : List Self.Item) → Lists Self.run self xs → ListsAs (Fuses Self.run) result xs }
+        ensures lists { OfItems Self.run self (λ xs. ListsAs (Fuses Self.run) result xs) }
     {
         make::fuse(self)
     }
@@ -878,16 +1093,24 @@ pub trait StreamExt: Stream {
     /// ```
     /// use futures_lite::{StreamExt, future, stream};
     ///
-    /// let numbered = stream::iter_array(['a', 'b']).enumerate().collect::<Vec<_>>(rt.alloc());
-    /// assert_eq!(rt; future::block_on(&rt, numbered)??.as_slice(), [(0, 'a'), (1, 'b')].as_slice());
+    /// fn numbered<R>(rt: &R, first: char, second: char) -> Result<Vec<(usize, char)>, AllocError>
+    /// where
+    ///     R: Wait + RandomSource + AllocGlobal,
+    ///     ensures { IfOk result (λ v. v.items ≡ (0, first) ∷ (1, second) ∷ []) }
+    /// {
+    ///     let numbered = stream::iter_array([first, second]).enumerate();
+    ///     future::block_on(rt, numbered.collect::<Vec<(usize, char)>>(rt.alloc()))?.map_err(|_| AllocError)
+    /// }
+    ///
+    /// let numbered = numbered(&rt, 'a', 'b')?;
+    /// assert_eq!(rt; numbered.as_slice(), [(0, 'a'), (1, 'b')].as_slice());
     /// ```
-    #[tactic(auto, using(lite_views::proofs::Adapting::enumerated_lists))]
+    #[tactic(auto, using(lite_views::proofs::Views::seen, lite_views::proofs::Adapting::enumerated_lists))]
     final fn enumerate(self) -> Enumerate<Self>
     where
         Self: Sized,
         ensures parts { result ≡ record { stream = self; i = 0 } }
-        ensures lists { (xs : List Self.Item) → Lists Self.run self xs → length xs < 2 ^ 64
-            → ListsAs ⟦<Enumerate<Self> as Stream>⟧.run result (enumerate_from 0 xs) }
+        ensures lists { OfItems Self.run self (λ xs. length xs < 2 ^ 64 → ListsAs ⟦<Enumerate<Self> as Stream>⟧.run result (enumerate_from 0 xs)) }
     {
         make::enumerate(self)
     }
@@ -897,6 +1120,21 @@ pub trait StreamExt: Stream {
     /// Size hint: `(0, None)`.
     ///
     /// # Examples
+    ///
+    /// ```
+    /// use futures_lite::{StreamExt, future, stream};
+    ///
+    /// fn unchanged<R>(rt: &R) -> Result<Vec<u8>, AllocError>
+    /// where
+    ///     R: Wait + RandomSource + AllocGlobal,
+    ///     ensures { IfOk result (λ v. v.items ≡ 5 ∷ 6 ∷ []) }
+    /// {
+    ///     let shown = stream::iter_array([5, 6]).inspect(|_x: &u8| ());
+    ///     future::block_on(rt, shown.collect::<Vec<u8>>(rt.alloc()))?.map_err(|_| AllocError)
+    /// }
+    ///
+    /// assert_eq!(rt; unchanged(&rt)?.as_slice(), [5, 6].as_slice());
+    /// ```
     ///
     /// ```
     /// use futures_lite::{StreamExt, future, stream};
@@ -912,7 +1150,7 @@ pub trait StreamExt: Stream {
         Self: Sized,
         F: FnMut(&Self::Item),
         ensures parts { result ≡ record { stream = self; f = f } }
-        ensures lists { (xs : _) → Lists Self.run self xs → ListsAs (Inspects Self.run (CalledAt F.FnMut)) result xs }
+        ensures lists { OfItems Self.run self (λ xs. ListsAs (Inspects Self.run (CalledAt F.FnMut)) result xs) }
     {
         make::inspect(self, f)
     }
@@ -927,18 +1165,28 @@ pub trait StreamExt: Stream {
     /// ```
     /// use futures_lite::{StreamExt, future, stream};
     ///
+    /// fn first<R>(rt: &R) -> Result<Option<u8>, AllocError>
+    /// where
+    ///     R: Wait + RandomSource + AllocGlobal,
+    ///     ensures { IfOk result (λ v. v ≡ Some 1) }
+    /// {
+    ///     let mut numbers = stream::iter_array([1u8, 2]);
+    ///     future::block_on(rt, numbers.next())
+    /// }
+    ///
+    /// assert_eq!(rt; first(&rt)?, Some(1));
+    ///
     /// let mut numbers = stream::iter(1u8..3);
     /// assert_eq!(rt; future::block_on(&rt, numbers.next())?, Some(1));
     /// assert_eq!(rt; future::block_on(&rt, numbers.next())?, Some(2));
     /// assert_eq!(rt; future::block_on(&rt, numbers.next())?, None);
     /// ```
-    #[tactic(auto, using(lite_views::proofs::Consuming::next_value))]
+    #[tactic(auto, using(lite_views::proofs::Views::seen, lite_views::proofs::Consuming::next_value))]
     final fn next<'a>(&'a mut self) -> NextFuture<'a, Self>
     where
         Self: Sized,
         ensures parts { result ≡ record { stream = self.entry; folder = record {} } }
-        ensures value { (xs : List Self.Item) → Lists Self.run self.old xs
-            → ValueIs ⟦<NextFuture<'a, Self> as Future>⟧.run result (slice_get xs 0) }
+        ensures value { OfItems Self.run self.old (λ xs. ValueIs ⟦<NextFuture<'a, Self> as Future>⟧.run result (slice_get xs 0)) }
     {
         lite_consume::make::next(self)
     }
@@ -953,18 +1201,28 @@ pub trait StreamExt: Stream {
     /// ```
     /// use futures_lite::{StreamExt, future, stream};
     ///
+    /// fn first<R>(rt: &R) -> Result<Result<Option<u8>, u8>, AllocError>
+    /// where
+    ///     R: Wait + RandomSource + AllocGlobal,
+    ///     ensures { IfOk result (λ v. v ≡ Ok (Some 1)) }
+    /// {
+    ///     let mut results = stream::iter_array([Ok(1u8), Err(2u8)]);
+    ///     future::block_on(rt, results.try_next())
+    /// }
+    ///
+    /// assert_eq!(rt; first(&rt)?, Ok(Some(1)));
+    ///
     /// let mut results = stream::iter_array([Ok(1u8), Err("error")]);
     /// assert_eq!(rt; future::block_on(&rt, results.try_next())?, Ok(Some(1)));
     /// assert_eq!(rt; future::block_on(&rt, results.try_next())?, Err("error"));
     /// assert_eq!(rt; future::block_on(&rt, results.try_next())?, Ok(None));
     /// ```
-    #[tactic(auto, using(lite_views::proofs::Consuming::try_next_value))]
+    #[tactic(auto, using(lite_views::proofs::Views::seen, lite_views::proofs::Consuming::try_next_value))]
     final fn try_next<'a, T, E>(&'a mut self) -> TryNextFuture<'a, Self>
     where
         Self: Stream<Item = Result<T, E>> + Sized,
         ensures parts { result ≡ record { stream = self.entry; folder = record {} } }
-        ensures value { (xs : List (Result T E)) → Lists Self.run self.old xs
-            → ValueIs ⟦<TryNextFuture<'a, Self> as Future>⟧.run result (option_transpose (slice_get xs 0)) }
+        ensures value { OfItems Self.run self.old (λ xs. ValueIs ⟦<TryNextFuture<'a, Self> as Future>⟧.run result (option_transpose (slice_get xs 0))) }
     {
         lite_consume::make::try_next(self)
     }
@@ -978,16 +1236,23 @@ pub trait StreamExt: Stream {
     /// ```
     /// use futures_lite::{StreamExt, future, stream};
     ///
-    /// let evens = stream::iter(1u8..=7).filter(|x: &u8| *x % 2 == 0);
-    /// assert_eq!(rt; future::block_on(&rt, evens.count())?, 3);
+    /// fn evens<R>(rt: &R, numbers: Vec<u32>) -> Result<usize, AllocError>
+    /// where
+    ///     R: Wait + RandomSource + AllocGlobal,
+    ///     ensures { IfOk result (λ v. v ≡ length (filter (λ x. x % 2 == 0) numbers.items)) }
+    /// {
+    ///     let evens = stream::iter_vec(numbers).filter(|x: &u32| *x % 2 == 0);
+    ///     future::block_on(rt, evens.count())
+    /// }
+    ///
+    /// assert_eq!(rt; evens(&rt, vec![in rt.alloc(); 1, 2, 3, 4]?)?, 2);
     /// ```
-    #[tactic(auto, using(lite_views::proofs::Consuming::counted_value))]
+    #[tactic(auto, using(lite_views::proofs::Views::seen, lite_views::proofs::Consuming::counted_value))]
     final fn count(self) -> CountFuture<Self>
     where
         Self: Counted + Sized,
         ensures parts { result ≡ record { stream = self; folder = record { count = 0 } } }
-        ensures value { (xs : List Self.Item) → Lists Self.run self xs → length xs < 2 ^ 64
-            → ValueIs (CountRuns Self.run) result (length xs) }
+        ensures value { OfItems Self.run self (λ xs. length xs < 2 ^ 64 → ValueIs (CountRuns Self.run) result (length xs)) }
     {
         lite_consume::make::count(self)
     }
@@ -1003,8 +1268,16 @@ pub trait StreamExt: Stream {
     /// ```
     /// use futures_lite::{StreamExt, future, stream};
     ///
-    /// let number = stream::iter(1u32..=3).fold(0u32, |number: u32, digit: u32| number * 10 + digit);
-    /// assert_eq!(rt; future::block_on(&rt, number)?, 123);
+    /// fn sum<R>(rt: &R, numbers: Vec<u32>) -> Result<u32, AllocError>
+    /// where
+    ///     R: Wait + RandomSource + AllocGlobal,
+    ///     ensures { IfOk result (λ v. v ≡ fold (λ a x. (a + x) % 2 ^ 32) 0 numbers.items) }
+    /// {
+    ///     let sum = stream::iter_vec(numbers).fold(0u32, |a: u32, x: u32| a.wrapping_add(x));
+    ///     future::block_on(rt, sum)
+    /// }
+    ///
+    /// assert_eq!(rt; sum(&rt, vec![in rt.alloc(); 1, 2, 3]?)?, 6);
     /// ```
     final fn fold<T, F>(self, init: T, f: F) -> FoldFuture<Self, F, T>
     where
@@ -1029,7 +1302,20 @@ pub trait StreamExt: Stream {
     /// ```
     /// use futures_lite::{StreamExt, future, stream};
     ///
-    /// let mut results = stream::iter_array([Ok(1u32), Ok(2), Err("no number"), Ok(4)]);
+    /// fn sum<R>(rt: &R, results: Vec<Result<u32, u32>>) -> Result<Result<u32, u32>, AllocError>
+    /// where
+    ///     R: Wait + RandomSource + AllocGlobal,
+    ///     ensures { IfOk result (λ v. v ≡ try_fold (λ a x. Ok ((a + x) % 2 ^ 32)) 0 results.items) }
+    /// {
+    ///     let mut results = stream::iter_vec(results);
+    ///     let sum = results.try_fold(0u32, |a: u32, x: u32| Ok(a.wrapping_add(x)));
+    ///     future::block_on(rt, sum)
+    /// }
+    ///
+    /// assert_eq!(rt; sum(&rt, vec![in rt.alloc(); Ok(1), Ok(2)]?)?, Ok(3));
+    /// assert_eq!(rt; sum(&rt, vec![in rt.alloc(); Ok(1), Err(7), Ok(2)]?)?, Err(7));
+    ///
+    /// let mut results = stream::iter_array([Ok(1u32), Err("no number"), Ok(4)]);
     /// let sum = results.try_fold(0u32, |sum: u32, x: u32| Ok(sum + x));
     /// assert_eq!(rt; future::block_on(&rt, sum)?, Err("no number"));
     /// // The stream is left after the error.
@@ -1055,17 +1341,28 @@ pub trait StreamExt: Stream {
     /// ```
     /// use futures_lite::{StreamExt, future, stream};
     ///
+    /// fn third<R>(rt: &R) -> Result<Option<u8>, AllocError>
+    /// where
+    ///     R: Wait + RandomSource + AllocGlobal,
+    ///     ensures { IfOk result (λ v. v ≡ Some 2) }
+    /// {
+    ///     let mut numbers = stream::iter_array([0u8, 1, 2, 3]);
+    ///     future::block_on(rt, numbers.nth(2))
+    /// }
+    ///
+    /// assert_eq!(rt; third(&rt)?, Some(2));
+    ///
     /// let mut numbers = stream::iter(0u8..4);
     /// assert_eq!(rt; future::block_on(&rt, numbers.nth(2))?, Some(2));
     /// assert_eq!(rt; future::block_on(&rt, numbers.nth(0))?, Some(3));
     /// assert_eq!(rt; future::block_on(&rt, numbers.nth(0))?, None);
     /// ```
-    #[tactic(auto, using(lite_views::proofs::Consuming::nth_value))]
+    #[tactic(auto, using(lite_views::proofs::Views::seen, lite_views::proofs::Consuming::nth_value))]
     final fn nth(&mut self, n: usize) -> NthFuture<'_, Self>
     where
         Self: Sized,
         ensures parts { result ≡ record { stream = self.entry; folder = record { n = n } } }
-        ensures value { (xs : _) → Lists Self.run self.old xs → ValueIs (NthRuns Self.run) result (slice_get xs n) }
+        ensures value { OfItems Self.run self.old (λ xs. ValueIs (NthRuns Self.run) result (slice_get xs n)) }
     {
         lite_consume::make::nth(self, n)
     }
@@ -1079,15 +1376,23 @@ pub trait StreamExt: Stream {
     /// ```
     /// use futures_lite::{StreamExt, future, stream};
     ///
-    /// assert_eq!(rt; future::block_on(&rt, stream::iter(1u8..=4).last())?, Some(4));
+    /// fn last<R>(rt: &R) -> Result<Option<u8>, AllocError>
+    /// where
+    ///     R: Wait + RandomSource + AllocGlobal,
+    ///     ensures { IfOk result (λ v. v ≡ Some 4) }
+    /// {
+    ///     future::block_on(rt, stream::iter_array([1u8, 2, 3, 4]).last())
+    /// }
+    ///
+    /// assert_eq!(rt; last(&rt)?, Some(4));
     /// assert_eq!(rt; future::block_on(&rt, stream::empty::<u8>().last())?, None);
     /// ```
-    #[tactic(auto, using(lite_views::proofs::Consuming::last_value))]
+    #[tactic(auto, using(lite_views::proofs::Views::seen, lite_views::proofs::Consuming::last_value))]
     final fn last(self) -> LastFuture<Self>
     where
         Self: Counted + Sized,
         ensures parts { result ≡ record { stream = self; folder = record { last = None } } }
-        ensures value { (xs : _) → Lists Self.run self xs → ValueIs (LastRuns Self.run) result (last_or None xs) }
+        ensures value { OfItems Self.run self (λ xs. ValueIs (LastRuns Self.run) result (last_or None xs)) }
     {
         lite_consume::make::last(self)
     }
@@ -1102,9 +1407,19 @@ pub trait StreamExt: Stream {
     /// ```
     /// use futures_lite::{StreamExt, future, stream};
     ///
+    /// fn even<R>(rt: &R, numbers: Vec<u32>) -> Result<Option<u32>, AllocError>
+    /// where
+    ///     R: Wait + RandomSource + AllocGlobal,
+    ///     ensures { IfOk result (λ v. v ≡ find (λ x. x % 2 == 0) numbers.items) }
+    /// {
+    ///     let mut numbers = stream::iter_vec(numbers);
+    ///     future::block_on(rt, numbers.find(|x: &u32| *x % 2 == 0))
+    /// }
+    ///
+    /// assert_eq!(rt; even(&rt, vec![in rt.alloc(); 3, 8, 5]?)?, Some(8));
+    ///
     /// let mut numbers = stream::iter_array([3u8, 8, 5]);
-    /// let even = numbers.find(|x: &u8| *x % 2 == 0);
-    /// assert_eq!(rt; future::block_on(&rt, even)?, Some(8));
+    /// assert_eq!(rt; future::block_on(&rt, numbers.find(|x: &u8| *x % 2 == 0))?, Some(8));
     /// assert_eq!(rt; future::block_on(&rt, numbers.next())?, Some(5));
     /// ```
     final fn find<P>(&mut self, predicate: P) -> FindFuture<'_, Self, P>
@@ -1127,6 +1442,17 @@ pub trait StreamExt: Stream {
     ///
     /// ```
     /// use futures_lite::{StreamExt, future, stream};
+    ///
+    /// fn half<R>(rt: &R, numbers: Vec<u32>) -> Result<Option<u32>, AllocError>
+    /// where
+    ///     R: Wait + RandomSource + AllocGlobal,
+    ///     ensures { IfOk result (λ v. v ≡ slice_get (filter_map (λ x. if x % 2 == 0 then Some (x / 2) else None) numbers.items) 0) }
+    /// {
+    ///     let mut numbers = stream::iter_vec(numbers);
+    ///     future::block_on(rt, numbers.find_map(|x: u32| if x % 2 == 0 { Some(x / 2) } else { None }))
+    /// }
+    ///
+    /// assert_eq!(rt; half(&rt, vec![in rt.alloc(); 3, 8, 5]?)?, Some(4));
     ///
     /// let mut words = stream::iter_array(["lol", "NaN", "2", "5"]);
     /// let number = words.find_map(|word: &str| word.parse::<u32>().ok());
@@ -1152,6 +1478,17 @@ pub trait StreamExt: Stream {
     ///
     /// ```
     /// use futures_lite::{StreamExt, future, stream};
+    ///
+    /// fn place_of_seven<R>(rt: &R, numbers: Vec<u32>) -> Result<Option<usize>, AllocError>
+    /// where
+    ///     R: Wait + RandomSource + AllocGlobal,
+    ///     ensures { IfOk result (λ v. v ≡ position (λ x. x == 7) numbers.items) }
+    /// {
+    ///     let mut numbers = stream::iter_vec(numbers);
+    ///     future::block_on(rt, numbers.position(|x: u32| x == 7))
+    /// }
+    ///
+    /// assert_eq!(rt; place_of_seven(&rt, vec![in rt.alloc(); 5, 6, 7]?)?, Some(2));
     ///
     /// let mut numbers = stream::iter(5u8..9);
     /// assert_eq!(rt; future::block_on(&rt, numbers.position(|x: u8| x == 7))?, Some(2));
@@ -1179,6 +1516,21 @@ pub trait StreamExt: Stream {
     /// ```
     /// use futures_lite::{StreamExt, future, stream};
     ///
+    /// fn all_even<R>(rt: &R, numbers: Vec<u32>) -> Result<bool, AllocError>
+    /// where
+    ///     R: Wait + RandomSource + AllocGlobal,
+    ///     ensures { IfOk result (λ v. v ≡ list_all (λ x. x % 2 == 0) numbers.items) }
+    /// {
+    ///     let mut numbers = stream::iter_vec(numbers);
+    ///     future::block_on(rt, numbers.all(|x: u32| x % 2 == 0))
+    /// }
+    ///
+    /// assert_eq!(rt; all_even(&rt, vec![in rt.alloc(); 1, 2, 3]?)?, false);
+    /// ```
+    ///
+    /// ```
+    /// use futures_lite::{StreamExt, future, stream};
+    ///
     /// let mut numbers = stream::iter(1u8..=9);
     /// assert!(rt; !future::block_on(&rt, numbers.all(|x: u8| x < 3))?);
     /// // The stream is left after the 3, which decided.
@@ -1201,6 +1553,21 @@ pub trait StreamExt: Stream {
     /// The first item for which it returns true decides. The value is false if there is no item.
     ///
     /// # Examples
+    ///
+    /// ```
+    /// use futures_lite::{StreamExt, future, stream};
+    ///
+    /// fn any_even<R>(rt: &R, numbers: Vec<u32>) -> Result<bool, AllocError>
+    /// where
+    ///     R: Wait + RandomSource + AllocGlobal,
+    ///     ensures { IfOk result (λ v. v ≡ list_any (λ x. x % 2 == 0) numbers.items) }
+    /// {
+    ///     let mut numbers = stream::iter_vec(numbers);
+    ///     future::block_on(rt, numbers.any(|x: u32| x % 2 == 0))
+    /// }
+    ///
+    /// assert_eq!(rt; any_even(&rt, vec![in rt.alloc(); 1, 2, 3]?)?, true);
+    /// ```
     ///
     /// ```
     /// use futures_lite::{StreamExt, future, stream};
@@ -1253,6 +1620,22 @@ pub trait StreamExt: Stream {
     /// ```
     /// use futures_lite::{StreamExt, future, stream};
     ///
+    /// fn checked<R>(rt: &R, numbers: Vec<u32>) -> Result<Result<(), u32>, AllocError>
+    /// where
+    ///     R: Wait + RandomSource + AllocGlobal,
+    ///     ensures { IfOk result (λ v. v ≡ first_error {T = Unit {0}} (map (λ x. if nat_lt x 3 then Ok tt else Err x) numbers.items)) }
+    /// {
+    ///     let mut numbers = stream::iter_vec(numbers);
+    ///     let checked = numbers.try_for_each(|x: u32| if x < 3 { Ok(()) } else { Err(x) });
+    ///     future::block_on(rt, checked)
+    /// }
+    ///
+    /// assert_eq!(rt; checked(&rt, vec![in rt.alloc(); 1, 2, 3]?)?, Err(3));
+    /// ```
+    ///
+    /// ```
+    /// use futures_lite::{StreamExt, future, stream};
+    ///
     /// let mut numbers = stream::iter(1u8..=5);
     /// let checked = numbers.try_for_each(|x: u8| if x < 3 { Ok(()) } else { Err(x) });
     /// assert_eq!(rt; future::block_on(&rt, checked)?, Err(3));
@@ -1289,6 +1672,20 @@ pub trait StreamExt: Stream {
     /// ```
     /// use futures_lite::{StreamExt, future, stream};
     ///
+    /// fn collected<R>(rt: &R) -> Result<Vec<u8>, AllocError>
+    /// where
+    ///     R: Wait + RandomSource + AllocGlobal,
+    ///     ensures { IfOk result (λ v. v.items ≡ 1 ∷ 2 ∷ 3 ∷ []) }
+    /// {
+    ///     future::block_on(rt, stream::iter_array([1, 2, 3]).collect::<Vec<u8>>(rt.alloc()))?.map_err(|_| AllocError)
+    /// }
+    ///
+    /// assert_eq!(rt; collected(&rt)?.as_slice(), [1, 2, 3].as_slice());
+    /// ```
+    ///
+    /// ```
+    /// use futures_lite::{StreamExt, future, stream};
+    ///
     /// let letters = stream::iter_array(['a', 'b', 'c']);
     /// let text = future::block_on(&rt, letters.collect::<String>(rt.alloc()))??;
     /// assert_eq!(rt; text.as_str(), "abc");
@@ -1319,6 +1716,21 @@ pub trait StreamExt: Stream {
     ///   collected, and that value.
     ///
     /// # Examples
+    ///
+    /// ```
+    /// use futures_lite::{StreamExt, future, stream};
+    ///
+    /// fn collected<R>(rt: &R) -> Result<Vec<u8>, AllocError>
+    /// where
+    ///     R: Wait + RandomSource + AllocGlobal,
+    ///     ensures { IfOk result (λ v. v.items ≡ 1 ∷ 2 ∷ []) }
+    /// {
+    ///     let results = stream::iter_array([Ok::<u8, u8>(1), Ok(2)]);
+    ///     future::block_on(rt, results.try_collect::<u8, u8, Vec<u8>>(rt.alloc()))?.map_err(|_| AllocError)
+    /// }
+    ///
+    /// assert_eq!(rt; collected(&rt)?.as_slice(), [1, 2].as_slice());
+    /// ```
     ///
     /// ```
     /// use futures_lite::stream::TryCollectError;
@@ -1365,11 +1777,19 @@ pub trait StreamExt: Stream {
     /// ```
     /// use futures_lite::{StreamExt, future, stream};
     ///
-    /// let numbers = stream::iter(1u8..=5);
-    /// let parted = numbers.partition::<Vec<u8>, _>(rt.alloc(), |x: &u8| *x % 2 == 0);
-    /// let (evens, odds) = future::block_on(&rt, parted)??;
-    /// assert_eq!(rt; evens.as_slice(), [2, 4].as_slice());
-    /// assert_eq!(rt; odds.as_slice(), [1, 3, 5].as_slice());
+    /// fn parted<R>(rt: &R, numbers: Vec<u32>) -> Result<(Vec<u32>, Vec<u32>), AllocError>
+    /// where
+    ///     R: Wait + RandomSource + AllocGlobal,
+    ///     ensures evens { IfOk result (λ v. v.0.items ≡ filter (λ x. x % 2 == 0) numbers.items) }
+    ///     ensures odds { IfOk result (λ v. v.1.items ≡ filter (λ x. not (x % 2 == 0)) numbers.items) }
+    /// {
+    ///     let parted = stream::iter_vec(numbers).partition::<Vec<u32>, _>(rt.alloc(), |x: &u32| *x % 2 == 0);
+    ///     future::block_on(rt, parted)?.map_err(|_| AllocError)
+    /// }
+    ///
+    /// let (evens, odds) = parted(&rt, vec![in rt.alloc(); 1, 2, 3]?)?;
+    /// assert_eq!(rt; evens.as_slice(), [2].as_slice());
+    /// assert_eq!(rt; odds.as_slice(), [1, 3].as_slice());
     /// ```
     final fn partition<B, P>(self, alloc: B::Alloc, predicate: P) -> PartitionFuture<Self, P, B>
     where
@@ -1407,6 +1827,25 @@ pub trait StreamExt: Stream {
     ///   the first with its part of the item, and the second part.
     ///
     /// # Examples
+    ///
+    /// ```
+    /// use futures_lite::{StreamExt, future, stream};
+    ///
+    /// fn parted<R>(rt: &R) -> Result<(Vec<u8>, Vec<u8>), AllocError>
+    /// where
+    ///     R: Wait + RandomSource + AllocGlobal,
+    ///     ensures lefts { IfOk result (λ v. v.0.items ≡ 1 ∷ 2 ∷ []) }
+    ///     ensures rights { IfOk result (λ v. v.1.items ≡ 7 ∷ 8 ∷ []) }
+    /// {
+    ///     let pairs = stream::iter_array([(1u8, 7u8), (2, 8)]);
+    ///     let parting = pairs.unzip::<u8, u8, Vec<u8>, Vec<u8>>(rt.alloc());
+    ///     future::block_on(rt, parting)?.map_err(|_| AllocError)
+    /// }
+    ///
+    /// let (lefts, rights) = parted(&rt)?;
+    /// assert_eq!(rt; lefts.as_slice(), [1, 2].as_slice());
+    /// assert_eq!(rt; rights.as_slice(), [7, 8].as_slice());
+    /// ```
     ///
     /// ```
     /// use futures_lite::{StreamExt, future, stream};

@@ -45,6 +45,18 @@ impl<T> AssertAsync<T> {
     ///
     /// ```
     /// use futures_lite::io::AssertAsync;
+    ///
+    /// fn left(bytes: &[u8]) -> usize
+    ///     ensures { result ≡ length bytes.now }
+    /// {
+    ///     AssertAsync::new(bytes).get_ref().len()
+    /// }
+    ///
+    /// assert_eq!(rt; left(b"hello"), 5);
+    /// ```
+    ///
+    /// ```
+    /// use futures_lite::io::AssertAsync;
     /// use futures_lite::{AsyncReadExt, future};
     ///
     /// let mut reader = AssertAsync::new(b"hello".as_slice());
@@ -64,6 +76,19 @@ impl<T> AssertAsync<T> {
     ///
     /// ```
     /// use futures_lite::io::AssertAsync;
+    ///
+    /// fn left(bytes: &[u8]) -> usize
+    ///     ensures { result ≡ length bytes.now }
+    /// {
+    ///     let reader = AssertAsync::new(bytes);
+    ///     reader.get_ref().len()
+    /// }
+    ///
+    /// assert_eq!(rt; left(b"hello"), 5);
+    /// ```
+    ///
+    /// ```
+    /// use futures_lite::io::AssertAsync;
     /// use futures_lite::{AsyncReadExt, future};
     ///
     /// let mut reader = AssertAsync::new(b"hello".as_slice());
@@ -79,6 +104,20 @@ impl<T> AssertAsync<T> {
     /// Borrows the inner value mutably.
     ///
     /// # Examples
+    ///
+    /// ```
+    /// use futures_lite::io::AssertAsync;
+    ///
+    /// fn replaced(bytes: &[u8]) -> usize
+    ///     ensures { result ≡ 2 }
+    /// {
+    ///     let mut reader = AssertAsync::new(bytes);
+    ///     *reader.get_mut() = b"hi";
+    ///     reader.get_ref().len()
+    /// }
+    ///
+    /// assert_eq!(rt; replaced(b"hello"), 2);
+    /// ```
     ///
     /// ```
     /// use futures_lite::io::AssertAsync;
@@ -101,6 +140,19 @@ impl<T> AssertAsync<T> {
     /// Returns the inner value.
     ///
     /// # Examples
+    ///
+    /// ```
+    /// use futures_lite::io::AssertAsync;
+    ///
+    /// fn inner(bytes: Vec<u8>) -> Vec<u8>
+    ///     ensures { result ≡ bytes }
+    /// {
+    ///     AssertAsync::new(bytes).into_inner()
+    /// }
+    ///
+    /// let bytes = inner(Vec::from_slice(rt.alloc(), b"hello")?);
+    /// assert_eq!(rt; bytes.as_slice(), b"hello".as_slice());
+    /// ```
     ///
     /// ```
     /// use futures_lite::io::AssertAsync;

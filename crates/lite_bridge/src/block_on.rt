@@ -102,6 +102,21 @@ impl<R, T> BlockOn<R, T> {
     ///
     /// ```
     /// use futures_lite::io::BlockOn;
+    ///
+    /// fn left<R>(rt: &R, bytes: &[u8]) -> usize
+    /// where
+    ///     R: Wait + RandomSource + AllocGlobal,
+    ///     ensures { result ≡ length bytes.now }
+    /// {
+    ///     let reader = BlockOn::new(rt, bytes);
+    ///     reader.get_ref().len()
+    /// }
+    ///
+    /// assert_eq!(rt; left(&rt, b"hello"), 5);
+    /// ```
+    ///
+    /// ```
+    /// use futures_lite::io::BlockOn;
     /// use std::io::Read;
     ///
     /// let mut io = BlockOn::new(rt, b"hello".as_slice());
@@ -117,6 +132,22 @@ impl<R, T> BlockOn<R, T> {
     /// Borrows the inner value mutably.
     ///
     /// # Examples
+    ///
+    /// ```
+    /// use futures_lite::io::BlockOn;
+    ///
+    /// fn replaced<R>(rt: &R, bytes: &[u8]) -> usize
+    /// where
+    ///     R: Wait + RandomSource + AllocGlobal,
+    ///     ensures { result ≡ 2 }
+    /// {
+    ///     let mut reader = BlockOn::new(rt, bytes);
+    ///     *reader.get_mut() = b"hi";
+    ///     reader.get_ref().len()
+    /// }
+    ///
+    /// assert_eq!(rt; replaced(&rt, b"hello"), 2);
+    /// ```
     ///
     /// ```
     /// use futures_lite::io::{BlockOn, Cursor};
@@ -139,6 +170,21 @@ impl<R, T> BlockOn<R, T> {
     /// Returns the inner value, and drops `rt`, which must be `Drop`.
     ///
     /// # Examples
+    ///
+    /// ```
+    /// use futures_lite::io::BlockOn;
+    ///
+    /// fn inner<R>(rt: &R, bytes: Vec<u8>) -> Vec<u8>
+    /// where
+    ///     R: Wait + RandomSource + AllocGlobal,
+    ///     ensures { result ≡ bytes }
+    /// {
+    ///     BlockOn::new(rt, bytes).into_inner()
+    /// }
+    ///
+    /// let bytes = inner(&rt, Vec::from_slice(rt.alloc(), b"hello")?);
+    /// assert_eq!(rt; bytes.as_slice(), b"hello".as_slice());
+    /// ```
     ///
     /// ```
     /// use futures_lite::io::BlockOn;

@@ -68,6 +68,23 @@ impl<R: Drop> BufReader<R> {
     ///
     /// ```
     /// use futures_lite::io::BufReader;
+    ///
+    /// fn left<R>(rt: &R, bytes: &[u8]) -> Result<usize, AllocError>
+    /// where
+    ///     R: AllocGlobal,
+    ///     ensures { IfOk result (λ n. n ≡ length bytes.now) }
+    /// {
+    ///     let Ok(reader) = BufReader::new(rt.alloc(), bytes) else {
+    ///         return Err(AllocError);
+    ///     };
+    ///     Ok(reader.get_ref().len())
+    /// }
+    ///
+    /// assert_eq!(rt; left(&rt, b"hello")?, 5);
+    /// ```
+    ///
+    /// ```
+    /// use futures_lite::io::BufReader;
     /// use futures_lite::{AsyncReadExt, future};
     /// use std::alloc::AllocError;
     ///
@@ -92,6 +109,23 @@ impl<R: Drop> BufReader<R> {
     /// `inner`, and the buffer is always empty. `inner` must be `Drop`.
     ///
     /// # Examples
+    ///
+    /// ```
+    /// use futures_lite::io::BufReader;
+    ///
+    /// fn left<R>(rt: &R, bytes: &[u8]) -> Result<usize, AllocError>
+    /// where
+    ///     R: AllocGlobal,
+    ///     ensures { IfOk result (λ n. n ≡ length bytes.now) }
+    /// {
+    ///     let Ok(reader) = BufReader::with_capacity(rt.alloc(), 1024, bytes) else {
+    ///         return Err(AllocError);
+    ///     };
+    ///     Ok(reader.get_ref().len())
+    /// }
+    ///
+    /// assert_eq!(rt; left(&rt, b"hello")?, 5);
+    /// ```
     ///
     /// ```
     /// use futures_lite::io::BufReader;
@@ -129,6 +163,23 @@ impl<R: Drop> BufReader<R> {
     ///
     /// ```
     /// use futures_lite::io::BufReader;
+    ///
+    /// fn left<R>(rt: &R, bytes: &[u8]) -> Result<usize, AllocError>
+    /// where
+    ///     R: AllocGlobal,
+    ///     ensures { IfOk result (λ n. n ≡ length bytes.now) }
+    /// {
+    ///     let Ok(reader) = BufReader::new(rt.alloc(), bytes) else {
+    ///         return Err(AllocError);
+    ///     };
+    ///     Ok(reader.get_ref().len())
+    /// }
+    ///
+    /// assert_eq!(rt; left(&rt, b"hello")?, 5);
+    /// ```
+    ///
+    /// ```
+    /// use futures_lite::io::BufReader;
     /// use futures_lite::{AsyncReadExt, future};
     /// use std::alloc::AllocError;
     ///
@@ -146,6 +197,24 @@ impl<R: Drop> BufReader<R> {
     /// Borrows the inner reader mutably. What is read from it this way is not buffered. It must be `Drop`.
     ///
     /// # Examples
+    ///
+    /// ```
+    /// use futures_lite::io::BufReader;
+    ///
+    /// fn replaced<R>(rt: &R, bytes: &[u8]) -> Result<usize, AllocError>
+    /// where
+    ///     R: AllocGlobal,
+    ///     ensures { IfOk result (λ n. n ≡ 2) }
+    /// {
+    ///     let Ok(mut reader) = BufReader::new(rt.alloc(), bytes) else {
+    ///         return Err(AllocError);
+    ///     };
+    ///     *reader.get_mut() = b"hi";
+    ///     Ok(reader.get_ref().len())
+    /// }
+    ///
+    /// assert_eq!(rt; replaced(&rt, b"hello")?, 2);
+    /// ```
     ///
     /// ```
     /// use futures_lite::io::BufReader;
@@ -173,6 +242,24 @@ impl<R: Drop> BufReader<R> {
     /// # Examples
     ///
     /// ```
+    /// use futures_lite::io::{BufReader, Cursor};
+    ///
+    /// fn inner<R>(rt: &R, bytes: Vec<u8>) -> Result<Vec<u8>, AllocError>
+    /// where
+    ///     R: AllocGlobal,
+    ///     ensures { IfOk result (λ v. v ≡ bytes) }
+    /// {
+    ///     let Ok(reader) = BufReader::new(rt.alloc(), Cursor::new(bytes)) else {
+    ///         return Err(AllocError);
+    ///     };
+    ///     Ok(reader.into_inner().into_inner())
+    /// }
+    ///
+    /// let bytes = inner(&rt, Vec::from_slice(rt.alloc(), b"hello")?)?;
+    /// assert_eq!(rt; bytes.as_slice(), b"hello".as_slice());
+    /// ```
+    ///
+    /// ```
     /// use futures_lite::io::BufReader;
     /// use futures_lite::{AsyncReadExt, future};
     /// use std::alloc::AllocError;
@@ -195,6 +282,23 @@ impl<R> BufReader<R> {
     /// Returns a slice of the bytes that were read ahead and not yet consumed.
     ///
     /// # Examples
+    ///
+    /// ```
+    /// use futures_lite::io::BufReader;
+    ///
+    /// fn buffered<R>(rt: &R, bytes: &[u8]) -> Result<usize, AllocError>
+    /// where
+    ///     R: AllocGlobal,
+    ///     ensures { IfOk result (λ n. n ≡ 0) }
+    /// {
+    ///     let Ok(reader) = BufReader::new(rt.alloc(), bytes) else {
+    ///         return Err(AllocError);
+    ///     };
+    ///     Ok(reader.buffer().len())
+    /// }
+    ///
+    /// assert_eq!(rt; buffered(&rt, b"hello")?, 0);
+    /// ```
     ///
     /// ```
     /// use futures_lite::io::BufReader;

@@ -72,6 +72,23 @@ impl<W: Drop> BufWriter<W> {
     ///
     /// ```
     /// use futures_lite::io::BufWriter;
+    ///
+    /// fn kept<R>(rt: &R, inner: Vec<u8>) -> Result<usize, AllocError>
+    /// where
+    ///     R: AllocGlobal,
+    ///     ensures { IfOk result (λ n. n ≡ length inner.items) }
+    /// {
+    ///     let Ok(writer) = BufWriter::new(rt.alloc(), inner) else {
+    ///         return Err(AllocError);
+    ///     };
+    ///     Ok(writer.get_ref().len())
+    /// }
+    ///
+    /// assert_eq!(rt; kept(&rt, Vec::from_slice(rt.alloc(), b"hello")?)?, 5);
+    /// ```
+    ///
+    /// ```
+    /// use futures_lite::io::BufWriter;
     /// use futures_lite::{AsyncWriteExt, future};
     /// use std::alloc::AllocError;
     ///
@@ -95,6 +112,23 @@ impl<W: Drop> BufWriter<W> {
     /// `inner`, and the buffer is always empty. `inner` must be `Drop`.
     ///
     /// # Examples
+    ///
+    /// ```
+    /// use futures_lite::io::BufWriter;
+    ///
+    /// fn kept<R>(rt: &R, inner: Vec<u8>) -> Result<usize, AllocError>
+    /// where
+    ///     R: AllocGlobal,
+    ///     ensures { IfOk result (λ n. n ≡ length inner.items) }
+    /// {
+    ///     let Ok(writer) = BufWriter::with_capacity(rt.alloc(), 100, inner) else {
+    ///         return Err(AllocError);
+    ///     };
+    ///     Ok(writer.get_ref().len())
+    /// }
+    ///
+    /// assert_eq!(rt; kept(&rt, Vec::from_slice(rt.alloc(), b"hello")?)?, 5);
+    /// ```
     ///
     /// ```
     /// use futures_lite::io::BufWriter;
@@ -133,6 +167,23 @@ impl<W: Drop> BufWriter<W> {
     ///
     /// ```
     /// use futures_lite::io::BufWriter;
+    ///
+    /// fn kept<R>(rt: &R, inner: Vec<u8>) -> Result<usize, AllocError>
+    /// where
+    ///     R: AllocGlobal,
+    ///     ensures { IfOk result (λ n. n ≡ length inner.items) }
+    /// {
+    ///     let Ok(writer) = BufWriter::new(rt.alloc(), inner) else {
+    ///         return Err(AllocError);
+    ///     };
+    ///     Ok(writer.get_ref().len())
+    /// }
+    ///
+    /// assert_eq!(rt; kept(&rt, Vec::from_slice(rt.alloc(), b"hello")?)?, 5);
+    /// ```
+    ///
+    /// ```
+    /// use futures_lite::io::BufWriter;
     /// use futures_lite::{AsyncWriteExt, future};
     /// use std::alloc::AllocError;
     ///
@@ -151,6 +202,24 @@ impl<W: Drop> BufWriter<W> {
     /// It must be `Drop`.
     ///
     /// # Examples
+    ///
+    /// ```
+    /// use futures_lite::io::BufWriter;
+    ///
+    /// fn cleared<R>(rt: &R, inner: Vec<u8>) -> Result<usize, AllocError>
+    /// where
+    ///     R: AllocGlobal,
+    ///     ensures { IfOk result (λ n. n ≡ 0) }
+    /// {
+    ///     let Ok(mut writer) = BufWriter::new(rt.alloc(), inner) else {
+    ///         return Err(AllocError);
+    ///     };
+    ///     writer.get_mut().clear();
+    ///     Ok(writer.get_ref().len())
+    /// }
+    ///
+    /// assert_eq!(rt; cleared(&rt, Vec::from_slice(rt.alloc(), b"hello")?)?, 0);
+    /// ```
     ///
     /// ```
     /// use futures_lite::io::BufWriter;
@@ -178,6 +247,24 @@ impl<W: Drop> BufWriter<W> {
     ///
     /// ```
     /// use futures_lite::io::BufWriter;
+    ///
+    /// fn kept<R>(rt: &R, inner: Vec<u8>) -> Result<Vec<u8>, AllocError>
+    /// where
+    ///     R: AllocGlobal,
+    ///     ensures { IfOk result (λ v. v ≡ inner) }
+    /// {
+    ///     let Ok(writer) = BufWriter::new(rt.alloc(), inner) else {
+    ///         return Err(AllocError);
+    ///     };
+    ///     Ok(writer.into_inner())
+    /// }
+    ///
+    /// let kept = kept(&rt, Vec::from_slice(rt.alloc(), b"hello")?)?;
+    /// assert_eq!(rt; kept.as_slice(), b"hello".as_slice());
+    /// ```
+    ///
+    /// ```
+    /// use futures_lite::io::BufWriter;
     /// use futures_lite::{AsyncWriteExt, future};
     /// use std::alloc::AllocError;
     ///
@@ -201,6 +288,23 @@ impl<W> BufWriter<W> {
     /// inner writer has already taken.
     ///
     /// # Examples
+    ///
+    /// ```
+    /// use futures_lite::io::BufWriter;
+    ///
+    /// fn buffered<R>(rt: &R, inner: Vec<u8>) -> Result<usize, AllocError>
+    /// where
+    ///     R: AllocGlobal,
+    ///     ensures { IfOk result (λ n. n ≡ 0) }
+    /// {
+    ///     let Ok(writer) = BufWriter::new(rt.alloc(), inner) else {
+    ///         return Err(AllocError);
+    ///     };
+    ///     Ok(writer.buffer().len())
+    /// }
+    ///
+    /// assert_eq!(rt; buffered(&rt, Vec::new(rt.alloc()))?, 0);
+    /// ```
     ///
     /// ```
     /// use futures_lite::io::BufWriter;

@@ -52,6 +52,20 @@ impl<R1, R2> Chain<R1, R2> {
     /// ```
     /// use futures_lite::AsyncReadExt;
     ///
+    /// fn left(first: &[u8], second: &[u8]) -> (usize, usize)
+    ///     ensures { result ≡ (length first.now, length second.now) }
+    /// {
+    ///     let reader = AsyncReadExt::chain(first, second);
+    ///     let (first, second) = reader.get_ref();
+    ///     (first.len(), second.len())
+    /// }
+    ///
+    /// assert_eq!(rt; left(b"hello", b"world!"), (5, 6));
+    /// ```
+    ///
+    /// ```
+    /// use futures_lite::AsyncReadExt;
+    ///
     /// let (hello, world): (&[u8], &[u8]) = (b"hello", b"world");
     /// let reader = AsyncReadExt::chain(hello, world);
     /// let (first, second) = reader.get_ref();
@@ -138,6 +152,22 @@ impl<R1, R2> Chain<R1, R2> {
     /// Returns both readers.
     ///
     /// # Examples
+    ///
+    /// ```
+    /// use futures_lite::AsyncReadExt;
+    /// use futures_lite::io::Cursor;
+    ///
+    /// fn inner(first: Vec<u8>, second: Vec<u8>) -> (Vec<u8>, Vec<u8>)
+    ///     ensures { result ≡ (first, second) }
+    /// {
+    ///     let (first, second) = Cursor::new(first).chain(Cursor::new(second)).into_inner();
+    ///     (first.into_inner(), second.into_inner())
+    /// }
+    ///
+    /// let (first, second) = inner(Vec::from_slice(rt.alloc(), b"hello")?, Vec::new(rt.alloc()));
+    /// assert_eq!(rt; first.as_slice(), b"hello".as_slice());
+    /// assert!(rt; second.is_empty());
+    /// ```
     ///
     /// ```
     /// use futures_lite::{AsyncReadExt, future};

@@ -16,11 +16,20 @@ use crate::take::Take;
 /// # Examples
 ///
 /// ```
-/// use futures_lite::{AsyncReadExt, future, io};
+/// use futures_lite::{AsyncReadExt, future, io::empty};
+/// use std::io;
 ///
-/// let mut buf = Vec::new(rt.alloc());
-/// assert_eq!(rt; future::block_on(&rt, io::empty().read_to_end(&mut buf))??, 0);
-/// assert!(rt; buf.is_empty());
+/// fn nothing<R>(rt: &R, out: &mut Vec<u8>) -> Result<io::Result<usize>, AllocError>
+/// where
+///     R: Wait + RandomSource + AllocGlobal,
+///     ensures { IfOk result (λ r. IfOk r (λ n. out.new.items ≡ out.old.items)) }
+/// {
+///     future::wait_for(rt, &mut empty().read_to_end(out))
+/// }
+///
+/// let mut out = Vec::new(rt.alloc());
+/// assert_eq!(rt; nothing(&rt, &mut out)??, 0);
+/// assert!(rt; out.is_empty());
 /// ```
 pub fn empty() -> Empty
     ensures { result ≡ record {} }

@@ -33,6 +33,18 @@ impl<R> Take<R> {
     /// # Examples
     ///
     /// ```
+    /// use futures_lite::AsyncReadExt;
+    ///
+    /// fn limit(bytes: &[u8]) -> u64
+    ///     ensures { result ≡ 3 }
+    /// {
+    ///     AsyncReadExt::take(bytes, 3).limit()
+    /// }
+    ///
+    /// assert_eq!(rt; limit(b"hello"), 3);
+    /// ```
+    ///
+    /// ```
     /// use futures_lite::{AsyncReadExt, future};
     ///
     /// let mut reader = AsyncReadExt::take(b"hello".as_slice(), 4);
@@ -48,6 +60,21 @@ impl<R> Take<R> {
     /// Sets how many bytes may still be read.
     ///
     /// # Examples
+    ///
+    /// ```
+    /// use futures_lite::AsyncReadExt;
+    ///
+    /// fn limits(bytes: &[u8]) -> (u64, u64)
+    ///     ensures { result ≡ (10, 3) }
+    /// {
+    ///     let mut reader = AsyncReadExt::take(bytes, 10);
+    ///     let first = reader.limit();
+    ///     reader.set_limit(3);
+    ///     (first, reader.limit())
+    /// }
+    ///
+    /// assert_eq!(rt; limits(b"hello"), (10, 3));
+    /// ```
     ///
     /// ```
     /// use futures_lite::{AsyncReadExt, future};
@@ -69,6 +96,19 @@ impl<R> Take<R> {
     /// # Examples
     ///
     /// ```
+    /// use futures_lite::AsyncReadExt;
+    ///
+    /// fn left(bytes: &[u8]) -> usize
+    ///     ensures { result ≡ length bytes.now }
+    /// {
+    ///     let reader = AsyncReadExt::take(bytes, 3);
+    ///     reader.get_ref().len()
+    /// }
+    ///
+    /// assert_eq!(rt; left(b"hello"), 5);
+    /// ```
+    ///
+    /// ```
     /// use futures_lite::{AsyncReadExt, future};
     ///
     /// let mut reader = AsyncReadExt::take(b"hello".as_slice(), 4);
@@ -84,6 +124,20 @@ impl<R> Take<R> {
     /// Borrows the inner reader mutably. What is read from it this way does not count towards the limit.
     ///
     /// # Examples
+    ///
+    /// ```
+    /// use futures_lite::AsyncReadExt;
+    ///
+    /// fn replaced(bytes: &[u8]) -> usize
+    ///     ensures { result ≡ 2 }
+    /// {
+    ///     let mut reader = AsyncReadExt::take(bytes, 3);
+    ///     *reader.get_mut() = b"hi";
+    ///     reader.get_ref().len()
+    /// }
+    ///
+    /// assert_eq!(rt; replaced(b"hello"), 2);
+    /// ```
     ///
     /// ```
     /// use futures_lite::{AsyncReadExt, future};
@@ -104,6 +158,20 @@ impl<R> Take<R> {
     /// Returns the inner reader.
     ///
     /// # Examples
+    ///
+    /// ```
+    /// use futures_lite::AsyncReadExt;
+    /// use futures_lite::io::Cursor;
+    ///
+    /// fn inner(bytes: Vec<u8>) -> Vec<u8>
+    ///     ensures { result ≡ bytes }
+    /// {
+    ///     Cursor::new(bytes).take(3).into_inner().into_inner()
+    /// }
+    ///
+    /// let bytes = inner(Vec::from_slice(rt.alloc(), b"hello")?);
+    /// assert_eq!(rt; bytes.as_slice(), b"hello".as_slice());
+    /// ```
     ///
     /// ```
     /// use futures_lite::{AsyncReadExt, future};

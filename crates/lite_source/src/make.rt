@@ -82,8 +82,16 @@ pub fn once_future<F: Future>(future: F) -> OnceFuture<F>
 /// ```
 /// use futures_lite::{StreamExt, future, stream};
 ///
-/// let mut never = stream::pending::<u8>();
-/// assert_eq!(rt; future::block_on(&rt, future::poll_once(never.next()))?, None);
+/// fn never<R>(rt: &R) -> Result<Option<Option<u8>>, AllocError>
+/// where
+///     R: Wait + RandomSource + AllocGlobal,
+///     ensures { IfOk result (λ v. v ≡ None) }
+/// {
+///     let mut never = stream::pending::<u8>();
+///     future::block_on(rt, future::poll_once(never.next()))
+/// }
+///
+/// assert_eq!(rt; never(&rt)?, None);
 /// ```
 pub fn pending<T>() -> Pending<T>
     ensures { result ≡ record { item = record {} } }

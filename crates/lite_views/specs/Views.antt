@@ -51,6 +51,12 @@ ValueIs run f v = (v ≡ v) × ValueHolds AllocError run f (λ w. w ≡ v)
 abbrev pub ListsAs : {S A : Type 0} → Runs (Answer A) S → S → List A → Type 0
 ListsAs {S} {A} run s xs = (xs ≡ xs) × Seen s xs × Lists run s xs
 
+-- `P` holds of the list of the items of `s`, if they are a list. It is said twice, so that the prover finds it by the
+-- list and by the stream.
+abbrev pub OfItems : {S A : Type 0} → Runs (Answer A) S → S → (List A → Type 0) → Type 0
+OfItems {A = A} run s P =
+    ((xs : List A) → Lists run s xs → P xs) × ((xs : List A) → Lists run s xs → Seen s xs × P xs)
+
 -- Every run from `s` yields a prefix of `xs`, also with items that come after an end of the stream.
 unfoldable pub Fronts : {S A : Type 0} → Runs (Answer A) S → S → List A → Type 0
 Fronts {S} {A} run s xs = (l : List (Answer A)) (t : S) → run s l t → Front (items_in l) xs

@@ -59,6 +59,16 @@ where
 /// ```
 /// use futures_lite::future;
 ///
+/// fn first_poll<R>(rt: &R) -> Result<Option<()>, AllocError>
+/// where
+///     R: Wait + RandomSource + AllocGlobal,
+///     ensures { IfOk result (λ v. v ≡ None) }
+/// {
+///     future::block_on(rt, future::poll_once(future::yield_now()))
+/// }
+///
+/// assert_eq!(rt; first_poll(&rt)?, None);
+///
 /// let mut yielding = future::yield_now();
 /// assert_eq!(rt; future::block_on(&rt, future::poll_once(&mut yielding))?, None);
 /// assert_eq!(rt; future::block_on(&rt, future::poll_once(&mut yielding))?, Some(()));
@@ -79,8 +89,24 @@ pub fn yield_now() -> YieldNow
 /// ```
 /// use futures_lite::future;
 ///
-/// assert_eq!(rt; future::block_on(&rt, future::poll_once(future::ready(7u8)))?, Some(7));
-/// assert_eq!(rt; future::block_on(&rt, future::poll_once(future::pending::<u8>()))?, None);
+/// fn at_once<R>(rt: &R) -> Result<Option<u8>, AllocError>
+/// where
+///     R: Wait + RandomSource + AllocGlobal,
+///     ensures { IfOk result (λ v. v ≡ Some 42) }
+/// {
+///     future::block_on(rt, future::poll_once(future::ready(42)))
+/// }
+///
+/// fn not_yet<R>(rt: &R) -> Result<Option<u8>, AllocError>
+/// where
+///     R: Wait + RandomSource + AllocGlobal,
+///     ensures { IfOk result (λ v. v ≡ None) }
+/// {
+///     future::block_on(rt, future::poll_once(future::pending()))
+/// }
+///
+/// assert_eq!(rt; at_once(&rt)?, Some(42));
+/// assert_eq!(rt; not_yet(&rt)?, None);
 /// ```
 pub fn poll_once<F: Future>(f: F) -> PollOnce<F>
     ensures { result ≡ record { f = f } }
@@ -98,9 +124,19 @@ pub fn poll_once<F: Future>(f: F) -> PollOnce<F>
 /// ```
 /// use futures_lite::future;
 ///
-/// let mut both = future::zip(future::yield_now(), future::ready(2u8));
-/// assert_eq!(rt; future::block_on(&rt, future::poll_once(&mut both))?, None);
-/// assert_eq!(rt; future::block_on(&rt, both)?, ((), 2));
+/// fn both<R>(rt: &R) -> Result<(u8, u8), AllocError>
+/// where
+///     R: Wait + RandomSource + AllocGlobal,
+///     ensures { IfOk result (λ v. v ≡ (1, 2)) }
+/// {
+///     future::block_on(rt, future::zip(future::ready(1), future::ready(2)))
+/// }
+///
+/// assert_eq!(rt; both(&rt)?, (1, 2));
+///
+/// let mut later = future::zip(future::yield_now(), future::ready(2u8));
+/// assert_eq!(rt; future::block_on(&rt, future::poll_once(&mut later))?, None);
+/// assert_eq!(rt; future::block_on(&rt, later)?, ((), 2));
 /// ```
 pub fn zip<F1, F2>(future1: F1, future2: F2) -> Zip<F1, F2>
 where
