@@ -94,11 +94,18 @@ def link_kept(source, to):
     return link(source, to) if source.endswith(".oantt") else shutil.copy2(source, to)
 
 
+def built_in(place, name):
+    """Returns the stamp of what is built of a crate in a place, and the format of its library; None where nothing is. One text may have two formats."""
+    folder = f"{place}/crates/{name}/out/rlib"
+    found = [read_text(it) if os.path.isfile(it) else None for it in (f"{folder}/stamp", f"{folder}/{name}.rlib/format")]
+    return found if found[0] else None
+
+
 def hand_on(name, place, to):
     """Gives what is built of the crate in one place to another, where `rt` takes it by the sum of what it was made from."""
-    built, there = (f"{it}/crates/{name}/out/rlib" for it in (place, to))
-    stamps = [read_text(f"{it}/stamp") if os.path.isfile(f"{it}/stamp") else None for it in (built, there)]
-    if stamps[0] and stamps[0] != stamps[1]:
+    here = built_in(place, name)
+    if here and here != built_in(to, name):
+        built, there = (f"{it}/crates/{name}/out/rlib" for it in (place, to))
         shutil.rmtree(f"{there}.part", ignore_errors=True)
         shutil.copytree(built, f"{there}.part", copy_function=link)
         shutil.rmtree(there, ignore_errors=True)
