@@ -1,13 +1,13 @@
 """docs/EXAMPLES.md: what became of each example of futures-lite's documentation, from tools/original-examples.txt.
 
 A line is `MODULE::TITLE`, the item in whose documentation an example stands. After `=` follows the item here whose example says the same, if it
-has another name. After a colon follows why what the example asserts is not proved, or why it is not here.
+has another name. After a colon follows what of the example's assertions is not proved, or why none is, or why it is not here.
 """
 import re
 
 import examples
 import originals
-from reference import linked
+from originals import link_to
 from repository import TOP, read_text
 from sources import MODULES, Sources
 
@@ -15,14 +15,15 @@ PAGE = "docs/EXAMPLES.md"
 LIST = "tools/original-examples.txt"
 LINE = re.compile(r"(?P<name>[\w:!]+)(?: = (?P<here>[\w:]+))?(?:: (?P<note>.*))?")
 NAME = re.compile(r"fn (\w+)")
-PROVED, TESTED, ABSENT = "proved", "tested", "not here"
+PROVED, IN_PART, TESTED, ABSENT = STATES = ("proved", "proved in part", "tested", "not here")
 INTRODUCTION = """# The examples of futures-lite
 
 This page has a line for each example in the documentation of futures-lite 2.6.1. An example that is here stands in the
 comment of its item, and in the item's entry in [docs/api](api/).
 
-- Proved: a function of the example has a clause that says what the original asserts. The gate proves it with no proof
-  file, in the crate `proved_examples`. The tests also call it.
+- Proved: a function of the example has a clause that says what the original asserts, if it asserts anything. The gate
+  proves it with no proof file, in the crate `proved_examples`. The tests also call it.
+- Proved in part: there is such a function, and the line says which of the assertions its clause leaves out.
 - Tested: the tests run the example. The line says why no clause is proved of it.
 - Not here: the line says why.
 """
@@ -38,13 +39,17 @@ class Row:
         self.module, _, title = here.partition("::")
         self.item = items.get(self.module, {}).get(title)
         self.functions = [NAME.search(it)[1] for block in self.item.examples for it in examples.proved_in(block)] if self.item else []
-        self.state = PROVED if self.functions else TESTED if self.item and self.item.examples else ABSENT
-        self.note = found["note"] or (notes.get(self.name, "") if self.state == ABSENT else "")
+        is_here, self.note = bool(self.item and self.item.examples), found["note"] or ""
+        if self.functions:
+            self.state = IN_PART if self.note else PROVED
+        else:
+            self.state = TESTED if is_here else ABSENT
+            self.note = self.note or (notes.get(self.name, "") if not is_here else "")
 
     def __str__(self):
-        here = linked(self.item, f"`{self.item.title}`").replace("](#", f"](api/{self.module}.md#") if self.item else "-"
+        here = link_to(self.item) if self.item else "-"
         names = ", ".join(f"`{it}`" for it in self.functions)
-        return f"| `{self.name}` | {here} | {self.state} | {names or self.note} |"
+        return f"| `{self.name}` | {here} | {self.state} | {'; '.join(filter(None, (names, self.note)))} |"
 
 
 def rows():
@@ -58,18 +63,16 @@ def rows():
 def page():
     """Returns the page."""
     every, parts = rows(), [INTRODUCTION]
-    counts = [f"{sum(it.state == state for it in every)} are {state}" for state in (PROVED, TESTED, ABSENT)]
+    counts = [f"{sum(it.state == state for it in every)} are {state}" for state in STATES]
     parts.append(f"Of {len(every)} examples, {', '.join(counts)}.\n")
     for name in dict.fromkeys(it.name.partition("::")[0] for it in every):
         shown = [str(it) for it in every if it.name.partition("::")[0] == name]
-        parts.append("\n".join([f"## `{name}`\n\n| futures-lite | Here | State | Function, or why |", "|---|---|---|---|", *shown]) + "\n")
+        parts.append("\n".join([f"## `{name}`\n\n| futures-lite | Here | State | Functions, and what is left out or why |", "|---|---|---|---|", *shown]) + "\n")
     return "\n".join(parts)
 
 
 def faults():
-    """Yields each example that is neither proved nor has a reason, and each that has a reason and is proved."""
+    """Yields each example of which nothing is proved and no note says why."""
     for row in rows():
-        if row.state != PROVED and not row.note:
+        if not row.functions and not row.note:
             yield LIST, f"`{row.name}` is {row.state}, and no note says why"
-        elif row.state == PROVED and row.note:
-            yield LIST, f"`{row.name}` is proved, and has a note"

@@ -20,10 +20,14 @@ def lines():
             yield (found["module"], found["title"], found["note"]) if found else (None, line, None)
 
 
-def row(item, module, title, note):
+def link_to(item):
+    """Returns a link from a page in docs/ to the entry of an item."""
+    return linked(item, f"`{item.title}`").replace("](#", f"](api/{item.module}.md#")
+
+
+def row(item, title, note):
     """Returns a row of a table, with a link to the item's entry if it is here."""
-    here = linked(item, f"`{title}`").replace("](#", f"](api/{module}.md#") if item else "-"
-    return f"| `{title}` | {here} | {note or ''} |"
+    return f"| `{title}` | {link_to(item) if item else '-'} | {note or ''} |"
 
 
 def tables():
@@ -31,7 +35,7 @@ def tables():
     sources, found = Sources(), {}
     for module, title, note in lines():
         if module:
-            found.setdefault(module, []).append(row(sources.items_of(module).get(title), module, title, note))
+            found.setdefault(module, []).append(row(sources.items_of(module).get(title), title, note))
     return {module: "\n".join(["\n\n| futures-lite | Here | What differs |", "|---|---|---|", *rows]) + "\n\n" for module, rows in found.items()}
 
 
@@ -41,7 +45,7 @@ def added():
     found = {}
     for module in ("future", "stream", "io"):
         items = [it for title, it in sources.items_of(module).items() if not it.owner and (module, title) not in there]
-        found[f"{module} added"] = ", ".join(linked(it, f"`{it.title}`").replace("](#", f"](api/{module}.md#") for it in items)
+        found[f"{module} added"] = ", ".join(map(link_to, items))
     return found
 
 
