@@ -6,6 +6,7 @@ unfoldable pub use Rattle.lite_views.specs.Answering.{AtOnce, NeverReady}
 pub use Rattle.lite_views.specs.Lists.{map_while, scan, step_from}
 pub use Rattle.lite_views.specs.OkLists.{OkListsAs}
 unfoldable pub use Rattle.lite_views.specs.OkLists.{OkLists, OkSeen}
+pub use Rattle.lite_views.specs.Unfold.{GoesOnWith, MakesValue, UnfoldsInto}
 pub use Rattle.lite_views.specs.Views.{Fits, ListsAs, OfItems, ValueHolds, ValueIs}
 unfoldable pub use Rattle.lite_views.specs.Views.{Fronts, GoesOn, HasValue, Lists, Seen, Waited}
 pub use Rattle.lite_views.specs.Waiting.{WhenLeft}

@@ -1,5 +1,7 @@
 -- What this crate's files take from other crates. The prelude, and a name that two modules have, are imported from where they are.
 pub use Rattle.futures.specs.declared.task.Poll.{Poll}
+pub use Rattle.futures.specs.declared.task.Poll.TheVariants.{Ready}
+pub use Rattle.futures.specs.declared.task.context.Context.{Context}
 pub use Rattle.lite_base.specs.Answers.{Gives, until_end}
 pub use Rattle.lite_base.specs.Calling.{Calls}
 pub use Rattle.lite_base.specs.Future.Finishes.{Finishes}
@@ -15,6 +17,8 @@ pub use Rattle.lite_io_base.specs.Known.{Knows}
 pub use Rattle.lite_io_base.specs.Stored.{Stores}
 pub use Rattle.lite_merge.specs.Budgeted.{Budgets}
 pub use Rattle.lite_merge.specs.Cycle.{CycleOf}
+pub use Rattle.lite_merge.specs.Or.{Ors}
+pub use Rattle.lite_merge.specs.Race.{RacesOn}
 pub use Rattle.lite_merge.specs.Zip.{Zips}
 pub use Rattle.lite_read.specs.BytePieces.{behind, byte_lines, byte_pieces, through_first}
 pub use Rattle.lite_read.specs.Bytes.{TellsBytes}
@@ -40,6 +44,10 @@ pub use Rattle.lite_reshape.specs.SkipWhile.{SkipsWhile, skip_while_parts}
 pub use Rattle.lite_reshape.specs.StepBy.{StepsBy}
 pub use Rattle.lite_reshape.specs.Then.{Thens, then_parts}
 pub use Rattle.lite_reshape.specs.declared.chain.Part.TheVariants.{First}
+pub use Rattle.lite_source.specs.OnceFuture.{GivesFuture}
+pub use Rattle.lite_source.specs.TryUnfold.{TryUnfoldsBy, try_item_of, try_seed_of}
+pub use Rattle.lite_source.specs.Unfold.{UnfoldsBy, item_of, seed_of}
+pub use Rattle.lite_source.specs.Unfolding.{Holding}
 pub use Rattle.lite_stream.specs.EachItem.{MayCallEach, items_in}
 pub use Rattle.lite_stream.specs.Fuse.{Fuses}
 pub use Rattle.lite_stream.specs.Inspect.{Inspects}
@@ -53,15 +61,17 @@ pub use Rattle.lite_views.proofs.Adapting.{scan_fewer, scanned_fits, shown_lists
 pub use Rattle.lite_views.proofs.Asking.{may_ask}
 pub use Rattle.lite_views.proofs.Collecting.{all_collected}
 pub use Rattle.lite_views.proofs.Consuming.{accepted_made, all_made, any_made, collect_made, find_made, find_map_made, fold_made, only_made, others_made}
-pub use Rattle.lite_views.proofs.Consuming.{position_made, try_collect_made, try_fold_made, try_for_each_made, unzip_made, value_made}
+pub use Rattle.lite_views.proofs.Consuming.{next_left, position_made, try_collect_made, try_fold_made, try_for_each_made, unzip_made, value_made}
 pub use Rattle.lite_views.proofs.Exact.{exactly_read}
 pub use Rattle.lite_views.proofs.Futures.{all_read, gathered_left, when_less}
 pub use Rattle.lite_views.proofs.Holding.{awaited_fits, cloned_fits, flat_mapped_lists, flattened_fits}
+pub use Rattle.lite_views.proofs.Merge.{race_first_never, race_second_never}
 pub use Rattle.lite_views.proofs.OkLists.{ok_seen}
-pub use Rattle.lite_views.proofs.Picking.{or_at_once, or_picked, race_picked, try_at_once, try_both, try_fails_at_once, try_first_fails, try_second_fails}
-pub use Rattle.lite_views.proofs.SourceLists.{array_gives, empty_lists, once_fronts, once_lists, range_gives, repeated_on, slice_gives, vec_gives}
+pub use Rattle.lite_views.proofs.Picking.{or_at_once, or_picked, polled_at_once, race_picked, try_at_once, try_both, try_fails_at_once, try_first_fails, try_second_fails}
+pub use Rattle.lite_views.proofs.SourceLists.{array_gives, called_on, empty_lists, once_at_once, once_fronts, once_future_lists, once_lists, polled_on, range_gives, repeated_on, slice_gives, vec_gives}
 pub use Rattle.lite_views.proofs.Streams.{bytes_lists, pieces_listed}
 pub use Rattle.lite_views.proofs.Texts.{all_read_text, text_left}
+pub use Rattle.lite_views.proofs.Unfold.{try_unfolded_lists, unfolded_lists}
 pub use Rattle.lite_views.proofs.Until.{read_piece, read_text_line}
 pub use Rattle.lite_views.proofs.Views.{lent_lists, listed_through, seen}
 pub use Rattle.lite_views.proofs.Waiting.{left_seen}
@@ -75,6 +85,7 @@ pub use Rattle.lite_views.specs.Lists.{map_while, scan, step_from}
 pub use Rattle.lite_views.specs.OkLists.{AllTaken, OkListsAs}
 unfoldable pub use Rattle.lite_views.specs.OkLists.{OkLists, OkSeen}
 pub use Rattle.lite_views.specs.Trying.{TriesCollect, first_error, try_fold}
+pub use Rattle.lite_views.specs.Unfold.{UnfoldsInto}
 pub use Rattle.lite_views.specs.Views.{FrontsAs, ListsAs, OfItems, ValueHolds, ValueIs}
 unfoldable pub use Rattle.lite_views.specs.Views.{Fronts, GoesOn, HasValue, Lists, Seen, Waited}
 pub use Rattle.lite_views.specs.Waiting.{WhenLeft}
@@ -95,4 +106,5 @@ pub use Rattle.std.specs.Option.{option_transpose}
 pub use Rattle.std.specs.Slice.Iter.{iter_rest, iter_steps}
 pub use Rattle.std.specs.Vec.Iter.{into_iter_len, into_iter_steps}
 pub use Rattle.std.specs.declared.alloc.AllocError.{AllocError}
+pub use denote.MutBor.{MutBor}
 pub use denote.Ref.{Bor}

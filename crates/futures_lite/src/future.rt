@@ -1,12 +1,14 @@
 //! Functions that make futures, and the extension methods of every future.
 ghost use Rattle.std.specs.Prelude.{◌≡◌, Err, IfOk, List, Ok, OnErr, Result, Some};
 ghost use Rattle.futures_lite.specs.Uses.{Poll, Gives, Finishes, try_pair, Asked, LeftAs, LeftSeen, HasValue, Seen, ValueIs, Waited};
+ghost use Rattle.futures_lite.specs.Uses.{Called, Context, MutBor};
 ghost use Rattle.futures_lite.specs.Uses.{AtOnce, HasOk, HasValueAs, NeverReady, PickedValue, TryZipRuns};
 
 pub use lite_base::Future;
 pub use lite_base::future::block_on::BlockOn;
 use lite_base::future::make;
-pub use lite_base::future::make::{fuse, poll_fn, poll_once, yield_now, zip};
+use lite_base::{Context, Poll};
+pub use lite_base::future::make::{fuse, poll_once, yield_now, zip};
 pub use lite_base::future::{
     Fuse, Or, Pending, PollFn, PollOnce, Race, Ready, TryZip, YieldNow, Zip,
 };
@@ -56,6 +58,42 @@ pub fn pending<T>() -> Pending<T>
     make::pending()
 }
 
+/// Returns a future that calls `f` at each poll, and returns the result.
+///
+/// The caller guarantees that `f` may be called with any context, and keeps what the context holds.
+///
+/// # Examples
+///
+/// ```
+/// use futures_lite::{Context, Poll, future};
+///
+/// fn seven<R>(rt: &R) -> Result<u8, AllocError>
+/// where
+///     R: Wait + RandomSource + AllocGlobal,
+///     ensures { IfOk result (λ v. v ≡ 7) }
+/// {
+///     future::block_on(rt, future::poll_fn(|_cx: &mut Context<'_>| Poll::Ready(7u8)))
+/// }
+///
+/// assert_eq!(rt; seven(&rt)?, 7);
+///
+/// let mut polls = 0u8;
+/// let third = future::poll_fn(|cx: &mut Context<'_>| {
+///     polls = polls.wrapping_add(1);
+///     if polls < 3 { cx.yield_now() } else { Poll::Ready(polls) }
+/// });
+/// assert_eq!(rt; future::block_on(&rt, third)?, 3);
+/// ```
+pub fn poll_fn<T, F>(f: F) -> PollFn<F>
+where
+    F: FnMut(&mut Context<'_>) -> Poll<T>,
+    ensures made { result ≡ record { f = f } }
+    ensures value { (v : T) → ((cx left : MutBor Context) (a : Poll T) (g : F) → Called F.FnMut f (cx, tt) (a, (left, tt)) g → a ≡ Poll.Ready v)
+        → HasValueAs ⟦<PollFn<F> as Future>⟧.run result v × AtOnce ⟦<PollFn<F> as Future>⟧.run result v }
+{
+    make::poll_fn(f)
+}
+
 /// Returns a future that resolves to the value of the future that is ready first. It prefers `future1` if
 /// both are.
 ///
@@ -68,6 +106,14 @@ pub fn pending<T>() -> Pending<T>
 ///
 /// ```
 /// use futures_lite::future;
+///
+/// fn first<R>(rt: &R) -> Result<u8, AllocError>
+/// where
+///     R: Wait + RandomSource + AllocGlobal,
+///     ensures { IfOk result (λ v. v ≡ 1) }
+/// {
+///     future::block_on(rt, future::or(future::ready(1), future::pending()))
+/// }
 ///
 /// fn second<R>(rt: &R) -> Result<u8, AllocError>
 /// where
@@ -85,6 +131,7 @@ pub fn pending<T>() -> Pending<T>
 ///     future::block_on(rt, future::or(future::ready(1), future::ready(2)))
 /// }
 ///
+/// assert_eq!(rt; first(&rt)?, 1);
 /// assert_eq!(rt; second(&rt)?, 2);
 /// assert_eq!(rt; preferred(&rt)?, 1);
 /// ```
@@ -158,6 +205,14 @@ where
 /// ```
 /// use futures_lite::future;
 ///
+/// fn first<R>(rt: &R) -> Result<u8, AllocError>
+/// where
+///     R: Wait + RandomSource + AllocGlobal,
+///     ensures { IfOk result (λ v. v ≡ 1) }
+/// {
+///     future::block_on(rt, future::race_with_seed(future::ready(1), future::pending(), 0x42))
+/// }
+///
 /// fn second<R>(rt: &R) -> Result<u8, AllocError>
 /// where
 ///     R: Wait + RandomSource + AllocGlobal,
@@ -166,6 +221,7 @@ where
 ///     future::block_on(rt, future::race_with_seed(future::pending(), future::ready(2), 0x42))
 /// }
 ///
+/// assert_eq!(rt; first(&rt)?, 1);
 /// assert_eq!(rt; second(&rt)?, 2);
 ///
 /// let mut firsts = 0u32;
@@ -320,6 +376,14 @@ pub trait FutureExt: Future {
     /// ```
     /// use futures_lite::{FutureExt, future};
     ///
+    /// fn first<R>(rt: &R) -> Result<u8, AllocError>
+    /// where
+    ///     R: Wait + RandomSource + AllocGlobal,
+    ///     ensures { IfOk result (λ v. v ≡ 1) }
+    /// {
+    ///     future::block_on(rt, future::ready(1).or(future::pending()))
+    /// }
+    ///
     /// fn second<R>(rt: &R) -> Result<u8, AllocError>
     /// where
     ///     R: Wait + RandomSource + AllocGlobal,
@@ -336,6 +400,7 @@ pub trait FutureExt: Future {
     ///     future::block_on(rt, future::ready(1).or(future::ready(2)))
     /// }
     ///
+    /// assert_eq!(rt; first(&rt)?, 1);
     /// assert_eq!(rt; second(&rt)?, 2);
     /// assert_eq!(rt; preferred(&rt)?, 1);
     /// ```
@@ -365,6 +430,15 @@ pub trait FutureExt: Future {
     /// use rand_core::SeedableRng;
     /// use rand_pcg::Pcg32;
     ///
+    /// fn first<R>(rt: &R) -> Result<u8, AllocError>
+    /// where
+    ///     R: Wait + RandomSource + AllocGlobal,
+    ///     ensures { IfOk result (λ v. v ≡ 1) }
+    /// {
+    ///     let rng = Pcg32::seed_from_u64(7);
+    ///     future::block_on(rt, future::ready(1).race(future::pending(), rng))
+    /// }
+    ///
     /// fn second<R>(rt: &R) -> Result<u8, AllocError>
     /// where
     ///     R: Wait + RandomSource + AllocGlobal,
@@ -374,6 +448,7 @@ pub trait FutureExt: Future {
     ///     future::block_on(rt, future::pending().race(future::ready(2), rng))
     /// }
     ///
+    /// assert_eq!(rt; first(&rt)?, 1);
     /// assert_eq!(rt; second(&rt)?, 2);
     /// ```
     final fn race<F, G>(self, other: F, rng: G) -> Race<Self, F, G>

@@ -6,9 +6,11 @@ ghost use Rattle.futures_lite.specs.Uses.{range_with_len, slice_get, zip, ActsAs
 ghost use Rattle.futures_lite.specs.Uses.{until_end, Calls, MayCallEach, items_in, Filters, SkipsFirst, SkipsWhile, StepsBy, Fuses, Inspects, Takes};
 ghost use Rattle.futures_lite.specs.Uses.{TakesWhile, Zips, ActsAsOnState, map_while, scan, step_from, Fronts, FrontsAs, GoesOn, HasValue, Lists, ListsAs, OfItems};
 ghost use Rattle.futures_lite.specs.Uses.{Seen, ValueHolds, ValueIs, CountRuns, FindRuns, FoldRuns, LastRuns, NthRuns, TryFoldRuns, TriesCollect, first_error};
+ghost use Rattle.futures_lite.specs.Uses.{AtOnce, NeverReady, Ors, RacesOn, WhenLeft};
+ghost use Rattle.futures_lite.specs.Uses.{Context, GivesFuture, Holding, MutBor, Ready, TryUnfoldsBy, UnfoldsBy, UnfoldsInto, item_of, seed_of, try_item_of, try_seed_of};
 ghost use Rattle.futures_lite.specs.Uses.{try_fold, option_transpose, AllTaken, OkLists, OkSeen, Budgets, CycleOf, FlatMaps, Flattens, Thens, First};
 
-use lite_base::{Future, Poll};
+use lite_base::{Context, Future, Poll};
 pub use lite_base::{Counted, OkCounted, Stream};
 pub use lite_consume::make::block_on;
 pub use lite_consume::{
@@ -20,18 +22,19 @@ pub use lite_gather::{
     CollectFuture, Gather, PartitionFuture, Refused, TryCollectError, TryCollectFuture,
     UnzipFuture, UnzipRefused,
 };
-pub use lite_merge::make::{or, race, race_with_seed, stop_after_future};
+pub use lite_merge::make::stop_after_future;
 pub use lite_merge::{Budgeted, Cycle, Drain, Or, Race, StopAfterFuture, Zip};
 pub use lite_reshape::{
     Chain, Cloned, Filter, FilterMap, FlatMap, Flatten, Skip, SkipWhile, StepBy, Then,
 };
-pub use lite_source::make::{iter, once_future, pending, poll_fn, repeat_with, try_unfold, unfold};
+pub use lite_source::make::iter;
 pub use lite_source::{
     Empty, Iter, Once, OnceFuture, Pending, PollFn, Repeat, RepeatWith, Script, TryUnfold, Unfold,
 };
 use lite_stream::make;
 pub use lite_stream::{Copied, Enumerate, Fuse, Inspect, Map, MapWhile, Scan, Take, TakeWhile};
-use rand_core::Rng;
+use rand_core::{Rng, SeedableRng};
+use rand_pcg::Pcg32;
 use std::ops::Range;
 use std::{array, iter as iterators, slice, vec};
 
@@ -200,9 +203,38 @@ pub fn iter_range(items: Range<usize>) -> Iter<Range<usize>>
 pub fn once<T>(t: T) -> Once<T>
     ensures made { result ≡ record { value = Some t } }
     ensures lists { ListsAs ⟦<Once<T> as Stream>⟧.run result (t ∷ []) }
+    ensures at_once { AtOnce ⟦<Once<T> as Stream>⟧.run result (Some t) }
     ensures fronts { Fronts ⟦<Once<T> as Stream>⟧.run result (t ∷ []) }
 {
     lite_source::make::once(t)
+}
+
+/// Returns a stream that yields the value of `future`, and then is at an end for ever.
+///
+/// Each poll polls `future` until that is ready, and then drops it. So `future` has to be `Drop`. The caller
+/// guarantees that it may be polled. Size hint: `(0, None)`.
+///
+/// # Examples
+///
+/// ```
+/// use futures_lite::{StreamExt, future, stream};
+///
+/// fn value<R>(rt: &R) -> Result<Vec<u8>, AllocError>
+/// where
+///     R: Wait + RandomSource + AllocGlobal,
+///     ensures { IfOk result (λ v. v.items ≡ 7 ∷ []) }
+/// {
+///     let seven = stream::once_future(future::ready(7));
+///     future::block_on(rt, seven.collect::<Vec<u8>>(rt.alloc()))?.map_err(|_| AllocError)
+/// }
+///
+/// assert_eq!(rt; value(&rt)?.as_slice(), [7].as_slice());
+/// ```
+pub fn once_future<F: Future>(future: F) -> OnceFuture<F>
+    ensures made { result ≡ record { future = Some future } }
+    ensures lists { (v : F.Output) → HasValue F.run future v → ListsAs (GivesFuture F.run) result (v ∷ []) }
+{
+    lite_source::make::once_future(future)
 }
 
 /// Returns a stream that yields clones of `item` for ever, one a poll.
@@ -235,6 +267,114 @@ pub fn repeat<T: Clone>(item: T) -> Repeat<T>
     lite_source::make::repeat(item)
 }
 
+/// Returns a stream that yields what `repeater` returns, one call a poll, for ever.
+///
+/// Size hint: `(usize::MAX, None)`. The caller guarantees that `repeater` may always be called.
+///
+/// # Examples
+///
+/// ```
+/// use futures_lite::{StreamExt, future, stream};
+///
+/// fn sevens<R>(rt: &R) -> Result<Vec<u8>, AllocError>
+/// where
+///     R: Wait + RandomSource + AllocGlobal,
+///     ensures { IfOk result (λ v. v.items ≡ replicate 2 7) }
+/// {
+///     let sevens = stream::repeat_with(|| 7u8).take(2);
+///     future::block_on(rt, sevens.collect::<Vec<u8>>(rt.alloc()))?.map_err(|_| AllocError)
+/// }
+///
+/// assert_eq!(rt; sevens(&rt)?.as_slice(), [7, 7].as_slice());
+///
+/// let mut next = 0u8;
+/// let numbers = stream::repeat_with(|| {
+///     next += 1;
+///     next
+/// });
+/// let numbers = future::block_on(&rt, numbers.take(3).collect::<Vec<u8>>(rt.alloc()))??;
+/// assert_eq!(rt; numbers.as_slice(), [1, 2, 3].as_slice());
+/// ```
+pub fn repeat_with<T, F>(repeater: F) -> RepeatWith<F>
+where
+    F: FnMut() -> T,
+    ensures made { result ≡ record { f = repeater } }
+    ensures on { (x : T) → ((v : T) (g : F) → Called F.FnMut repeater tt v g → (g ≡ repeater) × (v ≡ x))
+        → Seen result x × GoesOn ⟦<RepeatWith<F> as Stream>⟧.run result x }
+{
+    lite_source::make::repeat_with(repeater)
+}
+
+/// Returns a stream that is pending for ever. A poll wakes nothing. Size hint: `(0, Some(0))`.
+///
+/// # Examples
+///
+/// ```
+/// use futures_lite::{StreamExt, future, stream};
+///
+/// fn never<R>(rt: &R) -> Result<Option<Option<u8>>, AllocError>
+/// where
+///     R: Wait + RandomSource + AllocGlobal,
+///     ensures { IfOk result (λ v. v ≡ None) }
+/// {
+///     let mut never = stream::pending::<u8>();
+///     future::block_on(rt, future::poll_once(never.next()))
+/// }
+///
+/// assert_eq!(rt; never(&rt)?, None);
+/// ```
+#[tactic(auto, using(lite_views::proofs::SourceLists::pending_never))]
+pub fn pending<T>() -> Pending<T>
+    ensures made { result ≡ record { item = record {} } }
+    ensures never { NeverReady {A = Option T} ⟦<Pending<T> as Stream>⟧.run result }
+{
+    lite_source::make::pending()
+}
+
+/// Returns a stream that calls `f` at each poll, and returns the result.
+///
+/// The caller guarantees that `f` may be called with any context, and keeps what the context holds. Size
+/// hint: `(0, None)`.
+///
+/// # Examples
+///
+/// ```
+/// use futures_lite::{Context, Poll, StreamExt, future, stream};
+///
+/// fn next<R>(rt: &R) -> Result<Option<u8>, AllocError>
+/// where
+///     R: Wait + RandomSource + AllocGlobal,
+///     ensures { IfOk result (λ v. v ≡ Some 7) }
+/// {
+///     let mut sevens = stream::poll_fn(|_cx: &mut Context<'_>| Poll::Ready(Some(7u8)));
+///     future::block_on(rt, sevens.next())
+/// }
+///
+/// assert_eq!(rt; next(&rt)?, Some(7));
+///
+/// let mut left = 2u8;
+/// let mut numbers = stream::block_on(rt, stream::poll_fn(move |_cx: &mut Context<'_>| {
+///     if left == 0 {
+///         return Poll::Ready(None);
+///     }
+///     left -= 1;
+///     Poll::Ready(Some(left))
+/// }));
+/// assert_eq!(rt; numbers.next()?, Some(1));
+/// assert_eq!(rt; numbers.next()?, Some(0));
+/// assert_eq!(rt; numbers.next()?, None);
+/// ```
+pub fn poll_fn<T, F>(f: F) -> PollFn<F>
+where
+    F: FnMut(&mut Context<'_>) -> Poll<Option<T>>,
+    ensures made { result ≡ record { f = f } }
+    ensures on { (x : T) → ((cx left : MutBor Context) (a : Poll (Option T)) (g : F) → Called F.FnMut f (cx, tt) (a, (left, tt)) g
+        → (g ≡ f) × (a ≡ Ready (Some x)))
+        → Seen result x × GoesOn ⟦<PollFn<F> as Stream>⟧.run result x }
+{
+    lite_source::make::poll_fn(f)
+}
+
 /// Returns a stream that returns these poll results in order, one a poll, and then ends for ever.
 ///
 /// A `Pending` in the list does not wake the task, so a `block_on` over it waits for ever. For `Pending`s that
@@ -258,6 +398,265 @@ pub fn script<T>(answers: Vec<Poll<Option<T>>>) -> Script<T>
     ensures fronts { Fronts ⟦<Script<T> as Stream>⟧.run result (items_in answers.items) }
 {
     lite_source::make::script(answers)
+}
+
+/// Returns a stream of the items that futures make.
+///
+/// `f` makes the first future of `seed`, and each later one of the seed that the future before it returned. A
+/// future that returns `Some((item, seed))` yields `item`. `None` ends the stream for ever.
+///
+/// A poll may call `f` once, and polls the future in the same poll. Size hint: `(0, None)`. The caller
+/// guarantees that `f` may always be called, and makes futures that may be polled. The seeds and the futures
+/// have to be `Drop`. The stream may be polled after its end; that of futures-lite panics then.
+///
+/// # Examples
+///
+/// ```
+/// use futures_lite::{StreamExt, future, stream};
+///
+/// fn below_two<R>(rt: &R) -> Result<Vec<u32>, AllocError>
+/// where
+///     R: Wait + RandomSource + AllocGlobal,
+///     ensures { IfOk result (λ v. v.items ≡ 0 ∷ 1 ∷ []) }
+/// {
+///     let below_two = stream::unfold(0u32, |n: u32| {
+///         future::ready(if n < 2 { Some((n, n + 1)) } else { None })
+///     });
+///     future::block_on(rt, below_two.collect::<Vec<u32>>(rt.alloc()))?.map_err(|_| AllocError)
+/// }
+///
+/// assert_eq!(rt; below_two(&rt)?.as_slice(), [0, 1].as_slice());
+/// ```
+pub fn unfold<T, F, Fut, Item>(seed: T, f: F) -> Unfold<T, F, Fut>
+where
+    F: FnMut(T) -> Fut,
+    Fut: Future<Output = Option<(Item, T)>>,
+    ensures made { result ≡ record { f = f; state = Holding.Seed seed } }
+    ensures lists { (xs : List Item) → UnfoldsInto F.FnMut Fut.run seed_of item_of f seed xs
+        → ListsAs (UnfoldsBy F.FnMut Fut.run) result xs }
+{
+    lite_source::make::unfold(seed, f)
+}
+
+/// Returns a stream of the items that futures make, up to the first error.
+///
+/// `f` makes the first future of `init`, and each later one of the state that the future before it returned.
+/// A future that returns `Ok(Some((item, state)))` yields `Ok(item)`. `Ok(None)` ends the stream.
+/// `Err(error)` is yielded as the last item. After either the stream is at an end for ever.
+///
+/// A poll may call `f` once, and polls the future in the same poll. Size hint: `(0, None)`. The caller
+/// guarantees that `f` may always be called, and makes futures that may be polled. The states and the futures
+/// have to be `Drop`.
+///
+/// # Examples
+///
+/// ```
+/// use futures_lite::{StreamExt, future, stream};
+///
+/// fn below_two<R>(rt: &R) -> Result<Vec<u32>, AllocError>
+/// where
+///     R: Wait + RandomSource + AllocGlobal,
+///     ensures { IfOk result (λ v. v.items ≡ 0 ∷ 1 ∷ []) }
+/// {
+///     let below_two = stream::try_unfold(0u32, |n: u32| {
+///         future::ready(if n < 2 { Ok(Some((n, n + 1))) } else { Ok::<_, u8>(None) })
+///     });
+///     future::block_on(rt, below_two.try_collect::<u32, u8, Vec<u32>>(rt.alloc()))?.map_err(|_| AllocError)
+/// }
+///
+/// fn failing<R>(rt: &R) -> Result<Vec<Result<u32, u8>>, AllocError>
+/// where
+///     R: Wait + RandomSource + AllocGlobal,
+///     ensures { IfOk result (λ v. v.items ≡ Ok 0 ∷ Err 9 ∷ []) }
+/// {
+///     let failing = stream::try_unfold(0u32, |n: u32| {
+///         future::ready(if n < 1 { Ok(Some((n, n + 1))) } else { Err(9) })
+///     });
+///     future::block_on(rt, failing.collect::<Vec<Result<u32, u8>>>(rt.alloc()))?.map_err(|_| AllocError)
+/// }
+///
+/// assert_eq!(rt; below_two(&rt)?.as_slice(), [0, 1].as_slice());
+/// assert_eq!(rt; failing(&rt)?.as_slice(), [Ok(0), Err(9)].as_slice());
+/// ```
+pub fn try_unfold<T, E, F, Fut, Item>(init: T, f: F) -> TryUnfold<T, F, Fut>
+where
+    F: FnMut(T) -> Fut,
+    Fut: Future<Output = Result<Option<(Item, T)>, E>>,
+    ensures made { result ≡ record { f = f; state = Holding.Seed init } }
+    ensures lists { (xs : List (Result Item E)) → UnfoldsInto F.FnMut Fut.run try_seed_of try_item_of f init xs
+        → ListsAs (TryUnfoldsBy F.FnMut Fut.run) result xs }
+{
+    lite_source::make::try_unfold(init, f)
+}
+
+/// Returns a stream that yields the items of both streams as they come, with `stream1` first.
+///
+/// Each poll polls `stream1`, and then `stream2` if that has no item. Each stream is polled up to its first
+/// end, and not after it. The result ends when both have ended. It returns `Pending` if there is no item and
+/// one of them has not ended. Size hint: `(0, None)`.
+///
+/// # Examples
+///
+/// ```
+/// use futures_lite::{StreamExt, future, stream};
+///
+/// fn first<R>(rt: &R) -> Result<Option<u8>, AllocError>
+/// where
+///     R: Wait + RandomSource + AllocGlobal,
+///     ensures { IfOk result (λ v. v ≡ Some 1) }
+/// {
+///     let mut merged = stream::or(stream::once(1u8), stream::pending());
+///     future::block_on(rt, merged.next())
+/// }
+///
+/// fn second<R>(rt: &R) -> Result<Option<u8>, AllocError>
+/// where
+///     R: Wait + RandomSource + AllocGlobal,
+///     ensures { IfOk result (λ v. v ≡ Some 2) }
+/// {
+///     let mut merged = stream::or(stream::pending(), stream::once(2u8));
+///     future::block_on(rt, merged.next())
+/// }
+///
+/// fn preferred<R>(rt: &R) -> Result<Option<u8>, AllocError>
+/// where
+///     R: Wait + RandomSource + AllocGlobal,
+///     ensures { IfOk result (λ v. v ≡ Some 1) }
+/// {
+///     let mut merged = stream::or(stream::once(1u8), stream::once(2));
+///     future::block_on(rt, merged.next())
+/// }
+///
+/// assert_eq!(rt; first(&rt)?, Some(1));
+/// assert_eq!(rt; second(&rt)?, Some(2));
+/// assert_eq!(rt; preferred(&rt)?, Some(1));
+/// let both = stream::or(stream::once(1u8), stream::once(2)).collect::<Vec<_>>(rt.alloc());
+/// assert_eq!(rt; future::block_on(&rt, both)??.as_slice(), [1, 2].as_slice());
+/// ```
+#[tactic(auto, using(lite_views::proofs::Merge::or_first_never, lite_views::proofs::Merge::or_second_never, lite_views::proofs::Merge::or_at_once))]
+pub fn or<T, S1, S2>(stream1: S1, stream2: S2) -> Or<S1, S2>
+where
+    S1: Stream<Item = T>,
+    S2: Stream<Item = T>,
+    ensures parts { result ≡ record {
+      stream1 = record { stream = stream1; done = false };
+      stream2 = record { stream = stream2; done = false };
+    } }
+    ensures first_never { (ys : List T) → NeverReady S1.run stream1 → Lists S2.run stream2 ys → ListsAs (Ors S1.run S2.run) result ys }
+    ensures second_never { (xs : List T) → NeverReady S2.run stream2 → Lists S1.run stream1 xs → ListsAs (Ors S1.run S2.run) result xs }
+    ensures at_once { (x : T) → AtOnce S1.run stream1 (Some x) → AtOnce (Ors S1.run S2.run) result (Some x) }
+{
+    lite_merge::make::or(stream1, stream2)
+}
+
+/// Returns a stream that yields the items of both streams as they come, with neither preferred.
+///
+/// Each poll takes a word from `rng`. If its lowest bit is 1 `stream1` is polled first, otherwise `stream2`.
+/// The other one is polled only if the first has no item. Each stream is polled up to its first end, and not
+/// after it. The result ends when both have ended. It returns `Pending` if there is no item and one of them
+/// has not ended.
+///
+/// Unlike futures-lite, the generator is an argument. Size hint: `(0, None)`.
+///
+/// # Examples
+///
+/// ```
+/// use futures_lite::{StreamExt, future, stream};
+/// use rand_core::SeedableRng;
+/// use rand_pcg::Pcg32;
+/// use std::collections::BTreeSet;
+///
+/// fn first<R>(rt: &R) -> Result<Option<u8>, AllocError>
+/// where
+///     R: Wait + RandomSource + AllocGlobal,
+///     ensures { IfOk result (λ v. v ≡ Some 1) }
+/// {
+///     let mut merged = stream::race(stream::once(1u8), stream::pending(), Pcg32::seed_from_u64(1));
+///     future::block_on(rt, merged.next())
+/// }
+///
+/// fn second<R>(rt: &R) -> Result<Option<u8>, AllocError>
+/// where
+///     R: Wait + RandomSource + AllocGlobal,
+///     ensures { IfOk result (λ v. v ≡ Some 2) }
+/// {
+///     let mut merged = stream::race(stream::pending(), stream::once(2u8), Pcg32::seed_from_u64(1));
+///     future::block_on(rt, merged.next())
+/// }
+///
+/// assert_eq!(rt; first(&rt)?, Some(1));
+/// assert_eq!(rt; second(&rt)?, Some(2));
+/// let rng = Pcg32::seed_from_u64(1);
+/// let merged = stream::race(stream::iter(0u8..3), stream::iter(7u8..9), rng);
+/// let got = future::block_on(&rt, merged.collect::<BTreeSet<_>>(rt.alloc()))??;
+/// assert!(rt; got.iter().copied().eq([0, 1, 2, 7, 8].into_iter()));
+/// ```
+pub fn race<T, S1, S2, R>(stream1: S1, stream2: S2, rng: R) -> Race<S1, S2, R>
+where
+    S1: Stream<Item = T>,
+    S2: Stream<Item = T>,
+    R: Rng,
+    ensures parts { result ≡ record {
+      stream1 = record { stream = stream1; done = false };
+      stream2 = record { stream = stream2; done = false };
+      rng = rng;
+    } }
+    ensures first_never { (ys : List T) → NeverReady S1.run stream1 → Lists S2.run stream2 ys → ListsAs (RacesOn S1.run S2.run R.stream) result ys }
+    ensures second_never { (xs : List T) → NeverReady S2.run stream2 → Lists S1.run stream1 xs → ListsAs (RacesOn S1.run S2.run R.stream) result xs }
+{
+    lite_merge::make::race(stream1, stream2, rng)
+}
+
+/// Returns the stream that [`race`] returns, with a generator that is made from `seed`.
+///
+/// The generator is a `Pcg32`, so one seed always gives the same order.
+///
+/// # Examples
+///
+/// ```
+/// use futures_lite::{StreamExt, future, stream};
+///
+/// fn first<R>(rt: &R) -> Result<Option<u8>, AllocError>
+/// where
+///     R: Wait + RandomSource + AllocGlobal,
+///     ensures { IfOk result (λ v. v ≡ Some 1) }
+/// {
+///     let mut merged = stream::race_with_seed(stream::once(1u8), stream::pending(), 123);
+///     future::block_on(rt, merged.next())
+/// }
+///
+/// fn second<R>(rt: &R) -> Result<Option<u8>, AllocError>
+/// where
+///     R: Wait + RandomSource + AllocGlobal,
+///     ensures { IfOk result (λ v. v ≡ Some 2) }
+/// {
+///     let mut merged = stream::race_with_seed(stream::pending(), stream::once(2u8), 123);
+///     future::block_on(rt, merged.next())
+/// }
+///
+/// assert_eq!(rt; first(&rt)?, Some(1));
+/// assert_eq!(rt; second(&rt)?, Some(2));
+/// let mut orders = Vec::new(rt.alloc());
+/// for _ in 0..2 {
+///     let merged = stream::race_with_seed(stream::iter(0u8..9), stream::iter(10u8..19), 7);
+///     orders.push(future::block_on(&rt, merged.collect::<Vec<_>>(rt.alloc()))??)?;
+/// }
+/// assert_eq!(rt; orders[0].len(), 18);
+/// assert_eq!(rt; orders[0].as_slice(), orders[1].as_slice());
+/// ```
+pub fn race_with_seed<T, S1, S2>(stream1: S1, stream2: S2, seed: u64) -> Race<S1, S2, Pcg32>
+where
+    S1: Stream<Item = T>,
+    S2: Stream<Item = T>,
+    ensures parts { result ≡ record {
+      stream1 = record { stream = stream1; done = false };
+      stream2 = record { stream = stream2; done = false };
+      rng = ⟦<Pcg32 as SeedableRng>⟧.of_seed (⟦<Pcg32 as SeedableRng>⟧.seed_of_u64 seed);
+    } }
+    ensures first_never { (ys : List T) → NeverReady S1.run stream1 → Lists S2.run stream2 ys → ListsAs (RacesOn S1.run S2.run ⟦<Pcg32 as Rng>⟧.stream) result ys }
+    ensures second_never { (xs : List T) → NeverReady S2.run stream2 → Lists S1.run stream1 xs → ListsAs (RacesOn S1.run S2.run ⟦<Pcg32 as Rng>⟧.stream) result xs }
+{
+    lite_merge::make::race_with_seed(stream1, stream2, seed)
 }
 
 /// The methods that every stream has: adapters, and futures that consume a stream.
@@ -773,19 +1172,51 @@ pub trait StreamExt: Stream {
     /// ```
     /// use futures_lite::{StreamExt, future, stream};
     ///
-    /// let mut first_ready = stream::pending::<u8>().or(stream::once(1));
-    /// assert_eq!(rt; future::block_on(&rt, first_ready.next())?, Some(1));
+    /// fn first<R>(rt: &R) -> Result<Option<u8>, AllocError>
+    /// where
+    ///     R: Wait + RandomSource + AllocGlobal,
+    ///     ensures { IfOk result (λ v. v ≡ Some 1) }
+    /// {
+    ///     let mut merged = stream::once(1u8).or(stream::pending());
+    ///     future::block_on(rt, merged.next())
+    /// }
+    ///
+    /// fn second<R>(rt: &R) -> Result<Option<u8>, AllocError>
+    /// where
+    ///     R: Wait + RandomSource + AllocGlobal,
+    ///     ensures { IfOk result (λ v. v ≡ Some 2) }
+    /// {
+    ///     let mut merged = stream::pending().or(stream::once(2u8));
+    ///     future::block_on(rt, merged.next())
+    /// }
+    ///
+    /// fn preferred<R>(rt: &R) -> Result<Option<u8>, AllocError>
+    /// where
+    ///     R: Wait + RandomSource + AllocGlobal,
+    ///     ensures { IfOk result (λ v. v ≡ Some 1) }
+    /// {
+    ///     let mut merged = stream::once(1u8).or(stream::once(2));
+    ///     future::block_on(rt, merged.next())
+    /// }
+    ///
+    /// assert_eq!(rt; first(&rt)?, Some(1));
+    /// assert_eq!(rt; second(&rt)?, Some(2));
+    /// assert_eq!(rt; preferred(&rt)?, Some(1));
     /// let both = stream::once(1u8).or(stream::once(2)).collect::<Vec<_>>(rt.alloc());
     /// assert_eq!(rt; future::block_on(&rt, both)??.as_slice(), [1, 2].as_slice());
     /// ```
+    #[tactic(auto, using(lite_views::proofs::Merge::or_first_never, lite_views::proofs::Merge::or_second_never, lite_views::proofs::Merge::or_at_once))]
     final fn or<S>(self, other: S) -> Or<Self, S>
     where
         Self: Sized,
         S: Stream<Item = Self::Item>,
-        ensures { result ≡ record {
+        ensures parts { result ≡ record {
           stream1 = record { stream = self; done = false };
           stream2 = record { stream = other; done = false };
         } }
+        ensures first_never { (ys : List Self.Item) → NeverReady Self.run self → Lists S.run other ys → ListsAs (Ors Self.run S.run) result ys }
+        ensures second_never { (xs : List Self.Item) → NeverReady S.run other → Lists Self.run self xs → ListsAs (Ors Self.run S.run) result xs }
+        ensures at_once { (x : Self.Item) → AtOnce Self.run self (Some x) → AtOnce (Ors Self.run S.run) result (Some x) }
     {
         lite_merge::make::or(self, other)
     }
@@ -808,20 +1239,42 @@ pub trait StreamExt: Stream {
     /// use rand_pcg::Pcg32;
     /// use std::collections::BTreeSet;
     ///
+    /// fn first<R>(rt: &R) -> Result<Option<u8>, AllocError>
+    /// where
+    ///     R: Wait + RandomSource + AllocGlobal,
+    ///     ensures { IfOk result (λ v. v ≡ Some 1) }
+    /// {
+    ///     let mut merged = stream::once(1u8).race(stream::pending(), Pcg32::seed_from_u64(1));
+    ///     future::block_on(rt, merged.next())
+    /// }
+    ///
+    /// fn second<R>(rt: &R) -> Result<Option<u8>, AllocError>
+    /// where
+    ///     R: Wait + RandomSource + AllocGlobal,
+    ///     ensures { IfOk result (λ v. v ≡ Some 2) }
+    /// {
+    ///     let mut merged = stream::pending().race(stream::once(2u8), Pcg32::seed_from_u64(1));
+    ///     future::block_on(rt, merged.next())
+    /// }
+    ///
+    /// assert_eq!(rt; first(&rt)?, Some(1));
+    /// assert_eq!(rt; second(&rt)?, Some(2));
     /// let merged = stream::iter(0u8..3).race(stream::iter(7u8..9), Pcg32::seed_from_u64(1));
     /// let got = future::block_on(&rt, merged.collect::<BTreeSet<_>>(rt.alloc()))??;
     /// assert!(rt; got.iter().copied().eq([0, 1, 2, 7, 8].into_iter()));
     /// ```
-    final fn race<S, R>(self, other: S, rng: R) -> Race<Self, S, R>
+        final fn race<S, R>(self, other: S, rng: R) -> Race<Self, S, R>
     where
         Self: Sized,
         S: Stream<Item = Self::Item>,
         R: Rng,
-        ensures { result ≡ record {
+        ensures parts { result ≡ record {
           stream1 = record { stream = self; done = false };
           stream2 = record { stream = other; done = false };
           rng = rng;
         } }
+        ensures first_never { (ys : List Self.Item) → NeverReady Self.run self → Lists S.run other ys → ListsAs (RacesOn Self.run S.run R.stream) result ys }
+        ensures second_never { (xs : List Self.Item) → NeverReady S.run other → Lists Self.run self xs → ListsAs (RacesOn Self.run S.run R.stream) result xs }
     {
         lite_merge::make::race(self, other, rng)
     }
@@ -1181,12 +1634,17 @@ pub trait StreamExt: Stream {
     /// assert_eq!(rt; future::block_on(&rt, numbers.next())?, Some(2));
     /// assert_eq!(rt; future::block_on(&rt, numbers.next())?, None);
     /// ```
-    #[tactic(auto, using(lite_views::proofs::Views::seen, lite_views::proofs::Consuming::next_value))]
+    #[tactic(auto, using(lite_views::proofs::Views::seen, lite_views::proofs::Consuming::next_value, lite_views::proofs::Consuming::next_on, lite_views::proofs::Consuming::next_at_once))]
     final fn next<'a>(&'a mut self) -> NextFuture<'a, Self>
     where
         Self: Sized,
         ensures parts { result ≡ record { stream = self.entry; folder = record {} } }
         ensures value { OfItems Self.run self.old (λ xs. ValueIs ⟦<NextFuture<'a, Self> as Future>⟧.run result (slice_get xs 0)) }
+        ensures at_once { (o : Option Self.Item) → AtOnce Self.run self.old o → ValueIs ⟦<NextFuture<'a, Self> as Future>⟧.run result o }
+        ensures left { OfItems Self.run self.old (λ xs. WhenLeft AllocError ⟦<NextFuture<'a, Self> as Future>⟧.run result
+            (λ f. f.stream.ghost_name ≡ result.stream.ghost_name)
+            (λ f v. (v ≡ slice_get xs 0) × IfSome v (λ _. ListsAs Self.run f.stream.now (drop 1 xs)))) }
+        ensures on { (x : Self.Item) → GoesOn Self.run self.old x → ValueIs ⟦<NextFuture<'a, Self> as Future>⟧.run result (Some x) }
     {
         lite_consume::make::next(self)
     }

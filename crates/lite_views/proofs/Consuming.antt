@@ -1,20 +1,23 @@
 -- The value of a future that consumes a stream, by the items of the stream.
 use Rattle.std.specs.Prelude.{◌≡◌, ℕ, List, [], ◌∷◌, ◌++◌, map, refl, Bool, true, false, cond, not, nat_lt, Option, Some, None, Result, Ok, Err, IfOk, IfSome}
 use Rattle.std.specs.Prelude.{option_map}
-use Rattle.std.proofs.Common.{◌⊎◌, ◌<◌, ◌^◌, ◌+◌}
+use Rattle.std.proofs.Common.{◌⊎◌, ◌<◌, ◌≤◌, ◌^◌, ◌+◌}
 use Rattle.lite_views.specs.Uses.{Unzip, Partition, TryCollect, Collect, Position, Find, Any, All, TryForEach, FindMap, TryFold, filter-append, map-append}
 use Rattle.lite_views.specs.Uses.{Lent, MutBor, TryNext, Last, Nth, Next, ◌∙◌, suc, length, inl, inr, ap, sym, arith, append_assoc, append-nil, not-not}
 use Rattle.lite_views.specs.Uses.{leb-suc-suc, leb-zero, option_transpose, ok_prefix, filter, filter_map, fold, last_or, list_all, list_any, find, position}
 use Rattle.lite_views.specs.Uses.{position_or_len, slice_get, Poll, Ready, Answer, Gives, item, Question, Runs, alls, anys, Folds, Consumes, Decides, Fold}
 use Rattle.lite_views.specs.Uses.{TakesIn, fold_of, counts, finds, finds_map, folds, lasts, consumes_steps, nexts, nths, positions, tries_fold, tries_each}
 use Rattle.lite_views.specs.Uses.{tries_next, Consume, collects, Sorted, partitions, Partitioned, tries_collect, TryCollected, unzips, Refused, TryCollectError}
-use Rattle.lite_views.specs.Uses.{UnzipRefused}
+use Rattle.lite_views.specs.Uses.{Pending, UnzipRefused, Hints, StreamLaws, drop, end, items_in, replicate, until_end, zero}
 use Rattle.lite_consume.specs.declared.fold.Fold.{Fold as FoldFolder}
 use Rattle.lite_consume.specs.declared.count.Count.{Count}
 use Rattle.lite_views.specs.Futures.{CountRuns, LastRuns, NthRuns}
-use Rattle.lite_views.proofs.Views.{AnswersAs, answered, lent_lists, value_holds}
+use Rattle.lite_views.proofs.Futures.{when_left}
+use Rattle.lite_views.proofs.Views.{AnswersAs, answered, lent_lists, listed, value_holds}
 use Rattle.lite_views.specs.Trying.{first_error, try_fold, TriesCollect}
-use Rattle.lite_views.specs.Views.{Fits, Lists, ValueHolds, ValueIs}
+use Rattle.lite_views.specs.Answering.{AtOnce}
+use Rattle.lite_views.specs.Views.{EachIs, Fits, GoesOn, Lists, ListsAs, ValueHolds, ValueIs}
+use Rattle.lite_views.specs.Waiting.{WhenLeft}
 
 module _ {M A R : Type 0} (fold : Fold M A R) where
   -- of these items, and then an end, or of those up to one that decides, the value r is made
@@ -58,6 +61,34 @@ module _ {M A R : Type 0} (fold : Fold M A R) where
     pub only_made : (v : R) → Lists run x.stream xs → MakesOnly x.folder xs v → ValueIs (Folds run fold) x v
     only_made v lists made = (refl, value_made (λ r. r ≡ v) lists made)
 
+-- What is left of a stream behind a future that borrowed it.
+module _ {M A R : Type 0} (fold : Fold M A R) (later : List (Answer A)) where
+  -- of these items, and then an end, or of those up to one that decides, the value r is made; what comes later is the
+  -- items behind that one
+  abbrev pub LeavesOf : M → List A → R → Type 0
+  LeavesOf p [] r = (q : M) × fold.closes p r q
+  LeavesOf p (x ∷ xs) r =
+      ((q : M) × fold.asks p x None q × LeavesOf q xs r) ⊎ ((q : M) × fold.asks p x (Some r) q × Fits later xs)
+
+  module _ (p m : M) (x : A) (i : List (Answer A)) (r : R) (h : TakesIn fold p x m)
+      (k : (xs : List A) → Fits (i ++ later) xs → LeavesOf m xs r) where
+    taken_leaves : (xs : List A) → Fits (item x ∷ (i ++ later)) xs → LeavesOf p xs r
+    taken_leaves [] e = absurd e
+    taken_leaves (y ∷ xs) e = inl (m, rw (← e.0) h, k xs e.1)
+
+  decided_leaves : (p q : M) (o : Option A) (xs : List A) (r : R) → Fits (Ready o ∷ later) xs
+      → Decides fold p (Ready o) (Ready r) q → LeavesOf p xs r
+  decided_leaves p q None xs r e h = rw e (q, h)
+  decided_leaves p q (Some x) [] r e h = absurd e
+  decided_leaves p q (Some x) (y ∷ xs) r e h = inr (q, rw (← e.0) h, e.1)
+
+  leaves : (p q : M) (i : List (Answer A)) (l : List (Poll R)) (xs : List A) (r : R) → Fits (i ++ later) xs → Gives l r
+      → Consumes fold p i l q → LeavesOf p xs r
+  leaves p q i l xs r e g h =
+      consumes_steps fold (λ p i l. Gives l r → (xs : List A) → Fits (i ++ later) xs → LeavesOf p xs r)
+      (λ p m x i b l t k g. taken_leaves p m x i r t (k g)) (λ p i l k. k) q
+      (λ p o v d g xs e. rw (← g.0) (decided_leaves p q o xs v e d)) p i l absurd h g xs e
+
 -- `fold`
 module _ {F T A : Type 0} (call : F → T × A → T → F → Type 0) (h : T → A → T) (f : F)
     (acts : (a : T) (x : A) (b : T) (g : F) → call f (a, x) b g → (g ≡ f) × (b ≡ h a x)) where
@@ -95,6 +126,86 @@ pub next_value : {S A : Type 0} (run : Runs (Answer A) S) (x : Consume (MutBor S
     → Lists run x.stream.now xs → ValueIs (Folds (Lent run) nexts) x (slice_get xs 0)
 next_value run x xs lists =
     only_made nexts (Lent run) x xs (slice_get xs 0) (lent_lists run x.stream xs lists) (next_made x.folder xs)
+
+next_leaves : {M A : Type 0} (p : M) (later : List (Answer A)) (xs : List A) (x : A)
+    → LeavesOf (nexts {M = M}) later p xs (Some x) → Fits later (drop 1 xs)
+next_leaves p later [] x (q, s) = absurd (let k = s in cc)
+next_leaves p later (y ∷ xs) x (inl (q, s, more)) = absurd s
+next_leaves p later (y ∷ xs) x (inr (q, s, rest)) = rest
+
+pub next_left : {S A E : Type 0} {run : Runs (Answer A) S} {hints : Hints S} (laws : StreamLaws run hints)
+    (x : Consume (MutBor S) Next) (xs : List A) → Lists run x.stream.now xs
+    → WhenLeft E (Folds (Lent run) nexts) x (λ y. y.stream.ghost_name ≡ x.stream.ghost_name)
+    (λ y v. (v ≡ slice_get xs 0) × IfSome v (λ _. ListsAs run y.stream.now (drop 1 xs)))
+unfolding Lists
+next_left {S} {A} {run = run} laws x xs lists =
+    when_left (Folds (Lent run) nexts) x (λ y. y.stream.ghost_name ≡ x.stream.ghost_name)
+    (λ y v. (v ≡ slice_get xs 0) × IfSome v (λ _. ListsAs run y.stream.now (drop 1 xs))) refl
+    (λ ins y ran. ap (λ r. r.ghost_name) ran.came.1)
+    (λ ins y v gives ran. (
+      next_made x.folder xs v
+      (settles nexts x.folder y.folder ran.ins ins xs v (lists ran.ins y.stream.now ran.came.0) gives ran.consumed),
+      rest ins y v gives ran,
+    ))
+  where
+    rest : (ins : List (Poll (Option A))) (y : Consume (MutBor S) Next) (v : Option A) → Gives ins v
+        → Folds (Lent run) nexts x ins y → IfSome v (λ _. ListsAs run y.stream.now (drop 1 xs))
+    rest ins y None gives ran = tt
+    rest ins y (Some z) gives ran =
+        listed run y.stream.now (drop 1 xs)
+        (λ l t h.
+        next_leaves x.folder l xs z
+        (leaves nexts l x.folder y.folder ran.ins ins xs (Some z)
+        (lists (ran.ins ++ l) t (laws.follows x.stream.now y.stream.now t ran.ins l ran.came.0 h)) gives ran.consumed))
+
+-- `next` of a stream that goes on
+each_fits : {A : Type 0} (y : A) (n : ℕ) (l : List (Answer A)) → EachIs y l → length l ≤ n → Fits l (replicate n y)
+each_fits y n [] e h = tt
+each_fits y n (Pending ∷ l) e h = each_fits y n l e (omega (arith, h))
+each_fits y n (Ready None ∷ l) e h = absurd e
+each_fits y zero (Ready (Some x) ∷ l) e h = absurd (omega (arith, h))
+each_fits y (suc n) (Ready (Some x) ∷ l) e h = (e.0, each_fits y n l e.1 (omega (arith, h)))
+
+pub next_on : {S A : Type 0} (run : Runs (Answer A) S) (x : Consume (MutBor S) Next) (y : A) → GoesOn run x.stream.now y
+    → ValueIs (Folds (Lent run) nexts) x (Some y)
+unfolding GoesOn
+next_on run x y on = (
+  refl,
+  value_holds (Folds (Lent run) nexts) x (λ r. r ≡ Some y)
+  (λ ins v f.
+  let l = f.came.ins in
+  next_made x.folder (replicate (suc (length l)) y) v
+  (settles nexts x.folder f.last.folder l ins (replicate (suc (length l)) y) v
+  (each_fits y (suc (length l)) l (on l f.last.stream.now f.came.came.0) (omega arith)) f.gives f.came.consumed)),
+)
+
+-- `next` of a stream of which it is known what the first poll returns
+any_fits : {A : Type 0} (l : List (Answer A)) → Fits l (items_in (until_end l))
+any_fits [] = tt
+any_fits (Pending ∷ l) = any_fits l
+any_fits (Ready None ∷ l) = refl
+any_fits (Ready (Some x) ∷ l) = (refl, any_fits l)
+
+first_fits : {S A : Type 0} (run : Runs (Answer A) S) (s t : S) (o : Option A) (l : List (Answer A)) → AtOnce run s o
+    → run s l t → (xs : List A) × Fits l xs × (slice_get xs 0 ≡ o)
+unfolding AtOnce
+first_fits run s t None [] once h = ([], tt, refl)
+first_fits run s t (Some x) [] once h = (x ∷ [], tt, refl)
+first_fits run s t o (Pending ∷ l) once h = absurd (let k = once Pending l t h in cc)
+first_fits run s t o (Ready None ∷ l) once h = ([], refl, (let k = once end l t h in cc))
+first_fits run s t o (Ready (Some x) ∷ l) once h =
+    (x ∷ items_in (until_end l), (refl, any_fits l), (let k = once (item x) l t h in cc))
+
+pub next_at_once : {S A : Type 0} (run : Runs (Answer A) S) (x : Consume (MutBor S) Next) (o : Option A)
+    → AtOnce run x.stream.now o → ValueIs (Folds (Lent run) nexts) x o
+next_at_once run x o once = (
+  refl,
+  value_holds (Folds (Lent run) nexts) x (λ r. r ≡ o)
+  (λ ins v f.
+  let l = f.came.ins in
+  let (xs, fits, first) = first_fits run x.stream.now f.last.stream.now o l once f.came.came.0 in
+  next_made x.folder xs v (settles nexts x.folder f.last.folder l ins xs v fits f.gives f.came.consumed) ∙ first),
+)
 
 -- `try_next`
 try_next_made : {M T E : Type 0} (p : M) (xs : List (Result T E))

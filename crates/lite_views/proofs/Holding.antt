@@ -8,13 +8,13 @@ use Rattle.lite_views.proofs.Adapting.{continued_fits, endless_fits}
 use Rattle.lite_views.proofs.Views.{Carries, listed}
 use Rattle.lite_views.specs.Views.{Fits, HasValue, Lists, ListsAs}
 
-waiting_fits : {A : Type 0} (l : List (Answer A)) (xs : List A) → Waiting l → Fits l xs
+pub waiting_fits : {A : Type 0} (l : List (Answer A)) (xs : List A) → Waiting l → Fits l xs
 waiting_fits [] xs w = tt
 waiting_fits (Pending ∷ l) xs w = waiting_fits l xs w
 waiting_fits (Ready a ∷ l) xs w = absurd w
 
 -- one item, after any Pendings, and then what fits the rest of the list
-given_fits : {A : Type 0} (own l : List (Answer A)) (y : A) (ys : List A) → Gives own (Some y) → Fits l ys
+pub given_fits : {A : Type 0} (own l : List (Answer A)) (y : A) (ys : List A) → Gives own (Some y) → Fits l ys
     → Fits (own ++ l) (y ∷ ys)
 given_fits [] l y ys g e = absurd g
 given_fits (Pending ∷ own) l y ys g e = given_fits own l y ys g e
@@ -46,12 +46,12 @@ module _ {F A V B : Type 0} (call : Question F A V) (gives : V → List (Answer 
   expanded_fits xs i o q = expands_fits f q.0 i o q.1 xs refl
 
 -- `then`
-waiting_handed : {B : Type 0} (ins : List (Poll B)) → Waiting ins → Waiting (map (handed {B = B} Some) ins)
+pub waiting_handed : {B : Type 0} (ins : List (Poll B)) → Waiting ins → Waiting (map (handed {B = B} Some) ins)
 waiting_handed [] w = tt
 waiting_handed (Pending ∷ ins) w = waiting_handed ins w
 waiting_handed (Ready x ∷ ins) w = absurd w
 
-gives_handed : {B : Type 0} (ins : List (Poll B)) (v : B) → Gives ins v → Gives (map (handed Some) ins) (Some v)
+pub gives_handed : {B : Type 0} (ins : List (Poll B)) (v : B) → Gives ins v → Gives (map (handed Some) ins) (Some v)
 gives_handed [] v g = absurd g
 gives_handed (Pending ∷ ins) v g = gives_handed ins v g
 gives_handed (Ready x ∷ ins) v g = (ap Some g.0, ap (map (handed Some)) g.1)

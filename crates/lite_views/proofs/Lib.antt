@@ -5,11 +5,13 @@ pub mod Consuming
 pub mod Exact
 pub mod Futures
 pub mod Holding
+pub mod Merge
 pub mod OkLists
 pub mod Picking
 pub mod SourceLists
 pub mod Streams
 pub mod Texts
+pub mod Unfold
 pub mod Until
 pub mod Views
 pub mod Waiting

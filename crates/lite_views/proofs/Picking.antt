@@ -1,10 +1,11 @@
 -- The values of futures that are waited for together.
 use Rattle.lite_base.specs.declared.future.ready.Ready.{Ready as ReadyFuture}
 use Rattle.lite_base.specs.declared.future.pending.Pending.{Pending as PendingFuture}
+use Rattle.lite_base.specs.declared.future.poll_fn.PollFn.{PollFn}
 use Rattle.std.specs.Prelude.{◌≡◌, ◌+◌, ◌⊎◌, ⊤, List, [], ◌∷◌, ◌++◌, map, refl, Bool, true, Option, Some, None, Result, Ok, Err}
 use Rattle.lite_views.specs.Uses.{length, inl, inr, ap, sym, subst, arith, AllByRecursion, Stream, Poll, Ready, Pending, Gives, Waiting, Finishes, Runs}
 use Rattle.lite_views.specs.Uses.{Stands, FutureOrs, PickRow, PickRows, Picks, FutureRacesOn, is_first, GivesHeld, PairRows, TryZips, try_pair}
-use Rattle.lite_views.specs.Uses.{waiting_not_gives, rows_by, Half, Asked, Gave, Taken, Or, Race, TryZip}
+use Rattle.lite_views.specs.Uses.{Called, Context, MutBor, Polled, Poller, waiting_not_gives, rows_by, Half, Asked, Gave, Taken, Or, Race, TryZip}
 use Rattle.lite_views.specs.Answering.{AtOnce, HasOk, HasValueAs, NeverReady, PickedValue}
 use Rattle.lite_views.specs.Futures.{TryZipRuns}
 use Rattle.lite_views.specs.Views.{HasValue, ValueIs}
@@ -362,3 +363,13 @@ module _ {F G A B E : Type 0} (run : Runs (Poll (Result A E)) F) (run' : Runs (P
       let all : AtOnce (TryZipRuns run run') x (Err e) = λ a l y h.
       fails_first e once x.first y.first x.second y.second a l asked h in
       (has_value (TryZipRuns run run') x (Err e) (once_value (TryZipRuns run run') x (Err e) all), all)
+
+-- `poll_fn` of a closure that returns the value at once
+pub polled_at_once : {F A : Type 0} (g : Poller F A) (x : PollFn F) (v : A)
+    → ((cx left : MutBor Context) (a : Poll A) (q : F) → Called g x.f (cx, tt) (a, (left, tt)) q → a ≡ Ready v)
+    → HasValueAs (λ (p : PollFn F) l q. Polled g p.f l q.f) x v × AtOnce (λ (p : PollFn F) l q. Polled g p.f l q.f) x v
+unfolding AtOnce
+polled_at_once {F} g x v acts =
+    let once : AtOnce (λ (p : PollFn F) l q. Polled g p.f l q.f) x v = λ a ins q h. acts h.1.1.0 h.1.1.1 a h.1.0 h.1.1.2 in
+    let all = once_value (λ (p : PollFn F) l q. Polled g p.f l q.f) x v once in
+    ((has_value (λ (p : PollFn F) l q. Polled g p.f l q.f) x v all, all), once)

@@ -1,17 +1,22 @@
 -- The items of a source.
-use Rattle.std.specs.Prelude.{◌≡◌, ℕ, List, [], ◌∷◌, refl, Option, Some, None, Result, Ok, Err, ⊤}
+use Rattle.std.specs.Prelude.{◌≡◌, ℕ, List, [], ◌∷◌, map, refl, Option, Some, None, Result, Ok, Err, ⊤}
 use Rattle.std.proofs.Common.{◌+◌, ◌-◌}
 use Rattle.lite_views.specs.Uses.{length-range_with_len, GivesOnce, once_left, ◌∙◌, suc, length, ap, sym, arith, array_into_iter_items, array_steps, Count}
 use Rattle.lite_views.specs.Uses.{at_most, copied_steps, AllByRecursion, range_with_len, range_steps, iter_steps, into_iter_items, into_iter_len}
 use Rattle.lite_views.specs.Uses.{into_iter_steps, Global, Range, IntoIter, Ready, Pending, Answer, end, until_end, slice_items, Unchanging, Iterates, IsCloned}
-use Rattle.lite_views.specs.Uses.{Repeats, GivesScript, Iter, Repeat, items_in}
+use Rattle.lite_views.specs.Uses.{Call, CallAnswers, Called, Context, FoldsTo, GivesFuture, Mut, MutBor, OnceFuture, Poll, Poller, RepeatWith, RepeatsWith}
+use Rattle.lite_views.specs.Uses.{Repeats, GivesScript, Iter, Repeat, Runs, Spends, Waiting, handed, item, items_in}
+use Rattle.lite_source.specs.declared.pending.Pending.{Pending as PendingStream}
+use Rattle.lite_source.specs.declared.poll_fn.PollFn.{PollFn}
 use Rattle.std.specs.declared.array.IntoIter.{IntoIter as ArrayIter}
 use Rattle.std.specs.declared.iter.Copied.{Copied}
 use Rattle.std.specs.declared.slice.Iter.{Iter as SliceIter}
+use Rattle.lite_views.specs.Answering.{AtOnce, NeverReady}
 use Rattle.lite_views.specs.Fronts.{Front}
 use Rattle.lite_views.specs.Laws.Sources.{iterated_front}
 use Rattle.lite_views.specs.Iterators.{GivesAll, IterRuns}
-use Rattle.lite_views.specs.Views.{EachIs, Fits, Fronts, ListsAs, Seen, GoesOn}
+use Rattle.lite_views.specs.Views.{EachIs, Fits, Fronts, HasValue, ListsAs, Seen, GoesOn}
+use Rattle.lite_views.proofs.Holding.{given_fits, gives_handed, waiting_fits, waiting_handed}
 use Rattle.lite_views.proofs.Views.{seen, listed}
 
 -- an iterator that shows what is left, and how many
@@ -119,17 +124,44 @@ module _ {A : Type 0} where
         listed GivesOnce (record { value = Some x }) (x ∷ [])
         (λ l y. scripted_fits (once_left (Some x)) l (once_left y.value))
 
+    pub once_at_once : AtOnce GivesOnce (record { value = Some x }) (Some x)
+    unfolding AtOnce
+    once_at_once a l y h = h.0
+
     pub once_fronts : Fronts GivesOnce (record { value = Some x }) (x ∷ [])
     unfolding Fronts
     once_fronts l y = scripted_fronts (once_left (Some x)) l (once_left y.value)
 
+-- `pending`
+pub pending_never : {A : Type 0} (x : PendingStream A) → NeverReady {A = Option A} (Unchanging (λ _ a. a ≡ Pending)) x
+unfolding NeverReady
+pending_never x l y h = waits l h.0
+  where
+    waits : {A : Type 0} (l : List (Answer A)) → AllByRecursion (λ a. a ≡ Pending) l → Waiting l
+    waits [] h = tt
+    waits (a ∷ l) h = rw h.0 (waits l h.1)
+
 -- `empty`
+ended_fits : {A : Type 0} (l : List (Answer A)) → AllByRecursion (λ a. a ≡ end) l → Fits l []
+ended_fits [] h = tt
+ended_fits (a ∷ l) h = rw h.0
+
 pub empty_lists : {S A : Type 0} (x : S) → ListsAs {A = A} (Unchanging (λ _ a. a ≡ end)) x []
 empty_lists x = listed (Unchanging (λ _ a. a ≡ end)) x [] (λ l y h. ended_fits l h.0)
-  where
-    ended_fits : {A : Type 0} (l : List (Answer A)) → AllByRecursion (λ a. a ≡ end) l → Fits l []
-    ended_fits [] h = tt
-    ended_fits (a ∷ l) h = rw h.0
+
+-- `once_future`
+module _ {F A : Type 0} (run : Runs (Poll A) F) (f : F) (v : A) (value : HasValue run f v) where
+  once_handed : (left : Option F) (l : List (Answer A))
+      → Spends run (handed Some) (AllByRecursion (λ a. a ≡ end)) (Some f) l left → Fits l (v ∷ [])
+  unfolding HasValue
+  once_handed (Some g) l (ins, waiting, ran, out) = rw out (waiting_fits (map (handed Some) ins) (v ∷ []) (waiting_handed ins waiting))
+  once_handed None l s =
+      rw s.joined
+      (given_fits (map (handed Some) s.ins) s.after v []
+      (gives_handed s.ins v (rw (value s.ins s.value s.finishes) at s.finishes.gives)) (ended_fits s.after s.later))
+
+  pub once_future_lists : (x : OnceFuture F) → x.future ≡ Some f → ListsAs (GivesFuture run) x (v ∷ [])
+  once_future_lists x is = listed (GivesFuture run) x (v ∷ []) (λ l y h. once_handed y.future l (rw is at h))
 
 -- `repeat`, of an item whose clones equal it and are not refused
 pub repeated_on : {A : Type 0} (E : Type 0) (is_clone : A → A → Type 0) (is_infallible : A → Type 0) (x : Repeat A)
@@ -145,3 +177,33 @@ repeated_on {A} E is_clone is_infallible x never equal = (seen x (Ok x.item), λ
     each (Ready None ∷ l) a = absurd a.0
     each (Ready (Some (Ok v)) ∷ l) a = (ap (λ z. Ok z) (equal v a.0), each l a.1)
     each (Ready (Some (Err e)) ∷ l) a = absurd (a.0 never)
+
+-- a source each of whose steps yields y and leaves it as it was
+module _ {F A : Type 0} (step : F → Answer A → F → Type 0) (f : F) (y : A)
+    (acts : (a : Answer A) (q : F) → step f a q → (q ≡ f) × (a ≡ item y)) where
+  stepped_on : (p q : F) (l : List (Answer A)) → p ≡ f → FoldsTo step p l q → EachIs y l
+  stepped_on p q [] same h = tt
+  stepped_on p q (a ∷ l) same h =
+      let next = acts a h.0 (rw same at h.1) in rw next.1 (refl, stepped_on h.0 q l next.0 h.2)
+
+-- `repeat_with`
+pub called_on : {F A : Type 0} (g : Mut F (Unit {0}) A) (x : RepeatWith F) (y : A)
+    → ((v : A) (q : F) → Called g x.f tt v q → (q ≡ x.f) × (v ≡ y))
+    → Seen x y × GoesOn (λ (p : RepeatWith F) l q. RepeatsWith g p.f l q.f) x y
+unfolding GoesOn
+called_on g x y acts = (
+  seen x y,
+  λ l z h.
+      stepped_on (Call g) x.f y (λ a q c. let made = acts c.0 q c.2 in (made.0, rw (← made.1) c.1)) x.f z.f l refl h,
+)
+
+-- `poll_fn`
+pub polled_on : {F A : Type 0} (g : Poller F (Option A)) (x : PollFn F) (y : A)
+    → ((cx left : MutBor Context) (a : Answer A) (q : F) → Called g x.f (cx, tt) (a, (left, tt)) q
+    → (q ≡ x.f) × (a ≡ item y))
+    → Seen x y × GoesOn (λ (p : PollFn F) l q. FoldsTo (CallAnswers g) p.f l q.f) x y
+unfolding GoesOn
+polled_on g x y acts = (
+  seen x y,
+  λ l z h. stepped_on (CallAnswers g) x.f y (λ a q c. acts c.0 c.1 a q c.2) x.f z.f l refl h,
+)

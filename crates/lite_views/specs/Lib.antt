@@ -8,6 +8,7 @@ pub mod Laws
 pub mod Lists
 pub mod OkLists
 pub mod Trying
+pub mod Unfold
 pub mod Views
 pub mod Waiting
 pub mod Uses

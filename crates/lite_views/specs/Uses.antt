@@ -1,8 +1,10 @@
 -- What this crate's files take from other crates. The prelude, and a name that two modules have, are imported from where they are.
 pub use Rattle.futures.specs.declared.task.Poll.{Poll}
 pub use Rattle.futures.specs.declared.task.Poll.TheVariants.{Pending, Ready}
+pub use Rattle.futures.specs.declared.task.context.Context.{Context}
 pub use Rattle.lite_base.specs.Answers.{Answer, Endless, Gives, UpToValue, Waiting, end, item, items, strip, until_end}
 pub use Rattle.lite_base.specs.Calling.{Accepts, Always, Calls}
+pub use Rattle.lite_base.specs.Future.Calls.{CallAnswers, Polled, Poller}
 pub use Rattle.lite_base.specs.Future.Finishes.{Finishes}
 pub use Rattle.lite_base.specs.Future.Half.{Stands}
 pub use Rattle.lite_base.specs.Future.Handed.{handed}
@@ -10,16 +12,20 @@ pub use Rattle.lite_base.specs.Future.Or.{FutureOrs}
 pub use Rattle.lite_base.specs.Future.Picks.{PickRow, PickRows, Picks}
 pub use Rattle.lite_base.specs.Future.Race.{FutureRacesOn, is_first}
 pub use Rattle.lite_base.specs.Future.Ready.{GivesHeld}
+pub use Rattle.lite_base.specs.Future.Spent.{Spends}
 pub use Rattle.lite_base.specs.Future.Together.{PairRows}
 pub use Rattle.lite_base.specs.Future.TryZip.{TryZips, try_pair}
+pub use Rattle.lite_base.specs.FutureLaws.{FutureLaws}
 pub use Rattle.lite_base.specs.Laws.All.{all_split}
 pub use Rattle.lite_base.specs.Laws.Answers.{waiting_not_gives}
 pub use Rattle.lite_base.specs.Laws.Calls.{folds_follow}
+pub use Rattle.lite_base.specs.Laws.Future.Finishes.{finishes_later}
 pub use Rattle.lite_base.specs.Laws.Rows.{rows_by}
 pub use Rattle.lite_base.specs.Laws.Segments.{segment_front, to_value_last}
 pub use Rattle.lite_base.specs.Lent.{Lent}
 pub use Rattle.lite_base.specs.Paces.{Paces, left_behind}
-pub use Rattle.lite_base.specs.Runs.{Question, Runs}
+pub use Rattle.lite_base.specs.Runs.{Hints, Question, Runs}
+pub use Rattle.lite_base.specs.StreamLaws.{StreamLaws}
 pub use Rattle.lite_base.specs.declared.future.half.Half.{Half}
 pub use Rattle.lite_base.specs.declared.future.half.Half.TheVariants.{Asked, Gave, Taken}
 pub use Rattle.lite_base.specs.declared.future.or.Or.{Or}
@@ -74,7 +80,9 @@ pub use Rattle.lite_io_base.specs.Marks.{ReadMark, bytes}
 pub use Rattle.lite_io_base.specs.Stored.{Stored, Stores}
 pub use Rattle.lite_io_base.specs.Takings.{WriteMark, bytes_taken}
 pub use Rattle.lite_merge.specs.Budgeted.{Budgets, budget_parts}
-pub use Rattle.lite_merge.specs.Merge.{MergeRow, MergeRows}
+pub use Rattle.lite_merge.specs.Merge.{MergeRow, MergeRows, Merges}
+pub use Rattle.lite_merge.specs.Or.{Ors}
+pub use Rattle.lite_merge.specs.Race.{RacesOn}
 pub use Rattle.lite_merge.specs.Zip.{Pairs, Zips, pendings}
 pub use Rattle.lite_merge.specs.declared.budgeted.Budgeted.{Budgeted}
 pub use Rattle.lite_merge.specs.declared.zip.Zip.{Zip}
@@ -112,10 +120,19 @@ pub use Rattle.lite_source.specs.Always.{Unchanging}
 pub use Rattle.lite_source.specs.Iter.{Iterates}
 pub use Rattle.lite_source.specs.Laws.Iterators.{slice_items}
 pub use Rattle.lite_source.specs.Once.{GivesOnce, once_left}
+pub use Rattle.lite_source.specs.OnceFuture.{GivesFuture}
 pub use Rattle.lite_source.specs.Repeat.{IsCloned, Repeats}
+pub use Rattle.lite_source.specs.RepeatWith.{Call, RepeatsWith}
 pub use Rattle.lite_source.specs.Script.{GivesScript}
+pub use Rattle.lite_source.specs.TryUnfold.{TryUnfoldsBy, try_item_of, try_seed_of}
+pub use Rattle.lite_source.specs.Unfold.{UnfoldsBy, item_of, seed_of}
+pub use Rattle.lite_source.specs.Unfolding.{Holding, Leads, UnfoldPart, comes}
 pub use Rattle.lite_source.specs.declared.iter.Iter.{Iter}
+pub use Rattle.lite_source.specs.declared.once_future.OnceFuture.{OnceFuture}
 pub use Rattle.lite_source.specs.declared.repeat.Repeat.{Repeat}
+pub use Rattle.lite_source.specs.declared.repeat_with.RepeatWith.{RepeatWith}
+pub use Rattle.lite_source.specs.declared.try_unfold.TryUnfold.{TryUnfold}
+pub use Rattle.lite_source.specs.declared.unfold.Unfold.{Unfold}
 pub use Rattle.lite_stream.specs.Copied.{CopiesAll, CopiesItem, copied_parts}
 pub use Rattle.lite_stream.specs.Cutting.{Cuts}
 pub use Rattle.lite_stream.specs.EachItem.{AtEachItem, items_in}

@@ -1,0 +1,5 @@
+use Rattle.futures_lite.specs.Uses.{once_future_lists, refl}
+use Rattle.futures_lite.proofs.stream.once_future.Goals as goal
+
+pub returns-clause-lists : goal.returns-clause-lists
+returns-clause-lists g c v value = rw c.once_future.ensures (once_future_lists _ _ v value _ refl)

@@ -1,0 +1,5 @@
+use Rattle.futures_lite.specs.Uses.{refl, try_unfolded_lists}
+use Rattle.futures_lite.proofs.stream.try_unfold.Goals as goal
+
+pub returns-clause-lists : goal.returns-clause-lists
+returns-clause-lists g c xs makes = rw c.try_unfold.ensures (try_unfolded_lists _ _ g.met.Fut.Future.laws _ _ xs refl makes)
