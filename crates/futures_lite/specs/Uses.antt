@@ -65,6 +65,7 @@ pub use Rattle.lite_views.proofs.Consuming.{next_left, position_made, try_collec
 pub use Rattle.lite_views.proofs.Exact.{exactly_read}
 pub use Rattle.lite_views.proofs.Futures.{all_read, gathered_left, when_less}
 pub use Rattle.lite_views.proofs.Holding.{awaited_fits, cloned_fits, flat_mapped_lists, flattened_fits}
+pub use Rattle.lite_views.proofs.Leaving.{nth_left, try_next_left}
 pub use Rattle.lite_views.proofs.Merge.{race_first_never, race_second_never}
 pub use Rattle.lite_views.proofs.OkLists.{ok_seen}
 pub use Rattle.lite_views.proofs.Picking.{or_at_once, or_picked, polled_at_once, race_picked, try_at_once, try_both, try_fails_at_once, try_first_fails, try_second_fails}

@@ -1,5 +1,5 @@
 //! Streams: sources, and the methods that adapt and consume every stream.
-ghost use Rattle.std.specs.Prelude.{◌≡◌, ℕ, ◌-◌, ◌<◌, ◌≤◌, ◌^◌, ◌++◌, ◌∷◌, [], List, Bool, IfOk, IfSome, IsSome, MatchResult, None, Ok, Option, Result, Some};
+ghost use Rattle.std.specs.Prelude.{◌≡◌, ℕ, ◌+◌, ◌-◌, ◌<◌, ◌≤◌, ◌^◌, ◌++◌, ◌∷◌, [], List, Bool, IfOk, IfSome, IsSome, MatchResult, None, Ok, Option, Result, Some};
 ghost use Rattle.std.specs.Prelude.{drop, false, flat_map, length, map, not, replicate, take};
 ghost use Rattle.futures_lite.specs.Uses.{AllByRecursion, enumerate_from, filter, filter_map, find, fold, last_or, list_all, list_any, position, prefix_len};
 ghost use Rattle.futures_lite.specs.Uses.{range_with_len, slice_get, zip, ActsAs, ActsAsAt, ActsAsOnTwo, CallKeepsClosure, Called, CalledAt, AllocError, Bor};
@@ -905,12 +905,13 @@ pub trait StreamExt: Stream {
     ///
     /// assert_eq!(rt; firsts(&rt)?.as_slice(), [1, 2].as_slice());
     /// ```
-    #[tactic(auto, using(lite_views::proofs::Views::seen, lite_views::proofs::Adapting::taken_lists, lite_views::proofs::Adapting::repeated_lists))]
+    #[tactic(auto, using(lite_views::proofs::Views::seen, lite_views::proofs::Adapting::taken_lists, lite_views::proofs::Adapting::taken_whole, lite_views::proofs::Adapting::repeated_lists))]
     final fn take(self, n: usize) -> Take<Self>
     where
         Self: Sized,
         ensures parts { result ≡ record { stream = self; n = n } }
         ensures lists { OfItems Self.run self (λ xs. ListsAs (Takes Self.run) result (take n xs)) }
+        ensures whole { (xs : List Self.Item) → Lists Self.run self xs → length xs ≤ n → ListsAs (Takes Self.run) result xs }
         ensures repeats { (x : Self.Item) → GoesOn Self.run self x → ListsAs (Takes Self.run) result (replicate n x) }
     {
         make::take(self, n)
@@ -1681,6 +1682,10 @@ pub trait StreamExt: Stream {
         Self: Stream<Item = Result<T, E>> + Sized,
         ensures parts { result ≡ record { stream = self.entry; folder = record {} } }
         ensures value { OfItems Self.run self.old (λ xs. ValueIs ⟦<TryNextFuture<'a, Self> as Future>⟧.run result (option_transpose (slice_get xs 0))) }
+        ensures left { OfItems Self.run self.old (λ xs. WhenLeft AllocError ⟦<TryNextFuture<'a, Self> as Future>⟧.run result
+            (λ f. f.stream.ghost_name ≡ result.stream.ghost_name)
+            (λ f v. (v ≡ option_transpose (slice_get xs 0))
+            × MatchResult v (λ o. IfSome o (λ _. ListsAs Self.run f.stream.now (drop 1 xs))) (λ _. ListsAs Self.run f.stream.now (drop 1 xs)))) }
     {
         lite_consume::make::try_next(self)
     }
@@ -1821,6 +1826,9 @@ pub trait StreamExt: Stream {
         Self: Sized,
         ensures parts { result ≡ record { stream = self.entry; folder = record { n = n } } }
         ensures value { OfItems Self.run self.old (λ xs. ValueIs (NthRuns Self.run) result (slice_get xs n)) }
+        ensures left { OfItems Self.run self.old (λ xs. WhenLeft AllocError (NthRuns Self.run) result
+            (λ f. f.stream.ghost_name ≡ result.stream.ghost_name)
+            (λ f v. (v ≡ slice_get xs n) × IfSome v (λ _. ListsAs Self.run f.stream.now (drop (n + 1) xs)))) }
     {
         lite_consume::make::nth(self, n)
     }

@@ -9,6 +9,7 @@ use Rattle.lite_views.specs.Uses.{Paces, left_behind, Question, Runs, CopiesItem
 use Rattle.lite_views.specs.Uses.{Fuses, fuse_parts, ShowsItem, Inspects, inspect_parts, Exchanges, Takes, is_none_left, left_after, take_parts, Take}
 use Rattle.lite_views.specs.Uses.{leaves_steps, LeavesOut, Skips, SkipsFirst, skip_parts, SkipsUntil, Numbered, StepsOn, StepsBy, step_by_parts, Chains, Joins}
 use Rattle.lite_views.specs.Uses.{is_done, second_after, Chain, Part, First, Second, Budgets, budget_parts, Pairs, Zips, pendings, Budgeted, Zip}
+use Rattle.lite_views.specs.Uses.{take_all}
 use Rattle.std.proofs.Common.{Bor}
 use Rattle.lite_views.proofs.Views.{AnswersAs, Carries, answered, listed, listed_through}
 use Rattle.lite_views.specs.Lists.{cons_while, map_while, scan, step_from}
@@ -188,6 +189,11 @@ pub taken_lists : {S A : Type 0} (run : Runs (Answer A) S) (x : Take S) (xs : Li
     → ListsAs (Takes run) x (take x.n xs)
 taken_lists run x xs lists =
     listed_through take_parts run (Cuts is_none_left left_after) x xs (take x.n xs) lists (taken_fits x.n xs)
+
+pub taken_whole : {S A : Type 0} (run : Runs (Answer A) S) (x : Take S) (xs : List A) → Lists run x.stream xs
+    → length xs ≤ x.n → ListsAs (Takes run) x xs
+taken_whole run x xs lists short =
+    rw (take_all x.n xs short) at (taken_lists run x xs lists)
 
 -- `take` of a stream that goes on for ever
 repeated_fits : {A : Type 0} (n m : ℕ) (i o : List (Answer A)) (x : A) → EachIs x i

@@ -41,7 +41,7 @@ module _ {M A R : Type 0} (fold : Fold M A R) where
   decided_makes p q (Some x) [] r e h = absurd e
   decided_makes p q (Some x) (y ∷ xs) r e h = inr (q, rw (← e.0) h)
 
-  settles : (p q : M) (i : List (Answer A)) (l : List (Poll R)) (xs : List A) (r : R) → Fits i xs → Gives l r
+  pub settles : (p q : M) (i : List (Answer A)) (l : List (Poll R)) (xs : List A) (r : R) → Fits i xs → Gives l r
       → Consumes fold p i l q → MakesOf p xs r
   settles p q i l xs r e g h =
       consumes_steps fold (λ p i l. Gives l r → (xs : List A) → Fits i xs → MakesOf p xs r)
@@ -82,7 +82,7 @@ module _ {M A R : Type 0} (fold : Fold M A R) (later : List (Answer A)) where
   decided_leaves p q (Some x) [] r e h = absurd e
   decided_leaves p q (Some x) (y ∷ xs) r e h = inr (q, rw (← e.0) h, e.1)
 
-  leaves : (p q : M) (i : List (Answer A)) (l : List (Poll R)) (xs : List A) (r : R) → Fits (i ++ later) xs → Gives l r
+  pub leaves : (p q : M) (i : List (Answer A)) (l : List (Poll R)) (xs : List A) (r : R) → Fits (i ++ later) xs → Gives l r
       → Consumes fold p i l q → LeavesOf p xs r
   leaves p q i l xs r e g h =
       consumes_steps fold (λ p i l. Gives l r → (xs : List A) → Fits (i ++ later) xs → LeavesOf p xs r)
@@ -208,7 +208,7 @@ next_at_once run x o once = (
 )
 
 -- `try_next`
-try_next_made : {M T E : Type 0} (p : M) (xs : List (Result T E))
+pub try_next_made : {M T E : Type 0} (p : M) (xs : List (Result T E))
     → MakesOnly (tries_next {M = M}) p xs (option_transpose (slice_get xs 0))
 try_next_made p [] v (q, s) = s
 try_next_made p (x ∷ xs) v (inl (q, s, more)) = absurd s
@@ -236,7 +236,7 @@ last_value run x xs lists =
     (last_made (λ m. m.last) x.folder xs)
 
 -- `nth`
-nth_made : {N A : Type 0} (n_of : N → ℕ) (p : N) (xs : List A)
+pub nth_made : {N A : Type 0} (n_of : N → ℕ) (p : N) (xs : List A)
     → MakesOnly (fold_of n_of nths) p xs (slice_get xs (n_of p))
 nth_made n_of p [] v (q, s) = s.0
 nth_made n_of p (x ∷ xs) v (inl (q, s, more)) =

@@ -5,6 +5,7 @@ pub mod Consuming
 pub mod Exact
 pub mod Futures
 pub mod Holding
+pub mod Leaving
 pub mod Merge
 pub mod OkLists
 pub mod Picking
