@@ -56,27 +56,55 @@ pub use Rattle.lite_stream.specs.MapWhile.{map_while_parts}
 pub use Rattle.lite_stream.specs.Scan.{scan_parts}
 pub use Rattle.lite_stream.specs.Take.{Takes}
 pub use Rattle.lite_stream.specs.TakeWhile.{TakesWhile, take_while_parts}
-pub use Rattle.lite_views.proofs.Adapting.{filter_fewer, filter_map_fewer, filter_mapped_fits, filtered_fits, map_while_fewer, mapped_fits, mapped_while_fits}
-pub use Rattle.lite_views.proofs.Adapting.{scan_fewer, scanned_fits, shown_lists, skipped_while_fits, taken_while_fits}
+pub use Rattle.lite_views.proofs.All.{all_made}
+pub use Rattle.lite_views.proofs.Any.{any_made}
 pub use Rattle.lite_views.proofs.Asking.{may_ask}
+pub use Rattle.lite_views.proofs.Bytes.{bytes_lists}
+pub use Rattle.lite_views.proofs.Collect.{collect_made}
 pub use Rattle.lite_views.proofs.Collecting.{all_collected}
-pub use Rattle.lite_views.proofs.Consuming.{accepted_made, all_made, any_made, collect_made, find_made, find_map_made, fold_made, only_made, others_made}
-pub use Rattle.lite_views.proofs.Consuming.{next_left, position_made, try_collect_made, try_fold_made, try_for_each_made, unzip_made, value_made}
-pub use Rattle.lite_views.proofs.Exact.{exactly_read}
+pub use Rattle.lite_views.proofs.Consume.{only_made, value_made}
+pub use Rattle.lite_views.proofs.Copy.{copy_left, on_each}
+pub use Rattle.lite_views.proofs.Empty.{empty_lists}
+pub use Rattle.lite_views.proofs.Filter.{filter_fewer, filtered_fits}
+pub use Rattle.lite_views.proofs.FilterMap.{filter_map_fewer, filter_mapped_fits}
+pub use Rattle.lite_views.proofs.Find.{find_made}
+pub use Rattle.lite_views.proofs.FindMap.{find_map_made}
+pub use Rattle.lite_views.proofs.Fold.{fold_made}
 pub use Rattle.lite_views.proofs.Futures.{all_read, gathered_left, when_less}
 pub use Rattle.lite_views.proofs.Holding.{awaited_fits, cloned_fits, flat_mapped_lists, flattened_fits}
-pub use Rattle.lite_views.proofs.Leaving.{nth_left, try_next_left}
+pub use Rattle.lite_views.proofs.Inspect.{shown_lists}
+pub use Rattle.lite_views.proofs.Iter.{array_gives, range_gives, slice_gives, vec_gives}
+pub use Rattle.lite_views.proofs.Map.{mapped_fits}
+pub use Rattle.lite_views.proofs.MapWhile.{map_while_fewer, mapped_while_fits}
 pub use Rattle.lite_views.proofs.Merge.{race_first_never, race_second_never}
+pub use Rattle.lite_views.proofs.Next.{next_left}
+pub use Rattle.lite_views.proofs.Nth.{nth_left}
 pub use Rattle.lite_views.proofs.OkLists.{ok_seen}
-pub use Rattle.lite_views.proofs.Picking.{or_at_once, or_picked, polled_at_once, race_picked, try_at_once, try_both, try_fails_at_once, try_first_fails, try_second_fails}
-pub use Rattle.lite_views.proofs.SourceLists.{array_gives, called_on, empty_lists, once_at_once, once_fronts, once_future_lists, once_lists, polled_on, range_gives, repeated_on, slice_gives, vec_gives}
-pub use Rattle.lite_views.proofs.Streams.{bytes_lists, pieces_listed}
+pub use Rattle.lite_views.proofs.Once.{once_at_once, once_fronts, once_lists}
+pub use Rattle.lite_views.proofs.OnceFuture.{once_future_lists}
+pub use Rattle.lite_views.proofs.Partition.{accepted_made, others_made}
+pub use Rattle.lite_views.proofs.Picking.{or_at_once, or_picked, polled_at_once, race_picked, try_at_once, try_both, try_fails_at_once, try_first_fails}
+pub use Rattle.lite_views.proofs.Picking.{try_second_fails}
+pub use Rattle.lite_views.proofs.Pieces.{pieces_listed}
+pub use Rattle.lite_views.proofs.PollFn.{polled_on}
+pub use Rattle.lite_views.proofs.Position.{position_made}
+pub use Rattle.lite_views.proofs.ReadExact.{exactly_read}
+pub use Rattle.lite_views.proofs.Repeat.{repeated_on}
+pub use Rattle.lite_views.proofs.RepeatWith.{called_on}
+pub use Rattle.lite_views.proofs.Scan.{scan_fewer, scanned_fits}
+pub use Rattle.lite_views.proofs.SkipWhile.{skipped_while_fits}
+pub use Rattle.lite_views.proofs.TakeWhile.{taken_while_fits}
 pub use Rattle.lite_views.proofs.Texts.{all_read_text, text_left}
+pub use Rattle.lite_views.proofs.TryCollect.{try_collect_made}
+pub use Rattle.lite_views.proofs.TryFold.{try_fold_made}
+pub use Rattle.lite_views.proofs.TryForEach.{try_for_each_made}
+pub use Rattle.lite_views.proofs.TryNext.{try_next_left}
 pub use Rattle.lite_views.proofs.Unfold.{try_unfolded_lists, unfolded_lists}
 pub use Rattle.lite_views.proofs.Until.{read_piece, read_text_line}
+pub use Rattle.lite_views.proofs.Unzip.{unzip_made}
 pub use Rattle.lite_views.proofs.Views.{lent_lists, listed_through, seen}
 pub use Rattle.lite_views.proofs.Waiting.{left_seen}
-pub use Rattle.lite_views.proofs.Writing.{copy_left, on_each, written_left}
+pub use Rattle.lite_views.proofs.WriteAll.{written_left}
 pub use Rattle.lite_views.specs.Acting.{ActsAsOnState}
 pub use Rattle.lite_views.specs.Answering.{HasOk, HasValueAs, PickedValue}
 unfoldable pub use Rattle.lite_views.specs.Answering.{AtOnce, NeverReady}

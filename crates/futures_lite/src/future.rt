@@ -7,11 +7,11 @@ ghost use Rattle.futures_lite.specs.Uses.{AtOnce, HasOk, HasValueAs, NeverReady,
 pub use lite_base::Future;
 pub use lite_base::future::block_on::BlockOn;
 use lite_base::future::make;
-use lite_base::{Context, Poll};
 pub use lite_base::future::make::{fuse, poll_once, yield_now, zip};
 pub use lite_base::future::{
     Fuse, Or, Pending, PollFn, PollOnce, Race, Ready, TryZip, YieldNow, Zip,
 };
+use lite_base::{Context, Poll};
 use rand_core::{Rng, SeedableRng};
 use rand_pcg::Pcg32;
 use std::alloc::{AllocError, AllocGlobal};
@@ -29,7 +29,7 @@ use std::sync::Wait;
 ///
 /// assert_eq!(rt; future::block_on(&rt, future::ready(7u8))?, 7);
 /// ```
-#[tactic(auto, using(lite_views::proofs::Holding::ready_value, lite_views::proofs::Picking::ready_at_once))]
+#[tactic(auto, using(lite_views::proofs::Ready::ready_value, lite_views::proofs::Ready::ready_at_once))]
 pub fn ready<T>(value: T) -> Ready<T>
     ensures parts { result ≡ record { value = Some value } }
     ensures value { HasValue ⟦<Ready<T> as Future>⟧.run result value }

@@ -323,7 +323,7 @@ where
 ///
 /// assert_eq!(rt; never(&rt)?, None);
 /// ```
-#[tactic(auto, using(lite_views::proofs::SourceLists::pending_never))]
+#[tactic(auto, using(lite_views::proofs::Pending::pending_never))]
 pub fn pending<T>() -> Pending<T>
     ensures made { result ≡ record { item = record {} } }
     ensures never { NeverReady {A = Option T} ⟦<Pending<T> as Stream>⟧.run result }
@@ -391,7 +391,7 @@ where
 /// assert_eq!(rt; future::block_on(&rt, future::poll_once(scripted.next()))?, Some(Some(7)));
 /// assert_eq!(rt; future::block_on(&rt, future::poll_once(scripted.next()))?, Some(None));
 /// ```
-#[tactic(auto, using(lite_views::proofs::SourceLists::script_lists, lite_views::proofs::SourceLists::script_fronts))]
+#[tactic(auto, using(lite_views::proofs::Script::script_lists, lite_views::proofs::Script::script_fronts))]
 pub fn script<T>(answers: Vec<Poll<Option<T>>>) -> Script<T>
     ensures made { result ≡ answers.items }
     ensures lists { ListsAs ⟦<Script<T> as Stream>⟧.run result (items_in (until_end answers.items)) }
@@ -905,7 +905,7 @@ pub trait StreamExt: Stream {
     ///
     /// assert_eq!(rt; firsts(&rt)?.as_slice(), [1, 2].as_slice());
     /// ```
-    #[tactic(auto, using(lite_views::proofs::Views::seen, lite_views::proofs::Adapting::taken_lists, lite_views::proofs::Adapting::taken_whole, lite_views::proofs::Adapting::repeated_lists))]
+    #[tactic(auto, using(lite_views::proofs::Views::seen, lite_views::proofs::Take::taken_lists, lite_views::proofs::Take::taken_whole, lite_views::proofs::Take::repeated_lists))]
     final fn take(self, n: usize) -> Take<Self>
     where
         Self: Sized,
@@ -1015,7 +1015,7 @@ pub trait StreamExt: Stream {
     ///
     /// assert_eq!(rt; rest(&rt)?.as_slice(), [2, 3].as_slice());
     /// ```
-    #[tactic(auto, using(lite_views::proofs::Views::seen, lite_views::proofs::Adapting::skipped_lists))]
+    #[tactic(auto, using(lite_views::proofs::Views::seen, lite_views::proofs::Skip::skipped_lists))]
     final fn skip(self, n: usize) -> Skip<Self>
     where
         Self: Sized,
@@ -1081,7 +1081,7 @@ pub trait StreamExt: Stream {
     ///
     /// assert_eq!(rt; seconds(&rt)?.as_slice(), [0, 2, 4].as_slice());
     /// ```
-    #[tactic(auto, using(lite_views::proofs::Views::seen, lite_views::proofs::Adapting::stepped_lists, lite_views::proofs::Adapting::step_fewer))]
+    #[tactic(auto, using(lite_views::proofs::Views::seen, lite_views::proofs::StepBy::stepped_lists, lite_views::proofs::StepBy::step_fewer))]
     final fn step_by(self, step: usize) -> StepBy<Self>
     where
         Self: Sized,
@@ -1114,7 +1114,7 @@ pub trait StreamExt: Stream {
     /// let joined = joined(&rt, vec![in rt.alloc(); 1, 2]?, vec![in rt.alloc(); 7, 8]?)?;
     /// assert_eq!(rt; joined.as_slice(), [1, 2, 7, 8].as_slice());
     /// ```
-    #[tactic(auto, using(lite_views::proofs::Adapting::joined_lists))]
+    #[tactic(auto, using(lite_views::proofs::Chain::joined_lists))]
     final fn chain<U>(self, other: U) -> Chain<Self, U>
     where
         Self: Sized,
@@ -1150,7 +1150,7 @@ pub trait StreamExt: Stream {
     /// let pairs = pairs(&rt, vec![in rt.alloc(); 1, 2, 3]?, vec![in rt.alloc(); 4, 5]?)?;
     /// assert_eq!(rt; pairs.as_slice(), [(1, 4), (2, 5)].as_slice());
     /// ```
-    #[tactic(auto, using(lite_views::proofs::Adapting::paired_lists))]
+    #[tactic(auto, using(lite_views::proofs::Zip::paired_lists))]
     final fn zip<U>(self, other: U) -> Zip<Self, U>
     where
         Self: Sized,
@@ -1264,7 +1264,7 @@ pub trait StreamExt: Stream {
     /// let got = future::block_on(&rt, merged.collect::<BTreeSet<_>>(rt.alloc()))??;
     /// assert!(rt; got.iter().copied().eq([0, 1, 2, 7, 8].into_iter()));
     /// ```
-        final fn race<S, R>(self, other: S, rng: R) -> Race<Self, S, R>
+    final fn race<S, R>(self, other: S, rng: R) -> Race<Self, S, R>
     where
         Self: Sized,
         S: Stream<Item = Self::Item>,
@@ -1372,7 +1372,7 @@ pub trait StreamExt: Stream {
     ///     assert_eq!(rt; future::block_on(&rt, future::poll_once(paced.next()))?, expected);
     /// }
     /// ```
-    #[tactic(auto, using(lite_views::proofs::Views::seen, lite_views::proofs::Adapting::paced_lists))]
+    #[tactic(auto, using(lite_views::proofs::Views::seen, lite_views::proofs::Budgeted::paced_lists))]
     final fn with_budget(self, items: usize) -> Budgeted<Self>
     where
         Self: Sized,
@@ -1448,7 +1448,7 @@ pub trait StreamExt: Stream {
     ///
     /// assert_eq!(rt; first(&rt)?, Some(1));
     /// ```
-    #[tactic(auto, using(lite_views::proofs::Views::seen, lite_views::proofs::Adapting::copied_lists))]
+    #[tactic(auto, using(lite_views::proofs::Views::seen, lite_views::proofs::Copied::copied_lists))]
     final fn copied<'a, T: 'a>(self) -> Copied<Self>
     where
         Self: Stream<Item = &'a T> + Sized,
@@ -1527,7 +1527,7 @@ pub trait StreamExt: Stream {
     /// assert_eq!(rt; future::block_on(&rt, fused.next())?, None);
     /// assert_eq!(rt; future::block_on(&rt, fused.next())?, None);
     /// ```
-    #[tactic(auto, using(lite_views::proofs::Views::seen, lite_views::proofs::Adapting::fused_lists))]
+    #[tactic(auto, using(lite_views::proofs::Views::seen, lite_views::proofs::Fuse::fused_lists))]
     final fn fuse(self) -> Fuse<Self>
     where
         Self: Sized,
@@ -1559,7 +1559,7 @@ pub trait StreamExt: Stream {
     /// let numbered = numbered(&rt, 'a', 'b')?;
     /// assert_eq!(rt; numbered.as_slice(), [(0, 'a'), (1, 'b')].as_slice());
     /// ```
-    #[tactic(auto, using(lite_views::proofs::Views::seen, lite_views::proofs::Adapting::enumerated_lists))]
+    #[tactic(auto, using(lite_views::proofs::Views::seen, lite_views::proofs::Enumerate::enumerated_lists))]
     final fn enumerate(self) -> Enumerate<Self>
     where
         Self: Sized,
@@ -1635,7 +1635,7 @@ pub trait StreamExt: Stream {
     /// assert_eq!(rt; future::block_on(&rt, numbers.next())?, Some(2));
     /// assert_eq!(rt; future::block_on(&rt, numbers.next())?, None);
     /// ```
-    #[tactic(auto, using(lite_views::proofs::Views::seen, lite_views::proofs::Consuming::next_value, lite_views::proofs::Consuming::next_on, lite_views::proofs::Consuming::next_at_once))]
+    #[tactic(auto, using(lite_views::proofs::Views::seen, lite_views::proofs::Next::next_value, lite_views::proofs::Next::next_on, lite_views::proofs::Next::next_at_once))]
     final fn next<'a>(&'a mut self) -> NextFuture<'a, Self>
     where
         Self: Sized,
@@ -1676,7 +1676,7 @@ pub trait StreamExt: Stream {
     /// assert_eq!(rt; future::block_on(&rt, results.try_next())?, Err("error"));
     /// assert_eq!(rt; future::block_on(&rt, results.try_next())?, Ok(None));
     /// ```
-    #[tactic(auto, using(lite_views::proofs::Views::seen, lite_views::proofs::Consuming::try_next_value))]
+    #[tactic(auto, using(lite_views::proofs::Views::seen, lite_views::proofs::TryNext::try_next_value))]
     final fn try_next<'a, T, E>(&'a mut self) -> TryNextFuture<'a, Self>
     where
         Self: Stream<Item = Result<T, E>> + Sized,
@@ -1710,7 +1710,7 @@ pub trait StreamExt: Stream {
     ///
     /// assert_eq!(rt; evens(&rt, vec![in rt.alloc(); 1, 2, 3, 4]?)?, 2);
     /// ```
-    #[tactic(auto, using(lite_views::proofs::Views::seen, lite_views::proofs::Consuming::counted_value))]
+    #[tactic(auto, using(lite_views::proofs::Views::seen, lite_views::proofs::Count::counted_value))]
     final fn count(self) -> CountFuture<Self>
     where
         Self: Counted + Sized,
@@ -1820,7 +1820,7 @@ pub trait StreamExt: Stream {
     /// assert_eq!(rt; future::block_on(&rt, numbers.nth(0))?, Some(3));
     /// assert_eq!(rt; future::block_on(&rt, numbers.nth(0))?, None);
     /// ```
-    #[tactic(auto, using(lite_views::proofs::Views::seen, lite_views::proofs::Consuming::nth_value))]
+    #[tactic(auto, using(lite_views::proofs::Views::seen, lite_views::proofs::Nth::nth_value))]
     final fn nth(&mut self, n: usize) -> NthFuture<'_, Self>
     where
         Self: Sized,
@@ -1853,7 +1853,7 @@ pub trait StreamExt: Stream {
     /// assert_eq!(rt; last(&rt)?, Some(4));
     /// assert_eq!(rt; future::block_on(&rt, stream::empty::<u8>().last())?, None);
     /// ```
-    #[tactic(auto, using(lite_views::proofs::Views::seen, lite_views::proofs::Consuming::last_value))]
+    #[tactic(auto, using(lite_views::proofs::Views::seen, lite_views::proofs::Last::last_value))]
     final fn last(self) -> LastFuture<Self>
     where
         Self: Counted + Sized,

@@ -4,7 +4,7 @@ use Rattle.lite_views.specs.Uses.{TryCollect, sym, append_assoc, append-nil, Pol
 use Rattle.lite_views.specs.Uses.{fold_of, consumes_steps, Consume, tries_collect, TryCollectError}
 use Rattle.lite_views.specs.Views.{ValueHolds}
 use Rattle.lite_views.proofs.Views.{value_holds}
-use Rattle.lite_views.proofs.Consuming.{WhereSome, where_some}
+use Rattle.lite_views.proofs.Gathering.{WhereSome, where_some}
 use Rattle.lite_views.specs.OkLists.{AllTaken, OkFits, OkLists}
 
 module _ {C T E Y : Type 0} (may_refuse : C → T → Type 0) (holds : C → List T → Type 0) (f : T → Y) where

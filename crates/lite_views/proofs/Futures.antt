@@ -1,4 +1,5 @@
--- The futures that read from a reader of which it is known what bytes are to come.
+-- What futures share that were waited for; what those share that read from a reader of which it is known what bytes are
+-- to come; and `read_to_end`, whose lemma `read_to_string` shares.
 use Rattle.std.specs.Prelude.{◌≡◌, ℕ, List, [], ◌∷◌, ◌++◌, ⊤, Result, Ok, Err, IfOk}
 use Rattle.std.proofs.Common.{◌+◌}
 use Rattle.lite_views.specs.Uses.{length, ap, sym, subst, arith, append_assoc, append-nil, length-append, FoldsTo, Error, Poll, Ready, Pending, Gives}

@@ -1,10 +1,10 @@
--- The items of an adapter that holds what was made of an item: `then`, `cloned`, `flatten` and `flat_map`.
-use Rattle.lite_base.specs.declared.future.ready.Ready.{Ready as ReadyFuture}
+-- The items of `then` and `cloned`, which share one lemma, and of `flatten` and `flat_map`, which share another: these
+-- adapters hold what was made of an item.
 use Rattle.std.specs.Prelude.{◌≡◌, List, [], ◌∷◌, ◌++◌, map, refl, ⊤, Option, Some, None, Result, Ok, flat_map}
 use Rattle.lite_views.specs.Uses.{inl, inr, ap, sym, subst, append-nil, Called, Mut, AllByRecursion, Bor, Poll, Ready, Pending, Answer, Gives, Waiting, end}
-use Rattle.lite_views.specs.Uses.{Always, Calls, handed, GivesHeld, Question, Runs, Clones, IsCloneRefusal, Refers, Flat, Flattening, FlatMaps, FlatMap}
-use Rattle.lite_views.specs.Uses.{Expanding, Expands, HandsOut, Exchanges}
-use Rattle.lite_views.proofs.Adapting.{continued_fits, endless_fits}
+use Rattle.lite_views.specs.Uses.{Always, Calls, handed, Question, Runs, Clones, IsCloneRefusal, Refers, Flat, Flattening, FlatMaps, FlatMap, Expanding}
+use Rattle.lite_views.specs.Uses.{Expands, HandsOut, Exchanges}
+use Rattle.lite_views.proofs.Continuing.{continued_fits, endless_fits}
 use Rattle.lite_views.proofs.Views.{Carries, listed}
 use Rattle.lite_views.specs.Views.{Fits, HasValue, Lists, ListsAs}
 
@@ -70,18 +70,6 @@ awaited_fits call run h f acts =
           rw (s.joined, s.later, append-nil, ← a.1 s.ins s.value s.finishes)
           (gives_handed s.ins s.value s.finishes.gives),
     ))
-
--- `ready`
-held_value : {A : Type 0} (x w : A) (ins : List (Poll A)) (left : Option A) → Gives ins w
-    → GivesHeld (Some x) ins left → w ≡ x
-held_value x w [] left g h = absurd g
-held_value x w (Pending ∷ ins) left g h = cc
-held_value x w (Ready y ∷ ins) left g h = cc
-
-pub ready_value : {A : Type 0} (x : ReadyFuture A) (v : A) → x.value ≡ Some v
-    → HasValue (λ (y : ReadyFuture A) l z. GivesHeld y.value l z.value) x v
-unfolding HasValue
-ready_value x v e ins w f = held_value v w ins f.last.value f.gives (rw e at f.came)
 
 -- `cloned`, where a clone is not refused and is equal
 module _ {T E : Type 0} (is_clone : T → T → Type 0) (is_infallible : T → Type 0)

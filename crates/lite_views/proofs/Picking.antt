@@ -1,11 +1,10 @@
--- The values of futures that are waited for together.
-use Rattle.lite_base.specs.declared.future.ready.Ready.{Ready as ReadyFuture}
+-- The values of `or`, `race`, `try_zip` and `poll_fn`, which share their first lemmas; and that `pending` has none.
 use Rattle.lite_base.specs.declared.future.pending.Pending.{Pending as PendingFuture}
 use Rattle.lite_base.specs.declared.future.poll_fn.PollFn.{PollFn}
-use Rattle.std.specs.Prelude.{◌≡◌, ◌+◌, ◌⊎◌, ⊤, List, [], ◌∷◌, ◌++◌, map, refl, Bool, true, Option, Some, None, Result, Ok, Err}
-use Rattle.lite_views.specs.Uses.{length, inl, inr, ap, sym, subst, arith, AllByRecursion, Stream, Poll, Ready, Pending, Gives, Waiting, Finishes, Runs}
-use Rattle.lite_views.specs.Uses.{Stands, FutureOrs, PickRow, PickRows, Picks, FutureRacesOn, is_first, GivesHeld, PairRows, TryZips, try_pair}
-use Rattle.lite_views.specs.Uses.{Called, Context, MutBor, Polled, Poller, waiting_not_gives, rows_by, Half, Asked, Gave, Taken, Or, Race, TryZip}
+use Rattle.std.specs.Prelude.{◌≡◌, ◌+◌, ◌⊎◌, ⊤, List, [], ◌∷◌, ◌++◌, map, refl, Bool, true, Result, Ok, Err}
+use Rattle.lite_views.specs.Uses.{length, inl, inr, ap, sym, subst, arith, AllByRecursion, Stream, Poll, Ready, Pending, Gives, Waiting, Finishes, Runs, Stands}
+use Rattle.lite_views.specs.Uses.{FutureOrs, PickRow, PickRows, Picks, FutureRacesOn, is_first, PairRows, TryZips, try_pair, Called, Context, MutBor, Polled}
+use Rattle.lite_views.specs.Uses.{Poller, waiting_not_gives, rows_by, Half, Asked, Gave, Taken, Or, Race, TryZip}
 use Rattle.lite_views.specs.Answering.{AtOnce, HasOk, HasValueAs, NeverReady, PickedValue}
 use Rattle.lite_views.specs.Futures.{TryZipRuns}
 use Rattle.lite_views.specs.Views.{HasValue, ValueIs}
@@ -60,17 +59,7 @@ module _ {F A : Type 0} (run : Runs (Poll A) F) (f : F) where
   unfolding HasValue
   has_value v has = (refl, value_holds run f (λ w. w ≡ v) has)
 
--- `ready` returns its value at the first poll, and `pending` never returns one.
-at_once_held : {A : Type 0} (x : A) (a : Poll A) (l : List (Poll A)) (held left : Option A) → held ≡ Some x
-    → GivesHeld held (a ∷ l) left → a ≡ Ready x
-at_once_held x a l None left e h = absurd h
-at_once_held x a l (Some y) left e h = let k = h.0 in cc
-
-pub ready_at_once : {A : Type 0} (x : ReadyFuture A) (v : A) → x.value ≡ Some v
-    → AtOnce (λ (y : ReadyFuture A) l z. GivesHeld y.value l z.value) x v
-unfolding AtOnce
-ready_at_once x v e a l y h = at_once_held v a l x.value y.value e h
-
+-- `pending` never returns a value.
 pub pending_never : {A : Type 0} (x : PendingFuture A)
     → NeverReady (λ (y : PendingFuture A) (l : List (Poll A)) z. Waiting l × (z ≡ y)) x
 unfolding NeverReady
@@ -260,7 +249,8 @@ module _ {F G A B E : Type 0} (run : Runs (Poll (Result A E)) F) (run' : Runs (P
   unfolding HasValue
   try_value a b has has' is_first =
       let all : HasValue (TryZipRuns run run') x (try_pair a b) = λ ins u d.
-      try_runs_value a b has has' is_first x.first d.last.first x.second d.last.second ins u asked asked' d.gives d.came in
+      try_runs_value a b has has' is_first x.first d.last.first x.second d.last.second ins u asked asked' d.gives
+      d.came in
       (has_value (TryZipRuns run run') x (try_pair a b) all, all)
 
   -- The first returns its value at its first poll.
@@ -357,7 +347,8 @@ module _ {F G A B E : Type 0} (run : Runs (Poll (Result A E)) F) (run' : Runs (P
       by_answer (Ready s) out (Ready r ∷ ins) g k l came =
           rw (← same_error r e h.error k.0 (once (Ready r) ins h.last came)) (ap Ready g.0)
 
-  pub try_fails_at_once : (e : E) → AtOnce run f (Err e) → ValueIs (TryZipRuns run run') x (Err e) × AtOnce (TryZipRuns run run') x (Err e)
+  pub try_fails_at_once : (e : E) → AtOnce run f (Err e)
+      → ValueIs (TryZipRuns run run') x (Err e) × AtOnce (TryZipRuns run run') x (Err e)
   unfolding AtOnce
   try_fails_at_once e once =
       let all : AtOnce (TryZipRuns run run') x (Err e) = λ a l y h.
@@ -370,6 +361,7 @@ pub polled_at_once : {F A : Type 0} (g : Poller F A) (x : PollFn F) (v : A)
     → HasValueAs (λ (p : PollFn F) l q. Polled g p.f l q.f) x v × AtOnce (λ (p : PollFn F) l q. Polled g p.f l q.f) x v
 unfolding AtOnce
 polled_at_once {F} g x v acts =
-    let once : AtOnce (λ (p : PollFn F) l q. Polled g p.f l q.f) x v = λ a ins q h. acts h.1.1.0 h.1.1.1 a h.1.0 h.1.1.2 in
+    let once : AtOnce (λ (p : PollFn F) l q. Polled g p.f l q.f) x v = λ a ins q h.
+    acts h.1.1.0 h.1.1.1 a h.1.0 h.1.1.2 in
     let all = once_value (λ (p : PollFn F) l q. Polled g p.f l q.f) x v once in
     ((has_value (λ (p : PollFn F) l q. Polled g p.f l q.f) x v all, all), once)

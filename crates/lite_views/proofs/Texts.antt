@@ -1,4 +1,4 @@
--- The futures that read a text from a reader of which it is known what bytes are to come.
+-- What `read_line` and `read_to_string` share, of a reader of which it is known what bytes are to come; and the latter.
 use Rattle.std.specs.Prelude.{◌≡◌, ℕ, List, [], ◌∷◌, ◌++◌, refl, ⊤, Result, Ok, Err, IfOk}
 use Rattle.lite_views.specs.Uses.{ReadMark, TextOver, TextStays, Runs, Known, Knows, ◌∙◌, length, inl, inr, ap, sym, arith, FoldsTo, Error, ReadFold, appends}
 use Rattle.lite_views.specs.Uses.{AppendsText, Reading, ValueOf, in_text, reading, ReadsText}

@@ -1,9 +1,9 @@
--- `read_until` and `read_line` of a reader of which it is known what bytes are to come.
+-- `read_until` and `read_line` of a reader of which it is known what bytes are to come. They share one lemma.
 use Rattle.std.specs.Prelude.{◌≡◌, ℕ, List, [], ◌∷◌, ◌++◌, refl, ⊤, Result, Ok, Err, IfOk}
 use Rattle.lite_views.specs.Uses.{take-length, drop-length, ◌∙◌, length, take, drop, ap, sym, append_assoc, append-nil, take-append-drop, FoldsTo, Error}
 use Rattle.lite_views.specs.Uses.{TellsKnown, ReadMark, Cut, CutsPiece, CountsPiece, until, Reading, in_text, behind, through_first}
 use Rattle.lite_views.proofs.Futures.{TakenUp}
-use Rattle.lite_views.proofs.Streams.{equal, not_equal}
+use Rattle.lite_views.proofs.Equal.{equal, not_equal}
 use Rattle.lite_views.proofs.Texts.{under_text}
 
 module _ (at : ℕ) where

@@ -1,38 +1,12 @@
--- The streams over a reader of which it is known what bytes are to come.
+-- The pieces of a reader of which it is known what bytes are to come: what `split` and `lines` share.
 use Rattle.lite_views.proofs.OkLists.{ok_seen}
-use Rattle.lite_views.proofs.Views.{listed}
-use Rattle.std.specs.Prelude.{◌≡◌, ℕ, List, [], ◌∷◌, ◌++◌, map, refl, ◌==◌, ⊤, true, false, Option, Some, None, Result, Ok, Err}
-use Rattle.std.proofs.Common.{◌<◌, ◌≢◌}
-use Rattle.lite_views.specs.Uses.{Bytes, ◌∙◌, length, inl, inr, ap, subst, arith, eqb_tells, FoldsTo, Error, Ready, Pending, Answer, Runs, TellsKnown, Known}
-use Rattle.lite_views.specs.Uses.{Knows, spends_bytes, spends_split, knows_spends, ReadMark, bytes, Cut, CutsPiece, Itemised, pieces, PieceSegments, Flows}
-use Rattle.lite_views.specs.Uses.{StreamOver, TellsEach, TellsBytes, AnswerMarks, ReadFold, last_piece, pieces_from}
-use Rattle.lite_views.specs.Views.{Fits, ListsAs}
+use Rattle.std.specs.Prelude.{◌≡◌, ℕ, List, [], ◌∷◌, ◌++◌, refl, ⊤, Option, Some, None, Result, Ok, Err}
+use Rattle.std.proofs.Common.{◌<◌}
+use Rattle.lite_views.specs.Uses.{◌∙◌, length, ap, subst, arith, FoldsTo, Error, Ready, Pending, Answer, Runs, TellsKnown, Known, Knows, spends_bytes}
+use Rattle.lite_views.specs.Uses.{spends_split, knows_spends, ReadMark, bytes, Cut, CutsPiece, Itemised, pieces, PieceSegments, Flows, StreamOver, AnswerMarks}
+use Rattle.lite_views.specs.Uses.{ReadFold, last_piece, pieces_from}
 use Rattle.lite_views.specs.OkLists.{OkFits, OkLists, OkListsAs}
-
--- `bytes`
-bytes_fit : (marks : List ReadMark) (out : List (Answer (Result ℕ Error))) (bs ys : List ℕ) → TellsEach marks out
-    → TellsKnown bs marks ys → Fits out (map Ok bs)
-bytes_fit [] [] bs ys t h = tt
-bytes_fit (ReadMark.byte b ∷ marks) (Ready (Some (Ok x)) ∷ out) bs ys t h =
-    rw h.1 (ap Ok t.0, bytes_fit marks out h.0 ys t.1 h.2)
-bytes_fit (ReadMark.pending ∷ marks) (Pending ∷ out) bs ys t h = bytes_fit marks out bs ys t.1 h
-bytes_fit (ReadMark.fault kind ∷ marks) (a ∷ out) bs ys t h = absurd h
-bytes_fit (ReadMark.end ∷ marks) (Ready None ∷ out) bs ys t h = ap (map Ok) h.0
-bytes_fit (_ ∷ marks) (_ ∷ out) bs ys t h = absurd t.0
-bytes_fit _ _ bs ys t h = absurd t
-
-pub bytes_lists : {R : Type 0} (reads : Runs ReadMark R) (known : Known R) (x : Bytes R)
-    → Knows reads known x.inner → ListsAs (TellsBytes reads) x (map Ok (known.left x.inner))
-bytes_lists reads known x knows =
-    listed (TellsBytes reads) x (map Ok (known.left x.inner))
-    (λ l y r. bytes_fit r.marks l (known.left x.inner) (known.left y.inner) r.told
-    (knows_spends reads known x.inner y.inner r.marks knows r.came))
-
-pub not_equal : (b at : ℕ) → b ≢ at → (b == at) ≡ false
-not_equal b at n = elim (eqb_tells b at) as (λ _. (b == at) ≡ false) [ inl h ↦ absurd (n h.1) | inr h ↦ h.0 ]
-
-pub equal : (b : ℕ) → (b == b) ≡ true
-equal b = elim (eqb_tells b b) as (λ _. (b == b) ≡ true) [ inl h ↦ h.0 | inr h ↦ absurd (h.1 refl) ]
+use Rattle.lite_views.proofs.Equal.{equal, not_equal}
 
 -- The pieces of a reader: `at` ends one, and h is made of it; f is what an item holds.
 module _ {A : Type 0} (at : ℕ) (whole final : List ℕ → Result A Error → Type 0) (h : List ℕ → List ℕ) (f : A → List ℕ)

@@ -1,0 +1,47 @@
+-- What an adapter makes of items, for the relations that exchange items or leave some out.
+use Rattle.std.specs.Prelude.{◌≡◌, List, [], ◌∷◌, refl, Option, Some, None}
+use Rattle.lite_views.specs.Uses.{Ready, Pending, Answer, item, Question, Exchanges, leaves_steps, LeavesOut}
+use Rattle.lite_views.proofs.Views.{Carries}
+use Rattle.lite_views.specs.Views.{Fits}
+
+-- `made p xs` are the items that come out of xs from the state p on
+module _ {F A B : Type 0} (call : Question F A (Option B)) (Good : F → Type 0) (made : F → List A → List B)
+    (nothing : (p : F) → Good p → made p [] ≡ [])
+    (gives : (p q : F) (x : A) (y : B) (xs : List A) → Good p → call p x (Some y) q → (made p (x ∷ xs) ≡ y ∷ made q xs)
+    × Good q) where
+  -- where one answer comes out for each that came in
+  module _ (stops : (p q : F) (x : A) (xs : List A) → Good p → call p x None q → made p (x ∷ xs) ≡ []) where
+    pub exchanged_fits : (p : F) (xs : List A) → Good p → Carries (Exchanges call) p xs (made p xs)
+    exchanged_fits p xs g [] (b ∷ o) q e h = absurd h
+    exchanged_fits p xs g (Pending ∷ i) (b ∷ o) q e h = rw h.0 (exchanged_fits p xs g i o q e h.1)
+    exchanged_fits p xs g (Ready None ∷ i) (b ∷ o) q e h = rw (h.0, e) (nothing p g)
+    exchanged_fits p [] g (Ready (Some x) ∷ i) (b ∷ o) q e h = absurd e
+    exchanged_fits p (y ∷ xs) g (Ready (Some x) ∷ i) (b ∷ o) q e (None, r, same, called, more) =
+        rw (same, ← e.0) (stops p r x xs g called)
+    exchanged_fits p (y ∷ xs) g (Ready (Some x) ∷ i) (b ∷ o) q e (Some z, r, same, called, more) =
+        let step = gives p r x z xs g called in
+        rw (same, ← e.0, step.0) (refl, exchanged_fits r xs step.1 i o q e.1 more)
+    exchanged_fits p xs g _ [] q e h = tt
+
+  -- where some items are left out
+  module _ (drops : (p q : F) (x : A) (xs : List A) → Good p → call p x None q → (made p (x ∷ xs) ≡ made q xs) × Good q)
+    where
+      -- the answers o come of the answers i
+      abbrev Left : F → List (Answer A) → List (Answer B) → Type 0
+      Left p i o = (xs : List A) → Good p → Fits i xs → Fits o (made p xs)
+
+      module _ (p m : F) (x : A) (i : List (Answer A)) where
+        one_rejected : (b : Answer B) (o : List (Answer B)) → call p x None m → Left m i (b ∷ o)
+            → Left p (item x ∷ i) (b ∷ o)
+        one_rejected b o t k [] g e = absurd e
+        one_rejected b o t k (z ∷ xs) g e = let step = drops p m x xs g t in rw (← e.0, step.0) (k xs step.1 e.1)
+
+        one_kept : (y : B) (o : List (Answer B)) → call p x (Some y) m → Left m i o → Left p (item x ∷ i) (item y ∷ o)
+        one_kept y o t k [] g e = absurd e
+        one_kept y o t k (z ∷ xs) g e =
+            let step = gives p m x y xs g t in rw (← e.0, step.0) (refl, k xs step.1 e.1)
+
+      pub left_fits : (p : F) (xs : List A) → Good p → Carries (LeavesOut call) p xs (made p xs)
+      left_fits p xs g i o q e h =
+          leaves_steps call Left one_rejected (λ p i o k. k) (λ p i o k xs g e. rw e (nothing p g)) one_kept p q i o
+          (λ xs g e. tt) h xs g e

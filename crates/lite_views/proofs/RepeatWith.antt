@@ -1,0 +1,16 @@
+-- The item of `repeat_with`, if its function always returns that.
+use Rattle.std.specs.Prelude.{◌≡◌, refl}
+use Rattle.lite_views.specs.Uses.{Call, Called, Mut, RepeatWith, RepeatsWith}
+use Rattle.lite_views.specs.Views.{Seen, GoesOn}
+use Rattle.lite_views.proofs.Views.{seen}
+use Rattle.lite_views.proofs.Repeating.{stepped_on}
+
+pub called_on : {F A : Type 0} (g : Mut F (Unit {0}) A) (x : RepeatWith F) (y : A)
+    → ((v : A) (q : F) → Called g x.f tt v q → (q ≡ x.f) × (v ≡ y))
+    → Seen x y × GoesOn (λ (p : RepeatWith F) l q. RepeatsWith g p.f l q.f) x y
+unfolding GoesOn
+called_on g x y acts = (
+  seen x y,
+  λ l z h.
+      stepped_on (Call g) x.f y (λ a q c. let made = acts c.0 q c.2 in (made.0, rw (← made.1) c.1)) x.f z.f l refl h,
+)

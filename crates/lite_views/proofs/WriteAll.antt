@@ -1,0 +1,52 @@
+-- `write_all` to a writer of which it is known what it keeps.
+use Rattle.std.specs.Prelude.{◌≡◌, ℕ, List, [], ◌∷◌, ◌++◌, map, refl, Result, Ok, Err, IfOk}
+use Rattle.lite_views.specs.Uses.{WriteAllFuture, ◌∙◌, ap, sym, append_assoc, FoldsTo, Error, Poll, Ready, Pending, Gives, segment_front, to_value_last, Runs}
+use Rattle.lite_views.specs.Uses.{Stored, Stores, stores_kept, WriteMark, bytes_taken, taken_both, Hands, Ended, HandsMarks, HandsOver, WritesAll}
+use Rattle.lite_views.proofs.Futures.{when_left}
+use Rattle.lite_views.specs.Waiting.{WhenLeft}
+
+abbrev writes_of : List (List ℕ) → List WriteMark
+writes_of = map WriteMark.wrote
+
+handed_bytes : (l : List (List ℕ)) (offered left : List ℕ) → FoldsTo Hands offered l left
+    → offered ≡ bytes_taken (writes_of l) ++ left
+handed_bytes [] offered left h = h
+handed_bytes (xs ∷ l) offered left h =
+    rw (h.1.1, handed_bytes l h.0 left h.2) (sym (append_assoc xs (bytes_taken (writes_of l)) left))
+
+ended_ok : (left : List ℕ) (last : List WriteMark) (u : Unit {0}) → Ended left last (Ok u) → (left ≡ []) × (last ≡ [])
+ended_ok left [] u e = (e.0, refl)
+ended_ok left (WriteMark.wrote [] ∷ []) u e = absurd e
+ended_ok left (WriteMark.fault kind ∷ []) u e = absurd e
+ended_ok left last u e = absurd e
+
+-- what was taken is what was offered
+pub all_handed : (out : List (Poll (Result (Unit {0}) Error))) (offered left : List ℕ) (marks : List WriteMark)
+    (u : Unit {0}) → HandsOver offered marks out left
+    → Gives out (Ok u) → bytes_taken marks ≡ offered
+all_handed [] offered left marks u h g = absurd g
+all_handed (Pending ∷ out) offered left marks u ((first, rest, m, cut, w, more), up) g =
+    rw (segment_front offered m marks first rest Pending w cut, w.given.0, taken_both)
+    (rw (all_handed out m left rest u (more, up) g, w.given.2) (sym (handed_bytes w.taken offered w.between w.folds)))
+all_handed (Ready r ∷ out) offered left marks u h g =
+    let w = to_value_last HandsMarks offered left marks r out h in
+    let over = ended_ok w.between w.last u (rw (← g.0) w.given.0) in
+    rw (w.cut, taken_both, over.1) (sym (rw over.0 at (handed_bytes w.taken offered w.between w.folds)))
+
+all_written : (v : Result (Unit {0}) Error) (out : List (Poll (Result (Unit {0}) Error)))
+    (offered left before after : List ℕ) (marks : List WriteMark)
+    → HandsOver offered marks out left → Gives out v → after ≡ before ++ bytes_taken marks
+    → IfOk v (λ u. after ≡ before ++ offered)
+all_written (Ok u) out offered left before after marks h g k = k ∙ rw (all_handed out offered left marks u h g)
+all_written (Err e) out offered left before after marks h g k = tt
+
+pub written_left : {W E : Type 0} (writes : Runs WriteMark W) (stored : Stored W) (x : WriteAllFuture W)
+    → Stores writes stored x.writer.now
+    → WhenLeft E (WritesAll writes) x (λ y. y.writer.ghost_name ≡ x.writer.ghost_name)
+    (λ y r. IfOk r (λ u. stored.kept y.writer.now ≡ stored.kept x.writer.now ++ x.buf.now))
+written_left writes stored x stores =
+    when_left (WritesAll writes) x (λ y. y.writer.ghost_name ≡ x.writer.ghost_name)
+    (λ y r. IfOk r (λ u. stored.kept y.writer.now ≡ stored.kept x.writer.now ++ x.buf.now)) refl
+    (λ ins y ran. ap (λ r. r.ghost_name) ran.stays)
+    (λ ins y v gives ran. all_written v ins x.buf.now y.buf.now (stored.kept x.writer.now) (stored.kept y.writer.now)
+    ran.marks ran.handed gives (stores_kept writes stored x.writer.now y.writer.now ran.marks stores ran.came))
