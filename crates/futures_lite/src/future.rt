@@ -192,7 +192,8 @@ where
 /// Returns a future that resolves to the pair of both values, or to the first error.
 ///
 /// Each poll polls each future that is not ready yet once, the first before the second. If the first future
-/// fails, the second is not polled in that poll. The futures and the values have to be `Drop`.
+/// fails, the second is not polled in that poll. The values have to be `Drop`. The result is a `Future` only
+/// if both futures are `Drop`, too.
 ///
 /// The contract says which value comes. It is the pair if neither future fails, and the error if only one of
 /// them does. If both fail, it is the first's error if its first poll returns that.
@@ -312,8 +313,8 @@ pub trait FutureExt: Future {
     /// Returns a future that resolves to the value of the future that is ready first. It prefers `self` if
     /// both are.
     ///
-    /// Each poll polls `self`, and then `other` only if `self` returned `Pending`. The contract says which value
-    /// comes, as that of the function [`or`] does.
+    /// Each poll polls `self`, and then `other` only if `self` returned `Pending`. The contract says which
+    /// value it resolves to, as that of the function [`or`] does.
     ///
     /// # Examples
     ///
