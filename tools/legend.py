@@ -33,15 +33,17 @@ def fields():
 
 
 def unexplained(item, listed):
-    """Returns the words of an item's contract that are no parameter, type, bound, field or name that is bound, and not listed in its entry."""
+    """Returns the words of an item's contract that are no parameter, type, bound, field or name that is bound, and not listed in its entry; one
+    that is a member of a type or a part of a value with the dot before it."""
     text = CLAUSE_NAME.sub(r"\1 {", text_of(item))
     # (a method may have the name of a function of lists that its contract means)
-    known = {*re.findall(NAME, f"{re.sub(r'fn [^(<]*', '', item.head)} {item.impl}"), *listed}
-    known.update(name for it in BINDERS for names in it.findall(text) for name in re.findall(NAME, names))
-    plain = fields() - WITH_MEANING
-    text = FIELDS.sub(lambda it: f"{it[1]} {' '.join(name for name in it[2].split('.') if name not in plain)}", text)
+    head = set(re.findall(NAME, f"{re.sub(r'fn [^(<]*', '', item.head)} {item.impl}"))
+    bound = {name for it in BINDERS for names in it.findall(text) for name in re.findall(NAME, names)}
+    known, plain = {*head, *bound, *listed, "_", "λ"}, fields() - WITH_MEANING
+    text = FIELDS.sub(lambda it: f"{it[1]} {' '.join(f'.{name}' for name in it[2].split('.') if name and name not in plain)}", text)
     text = VARIANT.sub(lambda it: it[1] if it[1] in {*listed, *legend()} else it[0], text)
-    return [it for it in dict.fromkeys(re.findall(NAME, text)) if it not in known and it not in ("_", "λ")]
+    words = dict.fromkeys(re.findall(rf"\.?{NAME}", text))
+    return [it for it in words if (it[1:] not in head if it.startswith(".") else it not in known)]
 
 
 @functools.cache

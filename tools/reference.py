@@ -185,7 +185,7 @@ class Reference:
         return [self.words[it] for it in at if it in self.words and self.words[it] is not word]
 
     def unexplained(self, item):
-        """Returns the words of an item's contract that its entry does not explain."""
+        """Returns the words of an item's contract that its entry does not explain; a member of a type with the dot before it."""
         source = self.sources.by_path[item.path]
         return [it for it in unexplained(item, [word.name for word in self.words_of(item)]) if not self.sources.resolve(source, it)]
 
@@ -195,13 +195,15 @@ class Reference:
         defined = at and self.words.get((*at, word))
         if defined:
             return f"{defined.says} ([{defined.module}](../../{defined.path}))"
-        if word in legend():
-            return legend()[word]
-        return " ".join(f"Of `{trait}`: {says}" for trait, says in members().get(word, ())) or None
+        name = word.removeprefix(".")
+        traits = {}
+        for trait, says in members().get(name, ()):
+            traits.setdefault(says, []).append(f"`{trait}`")
+        return legend().get(name) or " ".join(f"Of {' and '.join(of)}: {says}" for says, of in traits.items()) or None
 
     def legend_of(self, module):
         """Returns the table of the words that the contracts of a page have, and that their entries do not explain."""
-        rows = {word: self.meaning(word, it) for it in self.shown(module) for word in self.unexplained(it)}
+        rows = {word.removeprefix("."): self.meaning(word, it) for it in self.shown(module) for word in self.unexplained(it)}
         return table(["Word", "Meaning"], [[f"`{word}`", rows[word]] for word in sorted(rows, key=lambda it: (it.lower(), it)) if rows[word]])
 
     def faults(self):
@@ -210,7 +212,7 @@ class Reference:
         for module in MODULES:
             for title, item in self.sources.items_of(module).items():
                 words = self.unexplained(item)
-                used.update(words)
+                used.update(word.removeprefix(".") for word in words)
                 for word in words:
                     if not self.meaning(word, item):
                         yield f"{item.path}:{item.line}", f"nothing explains the word {word} of the contract of `{module}::{title}`; {LEGEND} may"
@@ -305,7 +307,8 @@ class Reference:
             section = f"{'' if module in there else f'{there[0]}.md'}#marks"
             alias = "" if base is item else f" It is a name for {self.link_from(module, base, f'`{base.name}`')}, and has the marks of that."
             links = ", ".join(self.mark_link(it, module) for it in marks)
-            yield wrapped(f"[Marks]({section}) of `{item.name}`: {links}. It has each of them if its type's arguments meet the bounds of that impl.{alias}")
+            given = " It has each of them if its type arguments meet the bounds of the impl." if "<" in base.head else ""
+            yield wrapped(f"[Marks]({section}) of `{item.name}`: {links}.{given}{alias}")
 
     def about_types(self, item, module):
         """Yields links to the types and the traits of other pages that an item's signature names."""
@@ -388,7 +391,8 @@ def is_type(item):
 
 
 def cited_in(item, names):
-    return list(cited(" ".join(re.findall(r"[\w'-]+", " ".join([*item.asks, *item.gives]))), names))
+    """Returns the ghost names in an item's contract, but for members of a type or of a value."""
+    return list(cited(re.sub(r"\.[\w']+", "", " ".join([*item.asks, *item.gives])), names))
 
 
 def code(lines, language="text"):
