@@ -21,8 +21,8 @@ FIELD = re.compile(rf"^ +(?:pub(?:\([^)]*\))? )?({NAME}) ?: ", re.M)
 
 
 def text_of(item):
-    """Returns an item's contract without the comments in it."""
-    return re.sub(r"//.*", "", "\n".join([*item.asks, *item.gives]))
+    """Returns an item's contract without the comments in it and the names of its clauses."""
+    return CLAUSE_NAME.sub(r"\1 {", re.sub(r"//.*", "", "\n".join([*item.asks, *item.gives])))
 
 
 @functools.cache
@@ -35,7 +35,7 @@ def fields():
 def unexplained(item, listed):
     """Returns the words of an item's contract that are no parameter, type, bound, field or name that is bound, and not listed in its entry; one
     that is a member of a type or a part of a value with the dot before it."""
-    text = CLAUSE_NAME.sub(r"\1 {", text_of(item))
+    text = text_of(item)
     # (a method may have the name of a function of lists that its contract means)
     head = set(re.findall(NAME, f"{re.sub(r'fn [^(<]*', '', item.head)} {item.impl}"))
     bound = {name for it in BINDERS for names in it.findall(text) for name in re.findall(NAME, names)}

@@ -4,7 +4,7 @@ import re
 import textwrap
 
 import pictures
-from legend import LEGEND, legend, members, unexplained
+from legend import LEGEND, legend, members, text_of, unexplained
 from repository import TOP, read_text
 from sources import MODULES, Sources
 from vocabulary import PLAIN, WIDTH, bullet, cited, definitions, imported, libraries, table, wrapped
@@ -278,7 +278,7 @@ class Reference:
         return [it for it in self.sources.items_of(module).values() if not (it.owner and it.does_nothing) or it.gives]
 
     def based(self, item):
-        """Returns the type that a type is; of an alias the one that it is another name for."""
+        """Returns a type itself, and of an alias the type that it is for."""
         while item.kind == "type" and (alias := re.match(r"type .*?= (\w*)", item.head)):
             named = self.sources.resolve(self.sources.by_path[item.path], alias[1])
             if not named:
@@ -287,7 +287,7 @@ class Reference:
         return item
 
     def marks_of(self, item):
-        """Returns the marks of a type, each for one of the traits that it has; a name for another type has that one's."""
+        """Returns the marks of a type, each for one of the traits that it has; an alias has those of its type."""
         item = self.based(item)
         return [mark for kind in KINDS for marks in self.tables[kind] if self.impls.get((kind, marks[0])) is item for mark in marks[1]]
 
@@ -305,10 +305,20 @@ class Reference:
         there = self.pages_with(base)
         if marks and there:
             section = f"{'' if module in there else f'{there[0]}.md'}#marks"
-            alias = "" if base is item else f" It is a name for {self.link_from(module, base, f'`{base.name}`')}, and has the marks of that."
+            alias = "" if base is item else f" It is an alias of {self.link_from(module, base, f'`{base.name}`')}, whose marks these are."
             links = ", ".join(self.mark_link(it, module) for it in marks)
             given = " It has each of them if its type arguments meet the bounds of the impl." if "<" in base.head else ""
             yield wrapped(f"[Marks]({section}) of `{item.name}`: {links}.{given}{alias}")
+
+    def about_fields(self, item, module):
+        """Yields the fields of a type that contracts on the page name. (Contracts do not name those of a type that has a model.)"""
+        names = [it for it in self.shown(module) if self.based(it) is item]
+        calls = [*(call for it in names for call in self.makers(it, module)), *self.sources.methods.get(item, ())]
+        named = {name for it in calls for name in re.findall(r"(?<=\.)\w+|\w+(?= = )", text_of(it))}
+        is_seen = not re.search(rf"\bModel for {item.name}\b", self.sources.by_path[item.path].text)
+        told = [f"`{name}: {of}`" for name, of in item.fields.items() if name in named]
+        if is_seen and told:
+            yield wrapped(f"Fields that contracts name: {', '.join(told)}.")
 
     def about_types(self, item, module):
         """Yields links to the types and the traits of other pages that an item's signature names."""
@@ -335,7 +345,8 @@ class Reference:
         parts = [f"### {heading(item)}", code([f"{head} {{", *map(plain, item.variants), "}"] if item.variants else within)]
         parts += self.about_types(item, module)
         parts += [laid_out(self.with_links(self.says_of(item, module), item, module))] if item.says else []
-        parts += self.about_result(item, module) if item.kind == "fn" else self.about_marks(item, module)
+        parts += self.about_result(item, module) if item.kind == "fn" else self.about_fields(item, module)
+        parts += self.about_marks(item, module) if item.kind != "fn" else []
         parts += [f"Example:\n\n{code([it], 'rust')}" for it in item.examples]
         picture = self.pictures.get(f"{module}::{item.title}")
         parts += [f"Polled so (`P` is `Pending`, `E` the end of the stream):\n\n{code(picture.lines())}\n\nThe same [as a picture](../{picture.file})."] if picture else []
@@ -346,7 +357,7 @@ class Reference:
         return "\n\n".join([*parts, f"Code: [{item.path}](../../{item.path})."])
 
     def marks(self, module):
-        """Yields the tables of the marks of a module's types, each row with its type's entry, and then the names that are for one of the types."""
+        """Yields the tables of the marks of a module's types, each row with its type's entry, and then the aliases of the types."""
         items = {id(it): it for it in self.sources.items_of(module).values()}
         for head, *rows in tables_of_marks():
             found = [(self.impls.get((head[0].strip("`"), re.match(r"\w*", row[0].strip("`"))[0])), row) for row in rows]
@@ -357,7 +368,7 @@ class Reference:
             for type_ in (it for it, _ in found if id(it) in items):
                 names = [it for it in items.values() if it is not type_ and self.based(it) is type_]
                 if names:
-                    yield wrapped(f"The row of `{type_.name}` is also that of its other names: {', '.join(linked(it, f'`{it.name}`') for it in names)}.")
+                    yield wrapped(f"The row of `{type_.name}` is also that of its aliases: {', '.join(linked(it, f'`{it.name}`') for it in names)}.")
 
     def page(self, module):
         source = self.sources.by_module["futures_lite", (module,)]
@@ -392,7 +403,7 @@ def is_type(item):
 
 def cited_in(item, names):
     """Returns the ghost names in an item's contract, but for members of a type or of a value."""
-    return list(cited(re.sub(r"\.[\w']+", "", " ".join([*item.asks, *item.gives])), names))
+    return list(cited(re.sub(r"\.[\w']+", "", text_of(item)), names))
 
 
 def code(lines, language="text"):

@@ -33,6 +33,8 @@ class Item:
         self.asks, self.gives = ([it for it in clauses(said) if it.startswith(word)] for word in ("requires", "ensures"))
         # The variants of an enum, with their comments; of a method the head of the impl that it stands in, with its bounds.
         self.variants, self.impl = [], ""
+        # The fields of a struct, with their types.
+        self.fields = {}
 
     @property
     def title(self):
@@ -103,6 +105,12 @@ def block_of(line):
     return found["trait"] or re.match(r"\w*", PARAMETERS.sub("", found["types"]).strip())[0]
 
 
+def field_in(line):
+    """Returns the name and the type of the field that a line of a struct declares, if it does."""
+    found = re.match(r"    (?:pub(?:\([^)]*\))? )?(\w+): (.*),$", line)
+    return found and found.groups()
+
+
 def head_of_impl(lines, at):
     """Returns the head of an impl that begins in a line, as one line: its parameters, its type and its bounds."""
     end = next(number for number in range(at, len(lines)) if lines[number].endswith(("{", "{}")))
@@ -142,6 +150,8 @@ def items_in(path, lines):
                 item = Item(path, first + 1, found["kind"], found["name"], comment, said[:clause], said[clause:])
                 if item.kind == "enum":
                     item.variants = lines[at + 1 : lines.index("}", at)]
+                if item.kind == "struct" and lines[at].endswith("{"):
+                    item.fields = dict(filter(None, map(field_in, lines[at + 1 : lines.index("}", at)])))
                 item.impl = impl if inner else ""
                 yield item, block if inner else None
             comment = []
