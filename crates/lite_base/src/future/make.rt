@@ -120,6 +120,9 @@ pub fn poll_once<F: Future>(f: F) -> PollOnce<F>
 /// when its value is there. The values have to be `Drop`. The result is a `Future` only if both futures are
 /// `Drop`, too.
 ///
+/// The contract has no clause about the value. A proof gets it from the runs of [`Zip`], as that of the
+/// example does.
+///
 /// # Examples
 ///
 /// ```
