@@ -4,6 +4,7 @@ import re
 import textwrap
 
 import pictures
+from examples import CLAUSES, GHOST
 from legend import LEGEND, legend, members, text_of, unexplained
 from repository import TOP, read_text
 from sources import MODULES, Sources
@@ -201,9 +202,18 @@ class Reference:
             traits.setdefault(says, []).append(f"`{trait}`")
         return legend().get(name) or " ".join(f"Of {' and '.join(of)}: {says}" for says, of in traits.items()) or None
 
+    def of_examples(self, item):
+        """Yields the words of the clauses in an item's examples that an example need not import, each with what a page says of it, if anything."""
+        said = set(re.findall(r"[\w']+", " ".join(clause for it in item.examples for clause in CLAUSES.findall(it))))
+        for where, words in GHOST.items():
+            for word in (it for it in words if it in said):
+                own = None if where.startswith("Rattle.std.") else next((it for it in self.words.values() if it.name == word), None)
+                yield word, f"{own.says} ([{own.module}](../../{own.path}))" if own else legend().get(word)
+
     def legend_of(self, module):
-        """Returns the table of the words that the contracts of a page have, and that their entries do not explain."""
-        rows = {word.removeprefix("."): self.meaning(word, it) for it in self.shown(module) for word in self.unexplained(it)}
+        """Returns the table of the words that the contracts of a page have, and those in its examples, and that their entries do not explain."""
+        rows = {word: says for it in self.shown(module) for word, says in self.of_examples(it)}
+        rows |= {word.removeprefix("."): self.meaning(word, it) for it in self.shown(module) for word in self.unexplained(it)}
         return table(["Word", "Meaning"], [[f"`{word}`", rows[word]] for word in sorted(rows, key=lambda it: (it.lower(), it)) if rows[word]])
 
     def faults(self):
@@ -211,10 +221,10 @@ class Reference:
         used = set()
         for module in MODULES:
             for title, item in self.sources.items_of(module).items():
-                words = self.unexplained(item)
-                used.update(word.removeprefix(".") for word in words)
-                for word in words:
-                    if not self.meaning(word, item):
+                told = {**{word: self.meaning(word, item) for word in self.unexplained(item)}, **dict(self.of_examples(item))}
+                used.update(word.removeprefix(".") for word in told)
+                for word, says in told.items():
+                    if not says:
                         yield f"{item.path}:{item.line}", f"nothing explains the word {word} of the contract of `{module}::{title}`; {LEGEND} may"
         for word in legend():
             if word not in used:

@@ -102,8 +102,8 @@ where
 
 /// Returns a future that resolves to the value of the future that is ready first. If both are, `rng` chooses.
 ///
-/// Each poll draws one word of `rng`. If its lowest bit is 1, `future1` is polled first, otherwise `future2`.
-/// The other is polled only if that one returned `Pending`. Unlike futures-lite, the caller supplies the
+/// Each poll draws one word of `rng`. If its lowest bit is 1, it polls `future1` first, otherwise `future2`.
+/// It polls the other future only if this returned `Pending`. Unlike futures-lite, the caller supplies the
 /// generator.
 ///
 /// The contract says which value comes, whatever the generator. If one of the two is never ready, it is the
@@ -355,9 +355,9 @@ pub trait FutureExt: Future {
     /// Returns a future that resolves to the value of the future that is ready first. If both are, `rng`
     /// chooses.
     ///
-    /// Each poll draws one word of `rng`. If its lowest bit is 1, `self` is polled first, otherwise `other`.
-    /// The other is polled only if that one returned `Pending`. Unlike futures-lite, the caller supplies the
-    /// generator. The contract says which value comes, as that of the function [`race`] does.
+    /// Each poll draws one word of `rng`. If its lowest bit is 1, it polls `self` first, otherwise `other`.
+    /// It polls the other future only if this returned `Pending`. Unlike futures-lite, the caller supplies
+    /// the generator. The contract says which value it resolves to, as that of the function [`race`] does.
     ///
     /// # Examples
     ///
