@@ -27,7 +27,8 @@ def files():
 
 
 def faults():
-    """Yields each file that is not what it has to be, and each in the folders that nothing writes."""
+    """Yields each file that is not what it has to be, each in the folders that nothing writes, and what docs/api does not explain."""
+    yield from Reference().faults()
     there = dict(files())
     for path, text in there.items():
         if not os.path.isfile(f"{TOP}/{path}") or read_text(f"{TOP}/{path}") != text:

@@ -1,4 +1,5 @@
 """Tests of the generator of docs/api, over sources of their own. `tools/lists` runs them."""
+import re
 import unittest
 
 import examples
@@ -10,7 +11,7 @@ TEXTS = (
         "futures_lite",
         "stream.rt",
         """//! Streams.
-pub use lite_stream::make::or;
+pub use lite_stream::make::{or, swap};
 pub use lite_stream::Or;
 """,
     ),
@@ -18,7 +19,7 @@ pub use lite_stream::Or;
         "futures_lite",
         "future.rt",
         """//! Futures.
-pub use lite_base::Or;
+pub use lite_base::{Or, Other};
 pub use lite_base::make::or;
 """,
     ),
@@ -26,7 +27,9 @@ pub use lite_base::make::or;
     (
         "lite_stream",
         "or.rt",
-        """/// The stream of both. Returned by [`or`].
+        """use lite_base::Other;
+
+/// The stream of both. Returned by [`or`].
 pub struct Or<S, T> {
     first: S,
 }
@@ -34,8 +37,11 @@ pub struct Or<S, T> {
 impl<S: Stream, T> Stream for Or<S, T> {
 }
 
-impl<S, T> Or<S, T> {
-    /// Returns the first stream.
+impl<S, T> Or<S, T>
+where
+    S: Drop,
+{
+    /// Returns the first stream of an [`or`](crate::make::or). It needs no [`Other`](lite_base::Other).
     ///
     /// # Examples
     ///
@@ -50,12 +56,19 @@ impl<S, T> Or<S, T> {
     {
         &self.first
     }
+
+    /// Swaps the streams.
+    pub fn or(self, size: u8) -> Or<T, S>
+        requires { (n : ℕ) → n ≤ length (Strange self.first self.unheard) → S.unknown n ≡ size }
+        ensures { IfOk result (λ it. it.first ≡ size) }
+    {
+    }
 }
 """,
     ),
-    ("lite_stream", "make.rt", "use crate::Or;\n/// Returns a stream of both.\npub fn or<S, T>(first: S, second: T) -> Or<S, T> {\n}\n"),
-    ("lite_base", "lib.rt", "mod other;\npub mod make;\npub use other::Or;\n"),
-    ("lite_base", "other.rt", "/// The future of either. Returned by [`or`].\npub struct Or<F> {\n}\n"),
+    ("lite_stream", "make.rt", "use crate::Or;\nuse lite_base::Other;\n/// Returns a stream of both: the items\n/// of each.\npub fn or<S: Other, T>(first: S, second: T) -> Or<S, T> {\n}\n/// Swaps.\npub fn swap<S, T>(it: Or<S, T>) -> Or<T, S> {\n}\n"),
+    ("lite_base", "lib.rt", "mod other;\npub mod make;\npub use other::{Or, Other};\n"),
+    ("lite_base", "other.rt", "/// The future of either. Returned by [`or`].\npub struct Or<F> {\n}\n\n/// Anything else.\npub trait Other {\n}\n"),
     (
         "lite_base",
         "make.rt",
@@ -95,6 +108,37 @@ class TwoModules(unittest.TestCase):
     def test_a_contract_is_whole(self):
         told = self.entry("stream", "method `Or::first`")
         self.assertIn("ensures returns { result ≡ record {\n    first = self;\n    second = 2 } }\nensures second { ⊤ }\n", told)
+
+    def test_the_bounds_of_an_impl_stand_before_its_methods(self):
+        told = self.entry("stream", "method `Or::first`")
+        self.assertIn("impl<S, T> Or<S, T> where S: Drop {\n    fn first(&self) -> &S\n}\n", told)
+
+    def test_a_type_names_each_call_that_returns_it(self):
+        self.assertIn("The stream of both. Returned by [`or`](#fn-or) and [`swap`](#fn-swap).", self.entry("stream", "struct `Or`"))
+        self.assertIn("The future of either. Returned by [`or`](#fn-or).", self.entry("future", "struct `Or`"))
+
+    def test_a_type_names_the_fields_that_contracts_name(self):
+        self.assertIn("Fields that contracts name: `first: S`.", self.entry("stream", "struct `Or`"))
+
+    def test_a_link_leads_to_the_page_that_has_the_item(self):
+        self.assertIn("an [`or`](#fn-or). It needs no [`Other`](future.md#trait-other).", self.entry("stream", "method `Or::first`"))
+        self.assertIn("From other modules: [`future::Other`](future.md#trait-other).", self.entry("stream", "fn `or`"))
+        self.assertNotIn("From other modules", self.entry("future", "fn `or`"))
+
+    def test_a_summary_is_a_sentence(self):
+        self.assertIn("- [`or`](#fn-or): Returns a stream of both: the items of each.\n", self.pages["docs/api/stream.md"])
+
+    def test_a_word_of_a_contract_that_nothing_explains_is_named(self):
+        told = [what for _, what in Reference(self.sources).faults() if "`stream::Or::or`" in what]
+        words = [re.search(r"the word \.?(\w+) ", it)[1] for it in told]
+        self.assertEqual(words, ["Strange", "unheard", "unknown"])
+
+    def test_a_word_that_no_entry_explains_is_in_the_table(self):
+        told = self.pages["docs/api/stream.md"].partition("## Words of contracts")[2]
+        self.assertIn("| `IfOk` | `IfOk r (λ v. B)`:", told)
+        self.assertIn("| `length` |", told)
+        for word in ("size", "first", "n", "it", "S"):
+            self.assertNotIn(f"| `{word}` |", told)
 
     def test_an_item_without_an_example_is_named(self):
         told = [what for _, what in examples.faults(self.sources)]

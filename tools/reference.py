@@ -4,12 +4,19 @@ import re
 import textwrap
 
 import pictures
+from examples import CLAUSES, GHOST
+from legend import LEGEND, legend, members, text_of, unexplained
 from repository import TOP, read_text
 from sources import MODULES, Sources
-from vocabulary import PLAIN, WIDTH, bullet, cited, definitions, imported, libraries, wrapped
+from vocabulary import PLAIN, WIDTH, bullet, cited, definitions, imported, libraries, table, wrapped
 
 ROW = re.compile(r"^\|( .*)\|$", re.M)
-LINKED = re.compile(r"\[`([^`]*)`\](?:\([^)]*\))?")
+LINKED = re.compile(r"\[`([^`]*)`\](?:\(([^)]*)\))?")
+# The sentence of a type's comment that says which calls return it.
+MAKERS = re.compile(r"(Returned|Made) by \[`[^.]*\.")
+# The clause of a call that lends what it has: the field that is lent, and what `self` is after that.
+WRITES_BACK = re.compile(r"^ensures\* (\w+) .*record self\.old \{ (\w+) = (record)?", re.S)
+AFTERWARDS = re.compile(r"^ensures\* (\w+) .*\(Afterwards ", re.S)
 IMPL = re.compile(r"^impl\b(?P<types>[^{]*?)\s(?P<trait>\w+)(?:<[^{]*?>)? for (?P<type>\w+)", re.M)
 TRAITS = "Traits"
 # The groups of a page, with where the code of their items stands; the longest path decides.
@@ -66,23 +73,29 @@ def laid_out(comment):
 
 
 def first_sentence(comment):
-    found = re.match(r"(.*?[.:])(?:\s|$)", " ".join(plain(comment).split()) + " ")
-    return found[1].rstrip(":") if found else ""
+    """Returns the first sentence of a comment. One that ends with its paragraph, before a list, ends with a full stop too."""
+    paragraph = " ".join(plain(comment).partition("\n\n")[0].split())
+    found = re.match(r".*?\.(?=\s|$)", paragraph)
+    return found[0] if found else f"{paragraph.rstrip(':')}."
 
 
 def heading(item):
     return f"{'method' if item.owner and item.kind == 'fn' else item.kind} `{item.title}`"
 
 
-def linked(item, text):
-    """Returns a link within a page to an item's entry."""
-    return f"[{text}](#{re.sub(r'[^a-z0-9_-]', '', heading(item).lower().replace(' ', '-'))})"
+def linked(item, text, page=""):
+    """Returns a link to an item's entry, on the same page if none is named."""
+    return f"[{text}]({page}#{re.sub(r'[^a-z0-9_-]', '', heading(item).lower().replace(' ', '-'))})"
 
 
 def listed(item):
     """Returns an item's line in the contents."""
     return bullet(f"{linked(item, f'`{item.title}`')}{': ' if item.says else ''}{first_sentence(item.says)}")
 
+ABOUT_MARKS = (
+    "A mark is a trait that states a property of a type. `yes` means that a type has it, if the type's arguments meet the bounds of the impl. The entry"
+    " of a mark says what it means. [TABLES](../TABLES.md#which-marks-a-type-carries) says more, and has the rows of std's types."
+)
 # How a contract is read, for someone who has this page alone.
 ABOUT_CONTRACTS = "\n".join(
     [
@@ -90,16 +103,13 @@ ABOUT_CONTRACTS = "\n".join(
         *map(
             bullet,
             (
-                "`requires` is what the caller guarantees, and `ensures` what the call does. A word before the braces names the clause.",
-                "`result` is the value returned. `x.old` and `x.new` are what a `&mut` refers to before and after the call, `x.now` is what a `&`"
-                " refers to, and `x.entry` is a `&mut` as it was passed.",
-                "`≡` is equal, `×` and, `⊎` or, `A → B` if A then B, `⊤` true, `⊥` false. `(x : A) × B` says that there is such an `x`.",
-                "`[]`, `x ∷ xs` and `xs ++ ys` are lists, `λ x. e` is a function, and `record { a = x }` a struct.",
-                "`IfOk r (λ v. B)` is B if `r` is `Ok(v)`; `IfErr`, `IfSome`, `OnOk` and `OnErr` are read alike.",
-                "`T.run` and `⟦<T as Stream>⟧.run` are the runs of a type: from one value, these poll results in order, to another value. `reads` and"
-                " `writes` are those of readers and writers.",
-                "`S.ranks.counts s` says that one poll cannot go on for ever from `s`, and `firm` that `Pending` does not undo that.",
-                "A definition's comment names its arguments as its own source does.",
+                "`≡` is equal, `×` and, `⊎` or, `¬` not, `A → B` if A then B, `⊤` true, `⊥` false.",
+                "`(x : A) → B` says that B holds for each `x` of the type A, and `(x : A) × B` that it holds for one. `_` stands for a type or a value"
+                " that is not named, and `{A = T}` says which type an argument of a definition is.",
+                "`[]`, `x ∷ xs` and `xs ++ ys` are lists, and `λ x. e` is a function. `p.0` and `p.1` are the parts of a pair.",
+                "`T.run` is a member of the type `T`, by a trait that it has. `F.FnMut` is the contract of the closures of the type `F`.",
+                "The words are explained below the contract, or under [Words of contracts](#words-of-contracts). A definition's comment names its"
+                " arguments as its own source does.",
             ),
         ),
     ]
@@ -160,31 +170,135 @@ class Reference:
         return {name: [it for it in items if self.group(it, module) == name] for name in (TRAITS, *GROUPS[module])}
 
     def words_of(self, item):
-        """Yields the definitions that an item's contract names, but those that only guide the prover."""
+        """Returns the definitions that an item's contract names, but those that only guide the prover, and those that their comments name."""
         names = dict.fromkeys(cited_in(item, self.names_in(item.path)))
-        words = (self.words[it] for it in names if it in self.words and it[1] not in PLAIN)
-        yield from (it for it in words if not it.says.startswith(FOR_THE_PROVER))
+        found = [self.words[it] for it in names if it in self.words and it[1] not in PLAIN]
+        found = [it for it in found if not it.says.startswith(FOR_THE_PROVER)]
+        for word in found:
+            found += [it for it in self.named_in(word) if it not in found]
+        return found
 
-    def with_links(self, comment, module):
-        """Returns a comment with links to the entries of the items that it links to, on this page."""
+    @functools.cache
+    def named_in(self, word):
+        """Returns the definitions that a definition's comment names: those of its own file, and those that this imports."""
+        where = imported(read_text(f"{TOP}/{word.path}"))
+        at = [(*where.get(name, (word.crate, word.module)), name) for name in dict.fromkeys(re.findall(r"`([\w'-]+)`", word.says))]
+        return [self.words[it] for it in at if it in self.words and self.words[it] is not word]
+
+    def unexplained(self, item):
+        """Returns the words of an item's contract that its entry does not explain; a member of a type with the dot before it."""
+        source = self.sources.by_path[item.path]
+        return [it for it in unexplained(item, [word.name for word in self.words_of(item)]) if not self.sources.resolve(source, it)]
+
+    def meaning(self, word, item):
+        """Returns what a page says of a word of an item's contract that its entry does not explain; None if nothing does."""
+        at = self.names_in(item.path).get(word)
+        defined = at and self.words.get((*at, word))
+        if defined:
+            return f"{defined.says} ([{defined.module}](../../{defined.path}))"
+        name = word.removeprefix(".")
+        traits = {}
+        for trait, says in members().get(name, ()):
+            traits.setdefault(says, []).append(f"`{trait}`")
+        return legend().get(name) or " ".join(f"Of {' and '.join(of)}: {says}" for says, of in traits.items()) or None
+
+    def of_examples(self, item):
+        """Yields the words of the clauses in an item's examples that an example need not import, each with what a page says of it, if anything."""
+        said = set(re.findall(r"[\w']+", " ".join(clause for it in item.examples for clause in CLAUSES.findall(it))))
+        for where, words in GHOST.items():
+            for word in (it for it in words if it in said):
+                own = None if where.startswith("Rattle.std.") else next((it for it in self.words.values() if it.name == word), None)
+                yield word, f"{own.says} ([{own.module}](../../{own.path}))" if own else legend().get(word)
+
+    def legend_of(self, module):
+        """Returns the table of the words that the contracts of a page have, and those in its examples, and that their entries do not explain."""
+        rows = {word: says for it in self.shown(module) for word, says in self.of_examples(it)}
+        rows |= {word.removeprefix("."): self.meaning(word, it) for it in self.shown(module) for word in self.unexplained(it)}
+        return table(["Word", "Meaning"], [[f"`{word}`", rows[word]] for word in sorted(rows, key=lambda it: (it.lower(), it)) if rows[word]])
+
+    def faults(self):
+        """Yields each word of a contract that nothing explains, and each explanation that is of no word."""
+        used = set()
+        for module in MODULES:
+            for title, item in self.sources.items_of(module).items():
+                told = {**{word: self.meaning(word, item) for word in self.unexplained(item)}, **dict(self.of_examples(item))}
+                used.update(word.removeprefix(".") for word in told)
+                for word, says in told.items():
+                    if not says:
+                        yield f"{item.path}:{item.line}", f"nothing explains the word {word} of the contract of `{module}::{title}`; {LEGEND} may"
+        for word in legend():
+            if word not in used:
+                yield LEGEND, f"no contract of docs/api has the word {word}"
+
+    def pages_with(self, item):
+        """Returns the modules on whose pages an item has an entry."""
+        return [module for module in MODULES if any(it is item for it in self.shown(module))]
+
+    def link_from(self, module, item, text):
+        """Returns a link to an item from a page, on the same page if it has an entry there; None if no page has one."""
+        there = self.pages_with(item)
+        return there and (linked(item, text) if module in there else linked(item, text, f"{there[0]}.md")) or None
+
+    def meant(self, text, path, item, module):
+        """Returns the item that a link in an item's comment means: by its path, by its name on the page, or by its name in the source."""
+        name, last = text.rstrip("()"), "::".join((path or text).rstrip("()").split("::")[-2:])
         items = {it.title: it for it in self.shown(module)}
+        titles = (last, name, *(f"{ext}::{name}" for ext in EXTENSIONS), f"{(item.owner or item).name}::{name}")
+        source = self.sources.by_path[item.path]
+        return next((items[it] for it in titles if it in items), None) or self.sources.resolve(source, name) or self.sources.resolve(source, last.rpartition("::")[2])
+
+    def with_links(self, comment, item, module):
+        """Returns an item's comment with links to the entries of the items that it links to, and of the marks that it names."""
 
         def entry(found):
-            name = found[1].rstrip("()")
-            it = next((items[title] for title in (name, *(f"{ext}::{name}" for ext in EXTENSIONS)) if title in items), None)
-            return linked(it, f"`{found[1]}`") if it else f"`{found[1]}`"
+            it = self.meant(found[1], found[2], item, module)
+            return it and self.link_from(module, it, f"`{found[1]}`") or f"`{found[1]}`"
 
-        return LINKED.sub(entry, comment)
+        return re.sub(r"(?<!\[)`(\w+)`", lambda it: self.mark_link(it[1], module) if it[1] in self.law_marks() else it[0], LINKED.sub(entry, comment))
+
+    @functools.cache
+    def law_marks(self):
+        """Returns the marks that are laws, by their names."""
+        marks = {mark for rows in self.tables.values() for _, marks in rows for mark in marks}
+        return {name: it for name, it in self.sources.items_of("laws").items() if name in marks}
+
+    def mark_link(self, mark, module):
+        """Returns a link from a page to the entry of a mark."""
+        items = {name: it for page in MODULES for name, it in self.sources.items_of(page).items()}
+        return mark in items and self.link_from(module, items[mark], f"`{mark}`") or f"`{mark}`"
+
+    @functools.cache
+    def makers(self, item, module):
+        """Returns the calls on a page whose results are made of a type."""
+        return [it for it in self.shown(module) if it.kind == "fn" and it.owner is not item and self.made_by(it) is item]
+
+    def says_of(self, item, module):
+        """Returns an item's comment; that of a type names each call on the page that returns it."""
+        made = MAKERS.search(item.says) if is_type(item) else None
+        calls = self.makers(item, module) if made else []
+        if not calls:
+            return item.says
+        *most, last = [f"[`{it.title}`]({it.title})" for it in calls]
+        told = f"{', '.join(most)} and {last}" if most else last
+        return f"{item.says[: made.start()]}{made[1]} by {told}.{item.says[made.end() :]}"
 
     @functools.cache
     def shown(self, module):
         """Returns the items that have an entry on a module's page: all but what does nothing and states nothing."""
         return [it for it in self.sources.items_of(module).values() if not (it.owner and it.does_nothing) or it.gives]
 
+    def based(self, item):
+        """Returns a type itself, and of an alias the type that it is for."""
+        while item.kind == "type" and (alias := re.match(r"type .*?= (\w*)", item.head)):
+            named = self.sources.resolve(self.sources.by_path[item.path], alias[1])
+            if not named:
+                break
+            item = named
+        return item
+
     def marks_of(self, item):
-        """Returns the marks of a type, each for one of the traits that it has; a name for another type has that one's."""
-        if item.kind == "type" and (alias := re.match(r"type .*?= (\w*)", item.head)):
-            item = self.sources.resolve(self.sources.by_path[item.path], alias[1]) or item
+        """Returns the marks of a type, each for one of the traits that it has; an alias has those of its type."""
+        item = self.based(item)
         return [mark for kind in KINDS for marks in self.tables[kind] if self.impls.get((kind, marks[0])) is item for mark in marks[1]]
 
     def about_result(self, item, module):
@@ -192,36 +306,79 @@ class Reference:
         made = self.made_by(item)
         if made and made.kind in ("struct", "type") and made is not item.owner and self.sources.items_of(module).get(made.name) is made:
             says = re.sub(r"(?:Returned|Made) by [^.]*\.\s?", "", made.says)
-            yield laid_out(f"{linked(made, f'`{made.name}`')}: {self.with_links(says, module)}")
-            yield from self.about_marks(made)
+            yield laid_out(f"{linked(made, f'`{made.name}`')}: {self.with_links(says, made, module)}")
+            yield from self.about_marks(made, module)
 
-    def about_marks(self, item):
-        marks = self.marks_of(item)
-        if marks:
-            yield wrapped(f"Marks of `{item.name}`, if its parts have what they ask for: {', '.join(f'`{it}`' for it in marks)}.")
+    def about_marks(self, item, module):
+        """Yields which marks a type may have."""
+        marks, base = self.marks_of(item), self.based(item)
+        there = self.pages_with(base)
+        if marks and there:
+            section = f"{'' if module in there else f'{there[0]}.md'}#marks"
+            alias = "" if base is item else f" It is an alias of {self.link_from(module, base, f'`{base.name}`')}, whose marks these are."
+            links = ", ".join(self.mark_link(it, module) for it in marks)
+            given = " It has each of them if its type arguments meet the bounds of the impl." if "<" in base.head else ""
+            yield wrapped(f"[Marks]({section}) of `{item.name}`: {links}.{given}{alias}")
+
+    def about_fields(self, item, module):
+        """Yields the fields of a type that contracts on the page name. (Contracts do not name those of a type that has a model.)"""
+        names = [it for it in self.shown(module) if self.based(it) is item]
+        calls = [*(call for it in names for call in self.makers(it, module)), *self.sources.methods.get(item, ())]
+        named = {name for it in calls for name in re.findall(r"(?<=\.)\w+|\w+(?= = )", text_of(it))}
+        is_seen = not re.search(rf"\bModel for {item.name}\b", self.sources.by_path[item.path].text)
+        told = [f"`{name}: {of}`" for name, of in item.fields.items() if name in named]
+        if is_seen and told:
+            yield wrapped(f"Fields that contracts name: {', '.join(told)}.")
+
+    def about_types(self, item, module):
+        """Yields links to the types and the traits of other pages that an item's signature names."""
+        source = self.sources.by_path[item.path]
+        found = filter(None, (self.sources.resolve(source, it) for it in dict.fromkeys(re.findall(r"[A-Z]\w*", f"{item.head} {item.impl}"))))
+        pages = [(self.pages_with(it), it) for it in found]
+        links = [linked(it, f"`{there[0]}::{it.title}`", f"{there[0]}.md") for there, it in pages if there and module not in there]
+        if links:
+            yield wrapped(f"From other modules: {', '.join(links)}.")
+
+    def about_borrows(self, item):
+        """Yields what the clauses of an item on a borrow in its result say, in words."""
+        for clause in item.gives:
+            if back := WRITES_BACK.search(clause):
+                place = f"to what the field `{back[2]}` of `self` refers to" if back[3] else f"to the field `{back[2]}` of `self`"
+                yield wrapped(f"`{back[1]}`: what is written through `result` is written {place}. The rest of `self` stays as it was.")
+            elif after := AFTERWARDS.search(clause):
+                yield wrapped(f"`{after[1]}` is about `self` once the borrow in `result` has ended: `new` is its value then.")
 
     def entry(self, item, module):
         """Returns the part of a page that is an item's."""
-        head = textwrap.fill(item.head, WIDTH, subsequent_indent="    ")
-        parts = [f"### {heading(item)}", code([f"{head} {{", *item.variants, "}"] if item.variants else [head])]
-        parts += [laid_out(self.with_links(item.says, module))] if item.says else []
-        parts += self.about_result(item, module) if item.kind == "fn" else self.about_marks(item)
+        head = textwrap.fill(item.head, WIDTH - 4, subsequent_indent="    ")
+        within = [f"{item.impl} {{", textwrap.indent(head, "    "), "}"] if item.impl else [head]
+        parts = [f"### {heading(item)}", code([f"{head} {{", *map(plain, item.variants), "}"] if item.variants else within)]
+        parts += self.about_types(item, module)
+        parts += [laid_out(self.with_links(self.says_of(item, module), item, module))] if item.says else []
+        parts += self.about_result(item, module) if item.kind == "fn" else self.about_fields(item, module)
+        parts += self.about_marks(item, module) if item.kind != "fn" else []
         parts += [f"Example:\n\n{code([it], 'rust')}" for it in item.examples]
         picture = self.pictures.get(f"{module}::{item.title}")
         parts += [f"Polled so (`P` is `Pending`, `E` the end of the stream):\n\n{code(picture.lines())}\n\nThe same [as a picture](../{picture.file})."] if picture else []
         parts += [f"Contract:\n\n{code([*item.asks, *item.gives])}"] if item.asks or item.gives else []
+        parts += self.about_borrows(item)
         words = [bullet(f"`{it.name}` ([{it.module}](../../{it.path})): {it.says}") for it in self.words_of(item)]
         parts += ["\n".join(words)] if words else []
         return "\n\n".join([*parts, f"Code: [{item.path}](../../{item.path})."])
 
     def marks(self, module):
-        """Yields the tables of the marks of a module's types, each row with its type's entry."""
+        """Yields the tables of the marks of a module's types, each row with its type's entry, and then the aliases of the types."""
         items = {id(it): it for it in self.sources.items_of(module).values()}
         for head, *rows in tables_of_marks():
             found = [(self.impls.get((head[0].strip("`"), re.match(r"\w*", row[0].strip("`"))[0])), row) for row in rows]
             here = [[linked(it, row[0]), *row[1:]] for it, row in found if id(it) in items]
             if here:
-                yield "\n".join(f"| {' | '.join(row)} |" for row in [head, ["---"] * len(head), *here])
+                heads = [head[0], *(self.mark_link(it.strip("`"), module) for it in head[1:])]
+                yield "\n".join(f"| {' | '.join(row)} |" for row in [heads, ["---"] * len(heads), *here])
+            for type_ in (it for it, _ in found if id(it) in items):
+                names = [it for it in items.values() if it is not type_ and self.based(it) is type_]
+                if names:
+                    yield wrapped(f"The row of `{type_.name}` is also that of its aliases: {', '.join(linked(it, f'`{it.name}`') for it in names)}.")
 
     def page(self, module):
         source = self.sources.by_module["futures_lite", (module,)]
@@ -231,8 +388,9 @@ class Reference:
             parts.append("\n".join([f"**{name}**\n", *map(listed, items)]))
         for name, items in groups.items():
             parts += [f"## {name}", *(self.entry(it, module) for it in items)]
+        parts += ["## Words of contracts", self.legend_of(module).rstrip()]
         marks = list(self.marks(module))
-        about = "[TABLES](../TABLES.md#which-marks-a-type-carries) says what the marks mean, and has the rows of std's types."
+        about = wrapped(ABOUT_MARKS)
         return "\n\n".join([*parts, *(["## Marks", about, *marks] if marks else [])]) + "\n"
 
     def pages(self):
@@ -254,7 +412,8 @@ def is_type(item):
 
 
 def cited_in(item, names):
-    return list(cited(" ".join(re.findall(r"[\w'-]+", " ".join([*item.asks, *item.gives]))), names))
+    """Returns the ghost names in an item's contract, but for members of a type or of a value."""
+    return list(cited(re.sub(r"\.[\w']+", "", text_of(item)), names))
 
 
 def code(lines, language="text"):

@@ -31,8 +31,10 @@ class Item:
         made = re.search(r"(?:Made|Returned) by \[`(?:\w+::)*(\w+)`\]", self.says)
         self.made_by = made and made[1]
         self.asks, self.gives = ([it for it in clauses(said) if it.startswith(word)] for word in ("requires", "ensures"))
-        # The variants of an enum, with their comments.
-        self.variants = []
+        # The variants of an enum, with their comments; of a method the head of the impl that it stands in, with its bounds.
+        self.variants, self.impl = [], ""
+        # The fields of a struct, with their types.
+        self.fields = {}
 
     @property
     def title(self):
@@ -103,6 +105,18 @@ def block_of(line):
     return found["trait"] or re.match(r"\w*", PARAMETERS.sub("", found["types"]).strip())[0]
 
 
+def field_in(line):
+    """Returns the name and the type of the field that a line of a struct declares, if it does."""
+    found = re.match(r"    (?:pub(?:\([^)]*\))? )?(\w+): (.*),$", line)
+    return found and found.groups()
+
+
+def head_of_impl(lines, at):
+    """Returns the head of an impl that begins in a line, as one line: its parameters, its type and its bounds."""
+    end = next(number for number in range(at, len(lines)) if lines[number].endswith(("{", "{}")))
+    return re.sub(r",? ?\{\}?$", "", " ".join(" ".join(lines[at : end + 1]).split()))
+
+
 def end_of_head(lines, at):
     """Returns the line with which an item's signature and contract end: they stand before its body, or before a semicolon."""
     depth = 0
@@ -118,12 +132,13 @@ def end_of_head(lines, at):
 
 def items_in(path, lines):
     """Yields the public items of a source, and the functions and types of its types and traits, each with the block that it stands in."""
-    block, is_trait, comment, at = None, False, [], 0
+    block, is_trait, impl, comment, at = None, False, "", [], 0
     while at < len(lines):
         line, first = lines[at], at
         found = HEAD.match(line)
         if BLOCK.match(line):
             block, is_trait = block_of(line), line.startswith("pub trait")
+            impl = head_of_impl(lines, at) if line.startswith("impl<") else ""
         if line.strip().startswith("///"):
             comment.append(line.strip().removeprefix("///").removeprefix(" "))
         elif found:
@@ -135,6 +150,9 @@ def items_in(path, lines):
                 item = Item(path, first + 1, found["kind"], found["name"], comment, said[:clause], said[clause:])
                 if item.kind == "enum":
                     item.variants = lines[at + 1 : lines.index("}", at)]
+                if item.kind == "struct" and lines[at].endswith("{"):
+                    item.fields = dict(filter(None, map(field_in, lines[at + 1 : lines.index("}", at)])))
+                item.impl = impl if inner else ""
                 yield item, block if inner else None
             comment = []
         elif not line.strip().startswith("#["):

@@ -54,9 +54,11 @@ class Entry:
                 yield "its example does not call it"
         if self.contract and not self.is_whole():
             yield "its contract is not what stands between its signature and its body"
-        for found in DEFINITION.finditer(self.text):
-            if not self.is_meant(found):
-                yield f"the definition of {found['name']} is not the one that its contract means"
+        told = list(DEFINITION.finditer(self.text))
+        for found in told:
+            others = " ".join(it["says"] for it in told if it is not found)
+            if not (self.is_meant(found) or f"`{found['name']}`" in others and self.is_in_its_file(found)):
+                yield f"the definition of {found['name']} is not one that its contract means or that another definition names"
 
     def is_whole(self):
         """Tells whether the contract stands in the source, from the signature's end to the body or the next item."""
@@ -64,17 +66,21 @@ class Entry:
         at = source.find(said)
         return at > 0 and source[at + len(said)] in "{;" and not re.search(r"(?:requires|ensures)\w*\{[^{}]*\}$", source[:at])
 
-    def is_meant(self, found):
-        """Tells whether a definition stands in its file with the comment that is told, and the contract's source imports it from there."""
-        crate, _, module = found["path"].removeprefix("crates/").removesuffix(".antt").partition("/specs/")
-        module, name = module.replace("/", "."), re.escape(found["name"])
+    def is_in_its_file(self, found):
+        """Tells whether a definition stands in its file with the comment that is told."""
+        name = re.escape(found["name"])
         spec = read_text(f"{TOP}/{found['path']}") if os.path.isfile(f"{TOP}/{found['path']}") else ""
         above = re.search(rf"((?:^ *--.*\n)*)^ *(?:pub )?(?:abbrev|unfoldable|record|data) (?:pub )?(?:record |data )?{name}(?=[\s:({{])", spec, re.M)
-        comment = " ".join(line.lstrip(" -") for line in above[1].splitlines()) if above else None
+        return above and " ".join(line.lstrip(" -") for line in above[1].splitlines()) == " ".join(found["says"].split())
+
+    def is_meant(self, found):
+        """Tells whether a definition stands in its file, and the contract names it and the contract's source imports it from there."""
+        crate, _, module = found["path"].removeprefix("crates/").removesuffix(".antt").partition("/specs/")
+        module, name = module.replace("/", "."), re.escape(found["name"])
         uses = f"{TOP}/crates/{self.path.split('/')[1]}/specs/Uses.antt"
         imports = self.code + (read_text(uses) if os.path.isfile(uses) else "")
         named = rf"use Rattle\.{crate}\.specs\.{re.escape(module)}\.\{{[^}}]*(?<![\w'-]){name}(?![\w'-])"
-        return comment == " ".join(found["says"].split()) and re.search(rf"(?<![\w'-]){name}(?![\w'-])", self.contract) and re.search(named, imports)
+        return self.is_in_its_file(found) and re.search(rf"(?<![\w'-]){name}(?![\w'-])", self.contract) and re.search(named, imports)
 
 
 def faults():

@@ -149,8 +149,8 @@ where
 
 /// Returns a future that resolves to the value of the future that is ready first. If both are, `rng` chooses.
 ///
-/// Each poll draws one word of `rng`. If its lowest bit is 1, `future1` is polled first, otherwise `future2`.
-/// The other is polled only if that one returned `Pending`. Unlike futures-lite, the caller supplies the
+/// Each poll draws one word of `rng`. If its lowest bit is 1, it polls `future1` first, otherwise `future2`.
+/// It polls the other future only if this returned `Pending`. Unlike futures-lite, the caller supplies the
 /// generator.
 ///
 /// The contract says which value comes, whatever the generator. If one of the two is never ready, it is the
@@ -248,7 +248,8 @@ where
 /// Returns a future that resolves to the pair of both values, or to the first error.
 ///
 /// Each poll polls each future that is not ready yet once, the first before the second. If the first future
-/// fails, the second is not polled in that poll. The futures and the values have to be `Drop`.
+/// fails, the second is not polled in that poll. The values have to be `Drop`. The result is a `Future` only
+/// if both futures are `Drop`, too.
 ///
 /// The contract says which value comes. It is the pair if neither future fails, and the error if only one of
 /// them does. If both fail, it is the first's error if its first poll returns that.
@@ -368,8 +369,8 @@ pub trait FutureExt: Future {
     /// Returns a future that resolves to the value of the future that is ready first. It prefers `self` if
     /// both are.
     ///
-    /// Each poll polls `self`, and then `other` only if `self` returned `Pending`. The contract says which value
-    /// comes, as that of the function [`or`] does.
+    /// Each poll polls `self`, and then `other` only if `self` returned `Pending`. The contract says which
+    /// value it resolves to, as that of the function [`or`] does.
     ///
     /// # Examples
     ///
@@ -419,9 +420,9 @@ pub trait FutureExt: Future {
     /// Returns a future that resolves to the value of the future that is ready first. If both are, `rng`
     /// chooses.
     ///
-    /// Each poll draws one word of `rng`. If its lowest bit is 1, `self` is polled first, otherwise `other`.
-    /// The other is polled only if that one returned `Pending`. Unlike futures-lite, the caller supplies the
-    /// generator. The contract says which value comes, as that of the function [`race`] does.
+    /// Each poll draws one word of `rng`. If its lowest bit is 1, it polls `self` first, otherwise `other`.
+    /// It polls the other future only if this returned `Pending`. Unlike futures-lite, the caller supplies
+    /// the generator. The contract says which value it resolves to, as that of the function [`race`] does.
     ///
     /// # Examples
     ///

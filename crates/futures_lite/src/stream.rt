@@ -665,8 +665,9 @@ where
 ///
 /// The future of a consuming method polls the stream until an item decides its value, the stream returns
 /// `Pending`, or it ends. One poll may consume many items, so the stream must be `Counted`, unless the method
-/// says that it accepts any stream. What was consumed is kept across `Pending`. Methods taking `&mut self`
-/// leave the stream after the last item they polled.
+/// says that it accepts any stream. A poll of the future then requires that `ranks.counts` holds for the
+/// stream. The future keeps what it has consumed across `Pending`. Methods taking `&mut self` leave the
+/// stream after the last item they polled.
 ///
 /// # Examples
 ///
@@ -886,8 +887,8 @@ pub trait StreamExt: Stream {
 
     /// Returns a stream that yields the first `n` items, and then ends for ever.
     ///
-    /// If this stream ends sooner, the result ends for ever too. After its end, and if `n` is 0, this stream
-    /// is not polled. Size hint: `(0, None)`.
+    /// If this stream ends sooner, the result ends for ever too. Once the result has ended, it does not poll
+    /// this stream. If `n` is 0, it never polls this stream. Size hint: `(0, None)`.
     ///
     /// # Examples
     ///
@@ -1164,8 +1165,8 @@ pub trait StreamExt: Stream {
 
     /// Returns a stream that yields the items of both streams as they come, with this stream first.
     ///
-    /// Each poll polls this stream, and then `other` if that has no item. Each stream is polled up to its
-    /// first end, and not after it. The result ends when both have ended. It returns `Pending` if there is no
+    /// Each poll polls this stream, unless it has ended. If this gives no item, the poll then polls `other`,
+    /// unless it has ended. The result ends when both streams have ended. It returns `Pending` if there is no
     /// item and one of them has not ended. Size hint: `(0, None)`.
     ///
     /// # Examples
@@ -1224,10 +1225,10 @@ pub trait StreamExt: Stream {
 
     /// Returns a stream that yields the items of both streams as they come, with neither preferred.
     ///
-    /// Each poll takes a word from `rng`. If its lowest bit is 1 this stream is polled first, otherwise
-    /// `other`. The other one is polled only if the first has no item. Each stream is polled up to its first
-    /// end, and not after it. The result ends when both have ended. It returns `Pending` if there is no item
-    /// and one of them has not ended.
+    /// Each poll takes a word from `rng`. If its lowest bit is 1, it polls this stream first, otherwise
+    /// `other`. If this gives no item, the poll then polls the other stream. A stream that has ended is not
+    /// polled. The result ends when both streams have ended. It returns `Pending` if there is no item and one
+    /// of them has not ended.
     ///
     /// The result is `Counted` if both streams are; its `ranks.counts` then requires `ranks.firm` of both.
     /// Unlike futures-lite, the generator is an argument. Size hint: `(0, None)`.
@@ -1611,8 +1612,9 @@ pub trait StreamExt: Stream {
 
     /// Returns a future of the next item, or of `None` if the stream ends.
     ///
-    /// It accepts any stream, and polls it once in each poll. It is `Pending` if the stream is. It borrows the
-    /// stream, which can be polled on after it.
+    /// It accepts any stream, and polls it once in each poll. It is `Pending` if the stream is. It borrows
+    /// the stream, which can be polled further afterwards. A poll of the future after its value polls the
+    /// stream again.
     ///
     /// # Examples
     ///
@@ -1652,8 +1654,9 @@ pub trait StreamExt: Stream {
 
     /// Returns a future of the value of the next item, for a stream of `Result`s.
     ///
-    /// The value is `Ok(Some(value))` for an `Ok` item, the error for an `Err` item, and `Ok(None)` if the
-    /// stream ends. It accepts any stream of `Result`s, and polls it once in each poll.
+    /// The future resolves to `Ok(Some(value))` for an item `Ok(value)`, to `Err(e)` for an item `Err(e)`,
+    /// and to `Ok(None)` if the stream ends. It accepts any stream of `Result`s, and polls it once in each
+    /// poll.
     ///
     /// # Examples
     ///
@@ -1692,7 +1695,8 @@ pub trait StreamExt: Stream {
 
     /// Returns a future of the number of items before the end.
     ///
-    /// After `usize::MAX` it continues at 0. The items are dropped, so they must be `Drop`.
+    /// After `usize::MAX` it continues at 0. The items are dropped, so they must be `Drop`. A poll requires
+    /// that `ranks.counts` holds for the stream.
     ///
     /// # Examples
     ///
@@ -1723,8 +1727,8 @@ pub trait StreamExt: Stream {
     /// Returns a future that folds the items into one value: `f` gets the value so far, at first `init`, and
     /// each item, and returns the next value.
     ///
-    /// The future's value is the one at the end of the stream. The value must be `Drop`. Do not poll the
-    /// future again after it has returned its value.
+    /// The future's value is the one at the end of the stream. The value must be `Drop`. A poll requires that
+    /// `ranks.counts` holds for the stream. Do not poll the future again after it has returned its value.
     ///
     /// # Examples
     ///
@@ -1757,8 +1761,8 @@ pub trait StreamExt: Stream {
     ///
     /// `f` gets the value so far, at first `init`, and the value of each item. The future's value is the one
     /// at the end of the stream, or the first error, of an item or returned by `f`. One poll may consume many
-    /// `Ok` items, so this stream must be `OkCounted`. The folded value must be `Drop`. Do not poll the
-    /// future again after it has returned its value.
+    /// `Ok` items, so this stream must be `OkCounted`. A poll requires that `ok_ranks.counts` holds for the
+    /// stream. The folded value must be `Drop`. Do not poll the future again after it has returned its value.
     ///
     /// # Examples
     ///
@@ -1835,7 +1839,8 @@ pub trait StreamExt: Stream {
 
     /// Returns a future of the last item before the end, or of `None` if there is no item.
     ///
-    /// The other items are dropped, so the items must be `Drop`.
+    /// The other items are dropped, so the items must be `Drop`. A poll requires that `ranks.counts` holds
+    /// for the stream.
     ///
     /// # Examples
     ///
@@ -1866,7 +1871,8 @@ pub trait StreamExt: Stream {
     /// Returns a future of the first item for which `predicate` returns true, or of `None` if the stream ends
     /// before one.
     ///
-    /// The items before it are dropped, so the items must be `Drop`.
+    /// The items before it are dropped, so the items must be `Drop`. A poll requires that `ranks.counts`
+    /// holds for the stream.
     ///
     /// # Examples
     ///
@@ -1902,7 +1908,8 @@ pub trait StreamExt: Stream {
 
     /// Returns a future that calls `f` with the items, and returns the first value that is not `None`.
     ///
-    /// The future's value is `None` if the stream ends before one.
+    /// The future's value is `None` if the stream ends before one. A poll requires that `ranks.counts` holds
+    /// for the stream.
     ///
     /// # Examples
     ///
@@ -1938,7 +1945,8 @@ pub trait StreamExt: Stream {
     /// Returns a future of the number of the first item for which `predicate` returns true, or of `None` if
     /// the stream ends before one.
     ///
-    /// The first item that this future polls has the number 0. After `usize::MAX` comes 0.
+    /// The first item that this future polls has the number 0. After `usize::MAX` comes 0. A poll requires
+    /// that `ranks.counts` holds for the stream.
     ///
     /// # Examples
     ///
@@ -1975,7 +1983,8 @@ pub trait StreamExt: Stream {
 
     /// Returns a future of whether `predicate` returns true for every item.
     ///
-    /// The first item for which it returns false decides. The value is true if there is no item.
+    /// The first item for which it returns false decides. The value is true if there is no item. A poll
+    /// requires that `ranks.counts` holds for the stream.
     ///
     /// # Examples
     ///
@@ -2016,7 +2025,8 @@ pub trait StreamExt: Stream {
 
     /// Returns a future of whether `predicate` returns true for an item.
     ///
-    /// The first item for which it returns true decides. The value is false if there is no item.
+    /// The first item for which it returns true decides. The value is false if there is no item. A poll
+    /// requires that `ranks.counts` holds for the stream.
     ///
     /// # Examples
     ///
@@ -2057,6 +2067,8 @@ pub trait StreamExt: Stream {
 
     /// Returns a future that calls `f` with each item before the end.
     ///
+    /// A poll requires that `ranks.counts` holds for the stream.
+    ///
     /// # Examples
     ///
     /// ```
@@ -2079,7 +2091,8 @@ pub trait StreamExt: Stream {
 
     /// Returns a future that calls `f` with each item, up to the end or the first error.
     ///
-    /// The future's value is the first error that `f` returns, or `Ok(())` at the end.
+    /// The future's value is the first error that `f` returns, or `Ok(())` at the end. A poll requires that
+    /// `ranks.counts` holds for the stream.
     ///
     /// # Examples
     ///
@@ -2120,9 +2133,12 @@ pub trait StreamExt: Stream {
     }
 
     /// Returns a future that collects the items before the end into a collection, which takes its memory from
-    /// `alloc`. Its value is `Ok(collection)`, of the type `Result<C, Refused<C, Self::Item>>`.
+    /// `alloc`. It resolves to a `Result<C, Refused<C, Self::Item>>`: `Ok(collection)` at the end of the
+    /// stream.
     ///
-    /// It consumes the stream, and is `Pending` when the stream is; what was collected is kept meanwhile.
+    /// The future takes the stream, and is `Pending` when the stream is. It then keeps what it has collected.
+    /// A poll requires that `ranks.counts` holds for the stream.
+    ///
     /// A `Vec` and a `VecDeque` append items at the back, and a `String` appends characters. A `BTreeMap`
     /// collects pairs: for a key that it has, the old key stays and the value is replaced. A `BTreeSet` keeps
     /// the item that it has. Keys, values and items of these two must be `Drop`. Do not poll the future again
@@ -2130,8 +2146,8 @@ pub trait StreamExt: Stream {
     ///
     /// # Errors
     ///
-    /// If the collection has no memory for an item, the value is `Err` of a [`Refused`]: what was collected before,
-    /// and that item. What is left of the stream is dropped with the future.
+    /// If the collection has no memory for an item, the future resolves to `Err` of a [`Refused`]: what was
+    /// collected before, and that item. What is left of the stream is dropped with the future.
     ///
     /// # Examples
     ///
@@ -2173,7 +2189,8 @@ pub trait StreamExt: Stream {
     /// Returns a future that collects the `Ok` values of the items, up to the end or the first error.
     ///
     /// The collection takes its memory from `alloc`. One poll may consume many `Ok` items, so this stream
-    /// must be `OkCounted`. Do not poll the future again after it has returned its value.
+    /// must be `OkCounted`. A poll requires that `ok_ranks.counts` holds for the stream. Do not poll the
+    /// future again after it has returned its value.
     ///
     /// # Errors
     ///
@@ -2230,13 +2247,13 @@ pub trait StreamExt: Stream {
     /// Returns a future that collects the items into two collections: those for which `predicate` returns
     /// true, and the others.
     ///
-    /// Both collections take their memory from `alloc`. Do not poll the future again after it has returned
-    /// its value.
+    /// Both collections take their memory from `alloc`. A poll requires that `ranks.counts` holds for the
+    /// stream. Do not poll the future again after it has returned its value.
     ///
     /// # Errors
     ///
-    /// If a collection has no memory for an item, the value is [`Refused`]: both collections as they were
-    /// before, and that item.
+    /// If a collection has no memory for an item, the future resolves to `Err` of a [`Refused`]: both
+    /// collections as they were before, and that item.
     ///
     /// # Examples
     ///
@@ -2282,8 +2299,8 @@ pub trait StreamExt: Stream {
     /// Returns a future that collects pairs into two collections: of the first parts, and of the second
     /// parts.
     ///
-    /// Both collections take their memory from `alloc`. Do not poll the future again after it has returned
-    /// its value.
+    /// Both collections take their memory from `alloc`. A poll requires that `ranks.counts` holds for the
+    /// stream. Do not poll the future again after it has returned its value.
     ///
     /// # Errors
     ///

@@ -60,7 +60,7 @@ impl<R: Drop> BufReader<R> {
     ghost use Rattle.lite_buffered.specs.contracts.buf_reader.BufReader.{the_row};
     ghost use Rattle.lite_buffered.specs.BufReader.{ahead, reader_capacity, reader_inner};
 
-    /// Returns a reader over `inner` with a buffer of 8192 bytes.
+    /// Returns a reader over `inner` with an empty buffer of 8192 bytes.
     ///
     /// It returns `Err(inner)` if the buffer cannot be allocated. `inner` must be `Drop`.
     ///

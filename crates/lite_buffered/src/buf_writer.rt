@@ -64,7 +64,7 @@ impl<W: Drop> BufWriter<W> {
     ghost use Rattle.lite_buffered.specs.contracts.buf_writer.BufWriter.{the_row};
     ghost use Rattle.lite_buffered.specs.BufWriter.{buffered, unwritten, writer_capacity, writer_inner};
 
-    /// Returns a writer to `inner` with a buffer of 8192 bytes.
+    /// Returns a writer to `inner` with an empty buffer of 8192 bytes.
     ///
     /// It returns `Err(inner)` if the buffer cannot be allocated. `inner` must be `Drop`.
     ///

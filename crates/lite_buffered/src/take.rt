@@ -9,8 +9,8 @@ use std::io::IoSliceMut;
 /// A reader over the first bytes of another reader, up to a limit, and then at end of file until
 /// [`set_limit`](Take::set_limit) raises the limit.
 ///
-/// Returned by [`take`](crate::make::take). Once the limit is used up, the inner reader is not polled. Before that
-/// `Pending`, errors and end of file of the inner reader are passed on, and leave the limit unchanged.
+/// Returned by [`take`](crate::make::take). Once the limit is used up, the inner reader is not polled. Before
+/// that, `Pending`, errors and end of file of the inner reader are passed on. They leave the limit unchanged.
 #[derive(Debug, Drop)]
 pub struct Take<R> {
     inner: R,

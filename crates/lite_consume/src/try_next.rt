@@ -6,8 +6,8 @@ use crate::consume::Consume;
 use crate::folder::Folder;
 use lite_base::Stream;
 
-/// A future that resolves to the value in the next item of a stream, to its error, or to `Ok(None)` at an
-/// end.
+/// A future that resolves to `Ok(Some(value))` for the next item `Ok(value)` of a stream, to `Err(e)` for an
+/// item `Err(e)`, and to `Ok(None)` at an end.
 ///
 /// Returned by [`try_next`](crate::make::try_next). Each poll polls the stream once.
 pub type TryNextFuture<'a, S> = Consume<&'a mut S, TryNext>;

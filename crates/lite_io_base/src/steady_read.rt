@@ -11,7 +11,7 @@ pub trait SteadyRead: AsyncRead {
     /// The runs in which no memory was refused.
     ghost ample: { Runs ReadMark Self };
 
-    /// That no call allocates; then each run is ample.
+    /// No call allocates. Then each run is ample.
     ghost needs_none: { Type 0 } = { ⊤ };
 
     /// The values that have the same specification, apart from `Pending`.

@@ -10,9 +10,10 @@ use lite_stream::Fuse;
 
 /// A stream that yields the items of two streams as they come, and prefers the first.
 ///
-/// Returned by [`or`](crate::make::or). Each poll polls the first stream, and the second one only if the first has
-/// no item. Both are dropped with it, and not before. A stream that has ended is not polled. A poll without an item returns an end if both streams have ended, and then
-/// this stream ends for ever. Otherwise it returns `Pending`.
+/// Returned by [`or`](crate::make::or). Each poll polls the first stream, unless that has ended. If this
+/// gives no item, the poll then polls the second stream, unless that has ended. If neither gives an item, the
+/// poll returns an end if both streams have ended, and `Pending` otherwise. After that end this stream ends
+/// for ever. Both streams are dropped with it, and not before.
 #[derive(Clone, Debug, Drop)]
 pub struct Or<S1, S2> {
     pub(crate) stream1: Fuse<S1>,

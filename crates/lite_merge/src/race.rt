@@ -12,10 +12,11 @@ use rand_core::Rng;
 /// A stream that yields the items of two streams as they come, with neither preferred.
 ///
 /// Returned by [`race`](crate::make::race) and [`race_with_seed`](crate::make::race_with_seed). Each poll
-/// takes one word from the generator by `next_u32`. If its lowest bit is 1 the first stream is polled first,
-/// otherwise the second. The other one is polled only if that one has no item. A stream that has ended is not
-/// polled. A poll without an item returns an end if both streams have ended, and then this stream ends for
-/// ever. Otherwise it returns `Pending`.
+/// takes one word from the generator by `next_u32`. If its lowest bit is 1, the poll polls the first stream
+/// first, otherwise the second. If this gives no item, it then polls the other stream. A stream that has
+/// ended is not polled. If neither gives an item, the poll returns an end if both streams have ended, and
+/// `Pending` otherwise. After that end this stream ends for ever. Both streams are dropped with it, and not
+/// before. It is `Counted` if both streams are; its `ranks.counts` then requires `ranks.firm` of both.
 #[derive(Clone, Debug, Drop)]
 pub struct Race<S1, S2, R> {
     pub(crate) stream1: Fuse<S1>,

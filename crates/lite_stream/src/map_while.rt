@@ -10,8 +10,8 @@ use lite_base::{Context, Counted, Poll, Stream, ready};
 /// A stream that yields the values that a function returns for the items of another stream, and ends at each
 /// `None`.
 ///
-/// Returned by [`map_while`](crate::make::map_while). That end is not for ever: the next poll polls the other
-/// stream again.
+/// Returned by [`map_while`](crate::make::map_while). The end at a `None` is not for ever: the next poll
+/// polls the other stream again.
 #[derive(Debug, Drop)]
 pub struct MapWhile<S, F> {
     pub(crate) stream: S,

@@ -9,8 +9,8 @@ use lite_base::{Context, Counted, Poll, Stream, ready};
 
 /// A stream that calls a function with a state and each item of another stream, and ends at each `None`.
 ///
-/// Returned by [`scan`](crate::make::scan). The state is kept from call to call. That end is not for ever:
-/// the next poll polls the other stream again.
+/// Returned by [`scan`](crate::make::scan). The state is kept from call to call. The end at a `None` is not
+/// for ever: the next poll polls the other stream again.
 #[derive(Debug, Drop)]
 pub struct Scan<S, St, F> {
     pub(crate) stream: S,

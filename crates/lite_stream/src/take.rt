@@ -7,11 +7,11 @@ ghost use Rattle.lite_stream.specs.Laws.Through.{laws_unhinted};
 
 use lite_base::{Context, Counted, Poll, Stream, ready};
 
-/// A stream that yields the first items of another stream, and then ends for ever.
+/// A stream that yields the items of another stream, up to a given number, and then ends for ever.
 ///
-/// Returned by [`take`](crate::make::take). Once all these items are yielded, or the other stream has ended,
-/// that is not polled. It is `Counted` over any stream, because it yields a limited number of items: `ranks`
-/// counts those that are left.
+/// Returned by [`take`](crate::make::take). Once it has yielded that number of items, or the other stream has
+/// ended, it does not poll the other stream. It is `Counted` over any stream, because it yields a limited
+/// number of items: `ranks` counts those that are left.
 #[derive(Clone, Debug, Drop)]
 pub struct Take<S> {
     pub(crate) stream: S,

@@ -10,8 +10,8 @@ use lite_base::{Context, Counted, Poll, Stream, ready};
 /// A stream that yields the items of another stream, and ends at each item for which a predicate returns
 /// false.
 ///
-/// Returned by [`take_while`](crate::make::take_while). That item is dropped. That end is not for ever: the
-/// next poll polls the other stream again.
+/// Returned by [`take_while`](crate::make::take_while). The item for which the predicate returns false is
+/// dropped. The end is not for ever: the next poll polls the other stream again.
 #[derive(Debug, Drop)]
 pub struct TakeWhile<S, P> {
     pub(crate) stream: S,

@@ -50,14 +50,25 @@ pub trait LineService {
 
 /// Answers each line of `requests` with a reply to `replies`, in order, up to the first end of file.
 ///
-/// The service gets each line without its newline, and without a carriage return before that. A last line
-/// without a newline is answered, too. The call blocks this thread, by `on`, and may wait for ever.
+/// The service gets each line without its newline, and without one carriage return right before that. A last
+/// line without a newline is answered, too, and keeps its carriage return, as in
+/// [`lines`](futures_lite::io::AsyncBufReadExt::lines). If no byte follows the last newline, there is no
+/// further line. The call blocks this thread, by `on`, and may wait for ever.
 ///
-/// If it returns `Ok`, it has written the replies to all lines, none lost and none twice, and has flushed them.
-/// Otherwise it has written a prefix of those bytes, which may end within a reply, and the error says why it
-/// stopped. It also flushes when no more input is buffered.
+/// If it returns `Ok`, it has written the replies to all lines, none lost and none twice, and has flushed
+/// them. After each reply the call also flushes `replies`, if no more input is buffered.
 ///
-/// The caller guarantees that `ranks.counts` holds for the reader.
+/// The caller guarantees that `ranks.counts` holds for the reader `requests`: one read cannot go on for ever
+/// without a `Pending`.
+///
+/// # Errors
+///
+/// After an error the call has written a prefix of the replies, which may end within a reply. The
+/// [`ServeError`] says why it stopped:
+///
+/// - `ServeError::Input`: the reader failed, or memory for a line was refused.
+/// - `ServeError::Output`: the writer failed.
+/// - `ServeError::Memory`: the service had no memory for a reply.
 ///
 /// # Examples
 ///

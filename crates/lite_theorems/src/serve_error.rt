@@ -37,11 +37,11 @@ use std::io;
 /// ```
 #[derive(Debug, Drop)]
 pub enum ServeError {
-    /// The input returned this error, or memory for a line was refused. Each whole line before was answered.
-    /// The line in which it occurred was not.
+    /// The input returned this error, or memory for a line was refused. Each whole line before it was
+    /// answered. The line in which it occurred was not.
     Input(io::Error),
-    /// The output returned this error. It accepted a front of the replies.
+    /// The output returned this error. It accepted a prefix of the replies.
     Output(io::Error),
-    /// Memory was refused, for a reply or for a wait.
+    /// Memory for a reply was refused: [`LineService::answer`](crate::LineService::answer) returned `Err`.
     Memory,
 }

@@ -16,7 +16,7 @@ use std::sync::Wait;
 /// Blocks this thread, by `on`, until one read into `buf` is done, and returns its value.
 ///
 /// The value is that of [`read`]. The reader produced the events of that value, and pendings. The call may
-/// wait for ever. It never returns `Err` itself.
+/// wait for ever. The outer result is always `Ok`.
 ///
 /// # Examples
 ///
@@ -49,8 +49,8 @@ pub fn wait_read<R: Wait, T: AsyncRead>(
 /// Blocks this thread, by `on`, until `buf` is full, and returns the value.
 ///
 /// The value is that of [`read_exact`]. If it is `Ok`, the reader produced exactly the bytes of the buffer.
-/// Otherwise it produced fewer, and then an end of file or the error. The call may wait for ever. It never
-/// returns `Err` itself.
+/// Otherwise it produced fewer, and then an end of file or the error. The call may wait for ever. The outer
+/// result is always `Ok`.
 ///
 /// # Examples
 ///
@@ -86,8 +86,8 @@ pub fn wait_read_exact<R: Wait, T: AsyncRead>(
 /// `buf`.
 ///
 /// The value is that of [`read_until`]. The reader produced exactly the bytes that were appended, and then
-/// the end of file or the error, if there was one. The call may wait for ever. It never returns `Err` itself.
-/// The caller guarantees that `ranks.counts` holds for the reader.
+/// the end of file or the error, if there was one. The call may wait for ever. The outer result is always
+/// `Ok`. The caller guarantees that `ranks.counts` holds for the reader.
 ///
 /// # Examples
 ///
@@ -122,8 +122,8 @@ pub fn wait_read_until<R: Wait, T: AsyncBufRead + CountedRead>(
 /// Blocks this thread, by `on`, until the writer has accepted all of `bytes`, and returns the value.
 ///
 /// The value is that of [`write_all`]. If it is `Ok`, the writer accepted exactly these bytes. Otherwise it
-/// accepted a front of them, and then returned the error. The call may wait for ever. It never returns `Err`
-/// itself.
+/// accepted a prefix of them, and then returned the error. The call may wait for ever. The outer result is
+/// always `Ok`.
 ///
 /// # Examples
 ///
@@ -152,8 +152,8 @@ pub fn wait_write_all<R: Wait, T: AsyncWrite>(
 
 /// Blocks this thread, by `on`, until the writer was flushed, and returns the value.
 ///
-/// The value is that of [`flush`]. The writer accepts no byte. The call may wait for ever. It never returns
-/// `Err` itself.
+/// The value is that of [`flush`]. The writer accepts no byte. The call may wait for ever. The outer result
+/// is always `Ok`.
 ///
 /// # Examples
 ///

@@ -15,7 +15,7 @@ NeverReady {F} {A} run f = (ins : List (Poll A)) (g : F) → run f ins g → Wai
 abbrev pub HasOk : {F A E : Type 0} → Runs (Poll (Result A E)) F → F → Type 0
 HasOk {A = A} run f = (a : A) × HasValue run f (Ok a)
 
--- As `HasValue`, with the value named twice, so that `grind` applies the fact when it meets the value.
+-- If the future `f` is polled until its value, or waited for as `block_on` does, the value is `v`.
 abbrev pub HasValueAs : {F A : Type 0} → Runs (Poll A) F → F → A → Type 0
 HasValueAs run f v = ValueIs run f v × HasValue run f v
 

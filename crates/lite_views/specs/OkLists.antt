@@ -20,7 +20,8 @@ OkLists {S} {T} {E} run s f xs = (l : List (Answer (Result T E))) (t : S) → ru
 unfoldable pub OkSeen : {S T Y : Type 0} → S → (T → Y) → List Y → Type 0
 OkSeen s f xs = ⊤
 
--- The same as `OkLists`, in the form that the prover finds by its list.
+-- `f` of what the `Ok` items of `s` hold is `xs`, up to an error. It is `OkLists`, in a form that the prover finds by
+-- `xs`.
 abbrev pub OkListsAs : {S T E Y : Type 0} → Runs (Answer (Result T E)) S → S → (T → Y) → List Y → Type 0
 OkListsAs run s f xs = OkSeen s f xs × OkLists run s f xs
 

@@ -39,20 +39,23 @@ HasValue {F} {A} run f v = (ins : List (Poll A)) (w : A) → Finishes run f ins 
 unfoldable pub Seen : {X Y : Type 0} → X → Y → Type 0
 Seen x y = ⊤
 
--- If the future `f` was waited for and returned its value, `P` holds of that.
+-- If the future `f` was waited for, as `block_on` does, and the result is `Ok`, `P` holds of the value. `E` is the type
+-- of the result's error.
 abbrev pub ValueHolds : {F A : Type 0} (E : Type 0) → Runs (Poll A) F → F → (A → Type 0) → Type 0
 ValueHolds {F} {A} E run f P = (r : Result A E) → Waited run f r → Seen f r × IfOk r P
 
--- If the future `f` was waited for and returned its value, that is `v`. The form is one that the prover finds by `v`.
+-- If the future `f` was waited for, as `block_on` does, and the result is `Ok`, the value is `v`. The definition names
+-- `v` once more, because the prover searches by it.
 abbrev pub ValueIs : {F A : Type 0} → Runs (Poll A) F → F → A → Type 0
 ValueIs run f v = (v ≡ v) × ValueHolds AllocError run f (λ w. w ≡ v)
 
--- The same as `Lists`, in the form that the prover finds by its list.
+-- The items of `s` are `xs`: every run from `s` yields a prefix of `xs`, and all of `xs` before the end of the stream.
+-- The definition names `xs` once more, because the prover searches by it.
 abbrev pub ListsAs : {S A : Type 0} → Runs (Answer A) S → S → List A → Type 0
 ListsAs {S} {A} run s xs = (xs ≡ xs) × Seen s xs × Lists run s xs
 
--- `P` holds of the list of the items of `s`, if they are a list. It is said twice, so that the prover finds it by the
--- list and by the stream.
+-- If the items of `s` are `xs`, `P` holds of `xs`. The definition says it twice, because the prover searches by the
+-- list or by the stream.
 abbrev pub OfItems : {S A : Type 0} → Runs (Answer A) S → S → (List A → Type 0) → Type 0
 OfItems {A = A} run s P =
     ((xs : List A) → Lists run s xs → P xs) × ((xs : List A) → Lists run s xs → Seen s xs × P xs)
@@ -61,6 +64,7 @@ OfItems {A = A} run s P =
 unfoldable pub Fronts : {S A : Type 0} → Runs (Answer A) S → S → List A → Type 0
 Fronts {S} {A} run s xs = (l : List (Answer A)) (t : S) → run s l t → Front (items_in l) xs
 
--- The same as `Fronts`, in the form that the prover finds by its list.
+-- Every run from `s` yields a prefix of `xs`, also with items that come after an end of the stream. The definition
+-- names `xs` once more, because the prover searches by it.
 abbrev pub FrontsAs : {S A : Type 0} → Runs (Answer A) S → S → List A → Type 0
 FrontsAs {S} {A} run s xs = (xs ≡ xs) × Fronts run s xs

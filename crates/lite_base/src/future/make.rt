@@ -117,7 +117,11 @@ pub fn poll_once<F: Future>(f: F) -> PollOnce<F>
 /// Returns a future that resolves to the pair of both values, once both futures are ready.
 ///
 /// Each poll polls each future that is not ready yet once, the first before the second. A future is dropped
-/// when its value is there. The futures and the values have to be `Drop`.
+/// when its value is there. The values have to be `Drop`. The result is a `Future` only if both futures are
+/// `Drop`, too.
+///
+/// The contract has no clause about the value. A proof gets it from the runs of [`Zip`], as that of the
+/// example does.
 ///
 /// # Examples
 ///

@@ -10,8 +10,8 @@ use crate::{Context, Poll};
 /// both are.
 ///
 /// Returned by [`or`](super::make::or). Each poll polls the second future only if the first returned
-/// `Pending`. It is `Pending` if both are. Both futures are dropped with it, and not before. It adds no rule on
-/// polls after the value: each future decides whether it may be polled again.
+/// `Pending`. It is `Pending` if both are. Both futures are dropped with it, and not before. After its value
+/// it may be polled again only if both futures may be polled again.
 #[derive(Debug, Drop)]
 pub struct Or<F1, F2> {
     pub(crate) future1: F1,

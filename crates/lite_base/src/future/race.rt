@@ -11,8 +11,9 @@ use rand_core::Rng;
 /// are.
 ///
 /// Returned by [`race`](super::make::race) and [`race_with_seed`](super::make::race_with_seed). Each poll
-/// draws one word of the generator by `next_u32`. If its lowest bit is 1, the first future is polled first,
-/// otherwise the second. The other is polled only if that one returned `Pending`.
+/// draws one word of the generator by `next_u32`. If its lowest bit is 1, it polls the first future first,
+/// otherwise the second. It polls the other future only if this returned `Pending`. Both futures are dropped
+/// with it, and not before. After its value it may be polled again only if both futures may be polled again.
 #[derive(Debug, Drop)]
 pub struct Race<F1, F2, G> {
     pub(crate) future1: F1,

@@ -10,6 +10,7 @@ use std::sync::ledger::{Blank, Ledger};
 /// thread. Its contract requires `blanks ≡ B.names`. Anyone who calls it passes `Brand` for `B`, and the
 /// proof of that call picks the names: `record { names = a.blanks }`.
 pub trait Books {
+    /// The names of the four counters.
     ghost names: { Names };
 }
 

@@ -52,7 +52,7 @@ impl<R, T: Tale + Takings + Clone, B: Books> Model for JournalReadHalf<R, T, B> 
 impl<R, T: Tale + Takings + Clone, B: Books> JournalReadHalf<R, T, B> {
     /// Returns how many entries of reads the journal has.
     ///
-    /// It does not wait.
+    /// It takes no lock and does not wait. The number is exact: it never wraps.
     ///
     /// # Examples
     ///

@@ -54,7 +54,7 @@ impl<R, T: Tale + Takings + Clone, B: Books> Model for JournalWriteHalf<R, T, B>
 impl<R, T: Tale + Takings + Clone, B: Books> JournalWriteHalf<R, T, B> {
     /// Returns how many entries of writes, flushes and closes the journal has.
     ///
-    /// It does not wait.
+    /// It takes no lock and does not wait. The number is exact: it never wraps.
     ///
     /// # Examples
     ///
