@@ -491,9 +491,9 @@ where
 
 /// Returns a stream that yields the items of both streams as they come, with `stream1` first.
 ///
-/// Each poll polls `stream1`, and then `stream2` if that has no item. Each stream is polled up to its first
-/// end, and not after it. The result ends when both have ended. It returns `Pending` if there is no item and
-/// one of them has not ended. Size hint: `(0, None)`.
+/// Each poll polls `stream1`, unless it has ended. If this gives no item, the poll then polls `stream2`,
+/// unless it has ended. The result ends when both streams have ended. It returns `Pending` if there is no
+/// item and one of them has not ended. Size hint: `(0, None)`.
 ///
 /// # Examples
 ///
@@ -551,12 +551,13 @@ where
 
 /// Returns a stream that yields the items of both streams as they come, with neither preferred.
 ///
-/// Each poll takes a word from `rng`. If its lowest bit is 1 `stream1` is polled first, otherwise `stream2`.
-/// The other one is polled only if the first has no item. Each stream is polled up to its first end, and not
-/// after it. The result ends when both have ended. It returns `Pending` if there is no item and one of them
-/// has not ended.
+/// Each poll takes a word from `rng`. If its lowest bit is 1, it polls `stream1` first, otherwise `stream2`.
+/// If this gives no item, the poll then polls the other stream. A stream that has ended is not polled. The
+/// result ends when both streams have ended. It returns `Pending` if there is no item and one of them has not
+/// ended.
 ///
-/// Unlike futures-lite, the generator is an argument. Size hint: `(0, None)`.
+/// The result is `Counted` if both streams are; its `ranks.counts` then requires `ranks.firm` of both. Unlike
+/// futures-lite, the generator is an argument. Size hint: `(0, None)`.
 ///
 /// # Examples
 ///

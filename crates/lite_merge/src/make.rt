@@ -27,21 +27,6 @@ pub fn zip<A: Stream, B>(stream1: A, stream2: B) -> Zip<A, B>
 }
 
 /// Returns a stream that yields the items of both streams as they come, with `stream1` first.
-///
-/// Each poll polls `stream1`, unless it has ended. If this gives no item, the poll then polls `stream2`,
-/// unless it has ended. The result ends when both streams have ended. It returns `Pending` if there is no
-/// item and one of them has not ended. Size hint: `(0, None)`.
-///
-/// # Examples
-///
-/// ```
-/// use futures_lite::{StreamExt, future, stream};
-///
-/// let mut first_ready = stream::or(stream::pending::<u8>(), stream::once(1));
-/// assert_eq!(rt; future::block_on(&rt, first_ready.next())?, Some(1));
-/// let both = stream::or(stream::once(1u8), stream::once(2)).collect::<Vec<_>>(rt.alloc());
-/// assert_eq!(rt; future::block_on(&rt, both)??.as_slice(), [1, 2].as_slice());
-/// ```
 pub fn or<T, S1, S2>(stream1: S1, stream2: S2) -> Or<S1, S2>
 where
     S1: Stream<Item = T>,
@@ -58,28 +43,6 @@ where
 }
 
 /// Returns a stream that yields the items of both streams as they come, with neither preferred.
-///
-/// Each poll takes a word from `rng`. If its lowest bit is 1, it polls `stream1` first, otherwise `stream2`.
-/// If this gives no item, the poll then polls the other stream. A stream that has ended is not polled. The
-/// result ends when both streams have ended. It returns `Pending` if there is no item and one of them has not
-/// ended.
-///
-/// The result is `Counted` if both streams are; its `ranks.counts` then requires `ranks.firm` of both. Unlike
-/// futures-lite, the generator is an argument. Size hint: `(0, None)`.
-///
-/// # Examples
-///
-/// ```
-/// use futures_lite::{StreamExt, future, stream};
-/// use rand_core::SeedableRng;
-/// use rand_pcg::Pcg32;
-/// use std::collections::BTreeSet;
-///
-/// let rng = Pcg32::seed_from_u64(1);
-/// let merged = stream::race(stream::iter(0u8..3), stream::iter(7u8..9), rng);
-/// let got = future::block_on(&rt, merged.collect::<BTreeSet<_>>(rt.alloc()))??;
-/// assert!(rt; got.iter().copied().eq([0, 1, 2, 7, 8].into_iter()));
-/// ```
 pub fn race<T, S1, S2, R>(stream1: S1, stream2: S2, rng: R) -> Race<S1, S2, R>
 where
     S1: Stream<Item = T>,
@@ -99,22 +62,6 @@ where
 }
 
 /// Returns the stream that [`race`] returns, with a generator that is made from `seed`.
-///
-/// The generator is a `Pcg32`, so one seed always gives the same order.
-///
-/// # Examples
-///
-/// ```
-/// use futures_lite::{StreamExt, future, stream};
-///
-/// let mut orders = Vec::new(rt.alloc());
-/// for _ in 0..2 {
-///     let merged = stream::race_with_seed(stream::iter(0u8..9), stream::iter(10u8..19), 7);
-///     orders.push(future::block_on(&rt, merged.collect::<Vec<_>>(rt.alloc()))??)?;
-/// }
-/// assert_eq!(rt; orders[0].len(), 18);
-/// assert_eq!(rt; orders[0].as_slice(), orders[1].as_slice());
-/// ```
 pub fn race_with_seed<T, S1, S2>(stream1: S1, stream2: S2, seed: u64) -> Race<S1, S2, Pcg32>
 where
     S1: Stream<Item = T>,

@@ -26,21 +26,6 @@ pub fn pending<T>() -> Pending<T>
 }
 
 /// Returns a future that calls `f` at each poll, and returns the result.
-///
-/// The caller guarantees that `f` may be called with any context, and keeps what the context holds.
-///
-/// # Examples
-///
-/// ```
-/// use futures_lite::{Context, Poll, future};
-///
-/// let mut polls = 0u8;
-/// let third = future::poll_fn(|cx: &mut Context<'_>| {
-///     polls = polls.wrapping_add(1);
-///     if polls < 3 { cx.yield_now() } else { Poll::Ready(polls) }
-/// });
-/// assert_eq!(rt; future::block_on(&rt, third)?, 3);
-/// ```
 pub fn poll_fn<T, F>(f: F) -> PollFn<F>
 where
     F: FnMut(&mut Context<'_>) -> Poll<T>,
