@@ -76,14 +76,15 @@ pub use Rattle.lite_views.proofs.Inspect.{shown_lists}
 pub use Rattle.lite_views.proofs.Iter.{array_gives, range_gives, slice_gives, vec_gives}
 pub use Rattle.lite_views.proofs.Map.{mapped_fits}
 pub use Rattle.lite_views.proofs.MapWhile.{map_while_fewer, mapped_while_fits}
-pub use Rattle.lite_views.proofs.Merge.{race_first_never, race_second_never}
+pub use Rattle.lite_views.proofs.Merge.{or_first_never, or_second_never, race_first_never, race_second_never}
+pub use Rattle.lite_views.proofs.Merge.{or_at_once as stream_or_at_once}
 pub use Rattle.lite_views.proofs.Next.{next_left}
 pub use Rattle.lite_views.proofs.Nth.{nth_left}
 pub use Rattle.lite_views.proofs.OkLists.{ok_seen}
 pub use Rattle.lite_views.proofs.Once.{once_at_once, once_fronts, once_lists}
 pub use Rattle.lite_views.proofs.OnceFuture.{once_future_lists}
 pub use Rattle.lite_views.proofs.Partition.{accepted_made, others_made}
-pub use Rattle.lite_views.proofs.Picking.{or_at_once, or_picked, polled_at_once, race_picked, try_at_once, try_both, try_fails_at_once, try_first_fails}
+pub use Rattle.lite_views.proofs.Picking.{or_at_once, or_picked, polled_at_once, polled_returned, race_picked, try_at_once, try_both, try_fails_at_once, try_first_fails}
 pub use Rattle.lite_views.proofs.Picking.{try_second_fails}
 pub use Rattle.lite_views.proofs.Pieces.{pieces_listed}
 pub use Rattle.lite_views.proofs.PollFn.{polled_on}
@@ -106,7 +107,7 @@ pub use Rattle.lite_views.proofs.Views.{lent_lists, listed_through, seen}
 pub use Rattle.lite_views.proofs.Waiting.{left_seen}
 pub use Rattle.lite_views.proofs.WriteAll.{written_left}
 pub use Rattle.lite_views.specs.Acting.{ActsAsOnState}
-pub use Rattle.lite_views.specs.Answering.{HasOk, HasValueAs, PickedValue}
+pub use Rattle.lite_views.specs.Answering.{HasOk, HasValueAs, PickedValue, ReturnedBy}
 unfoldable pub use Rattle.lite_views.specs.Answering.{AtOnce, NeverReady}
 pub use Rattle.lite_views.specs.Futures.{CountRuns, FindRuns, FoldRuns, LastRuns, NthRuns, TryFoldRuns, TryZipRuns}
 pub use Rattle.lite_views.specs.Iterators.{GivesAll}
@@ -115,7 +116,7 @@ pub use Rattle.lite_views.specs.OkLists.{AllTaken, OkListsAs}
 unfoldable pub use Rattle.lite_views.specs.OkLists.{OkLists, OkSeen}
 pub use Rattle.lite_views.specs.Trying.{TriesCollect, first_error, try_fold}
 pub use Rattle.lite_views.specs.Unfold.{UnfoldsInto}
-pub use Rattle.lite_views.specs.Views.{FrontsAs, ListsAs, OfItems, ValueHolds, ValueIs}
+pub use Rattle.lite_views.specs.Views.{FoundBy, FrontsAs, ListsAs, ListsIf, OfItems, RestIs, ValueHolds, ValueIs}
 unfoldable pub use Rattle.lite_views.specs.Views.{Fronts, GoesOn, HasValue, Lists, Seen, Waited}
 pub use Rattle.lite_views.specs.Waiting.{WhenLeft}
 unfoldable pub use Rattle.lite_views.specs.Waiting.{LeftAs, LeftSeen}

@@ -1,7 +1,7 @@
 //! Functions that make futures, and the extension methods of every future.
 ghost use Rattle.std.specs.Prelude.{◌≡◌, Err, IfOk, List, Ok, OnErr, Result, Some};
 ghost use Rattle.futures_lite.specs.Uses.{Poll, Gives, Finishes, try_pair, Asked, LeftAs, LeftSeen, HasValue, Seen, ValueIs, Waited};
-ghost use Rattle.futures_lite.specs.Uses.{Called, Context, MutBor};
+ghost use Rattle.futures_lite.specs.Uses.{AllocError, Called, Context, MutBor, ReturnedBy, ValueHolds};
 ghost use Rattle.futures_lite.specs.Uses.{AtOnce, HasOk, HasValueAs, NeverReady, PickedValue, TryZipRuns};
 
 pub use lite_base::Future;
@@ -88,6 +88,7 @@ pub fn poll_fn<T, F>(f: F) -> PollFn<F>
 where
     F: FnMut(&mut Context<'_>) -> Poll<T>,
     ensures made { result ≡ record { f = f } }
+    ensures returned { ValueHolds AllocError ⟦<PollFn<F> as Future>⟧.run result (ReturnedBy F.FnMut) }
     ensures value { (v : T) → ((cx left : MutBor Context) (a : Poll T) (g : F) → Called F.FnMut f (cx, tt) (a, (left, tt)) g → a ≡ Poll.Ready v)
         → HasValueAs ⟦<PollFn<F> as Future>⟧.run result v × AtOnce ⟦<PollFn<F> as Future>⟧.run result v }
 {

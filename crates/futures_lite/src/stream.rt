@@ -6,7 +6,7 @@ ghost use Rattle.futures_lite.specs.Uses.{range_with_len, slice_get, zip, ActsAs
 ghost use Rattle.futures_lite.specs.Uses.{until_end, Calls, MayCallEach, items_in, Filters, SkipsFirst, SkipsWhile, StepsBy, Fuses, Inspects, Takes};
 ghost use Rattle.futures_lite.specs.Uses.{TakesWhile, Zips, ActsAsOnState, map_while, scan, step_from, Fronts, FrontsAs, GoesOn, HasValue, Lists, ListsAs, OfItems};
 ghost use Rattle.futures_lite.specs.Uses.{Seen, ValueHolds, ValueIs, CountRuns, FindRuns, FoldRuns, LastRuns, NthRuns, TryFoldRuns, TriesCollect, first_error};
-ghost use Rattle.futures_lite.specs.Uses.{AtOnce, NeverReady, Ors, RacesOn, WhenLeft};
+ghost use Rattle.futures_lite.specs.Uses.{AtOnce, FoundBy, ListsIf, NeverReady, RestIs, Ors, RacesOn, WhenLeft};
 ghost use Rattle.futures_lite.specs.Uses.{Context, GivesFuture, Holding, MutBor, Ready, TryUnfoldsBy, UnfoldsBy, UnfoldsInto, item_of, seed_of, try_item_of, try_seed_of};
 ghost use Rattle.futures_lite.specs.Uses.{try_fold, option_transpose, AllTaken, OkLists, OkSeen, Budgets, CycleOf, FlatMaps, Flattens, Thens, First};
 
@@ -75,16 +75,16 @@ pub fn empty<T>() -> Empty<T>
 /// ```
 /// use futures_lite::{StreamExt, future, stream};
 ///
-/// fn first<R>(rt: &R) -> Result<Option<u8>, AllocError>
+/// fn numbers<R>(rt: &R) -> Result<Vec<u8>, AllocError>
 /// where
 ///     R: Wait + RandomSource + AllocGlobal,
-///     ensures { IfOk result (λ v. v ≡ Some 1) }
+///     ensures { IfOk result (λ v. v.items ≡ 1 ∷ 2 ∷ []) }
 /// {
-///     let mut numbers = stream::iter_vec(vec![in rt.alloc(); 1u8, 2]?);
-///     future::block_on(rt, numbers.next())
+///     let numbers = stream::iter_vec(vec![in rt.alloc(); 1u8, 2]?);
+///     future::block_on(rt, numbers.collect::<Vec<u8>>(rt.alloc()))?.map_err(|_| AllocError)
 /// }
 ///
-/// assert_eq!(rt; first(&rt)?, Some(1));
+/// assert_eq!(rt; numbers(&rt)?.as_slice(), [1, 2].as_slice());
 /// ```
 pub fn iter_vec<T: Drop>(items: Vec<T>) -> Iter<vec::IntoIter<T>>
     ensures fronts { Fronts ⟦<Iter<vec::IntoIter<T>> as Stream>⟧.run result items.items }
@@ -185,20 +185,17 @@ pub fn iter_range(items: Range<usize>) -> Iter<Range<usize>>
 /// ```
 /// use futures_lite::{StreamExt, future, stream};
 ///
-/// fn only<R>(rt: &R) -> Result<Option<u8>, AllocError>
+/// fn only<R>(rt: &R) -> Result<(Option<u8>, Option<u8>), AllocError>
 /// where
 ///     R: Wait + RandomSource + AllocGlobal,
-///     ensures { IfOk result (λ v. v ≡ Some 7) }
+///     ensures { IfOk result (λ v. v ≡ (Some 7, None)) }
 /// {
-///     let mut seven = stream::once(7u8);
-///     future::block_on(rt, seven.next())
+///     let mut seven = stream::once(7);
+///     let first = future::wait_for(rt, &mut seven.next())?;
+///     Ok((first, future::wait_for(rt, &mut seven.next())?))
 /// }
 ///
-/// assert_eq!(rt; only(&rt)?, Some(7));
-///
-/// let mut one = stream::once(7u8);
-/// assert_eq!(rt; future::block_on(&rt, one.next())?, Some(7));
-/// assert_eq!(rt; future::block_on(&rt, one.next())?, None);
+/// assert_eq!(rt; only(&rt)?, (Some(7), None));
 /// ```
 pub fn once<T>(t: T) -> Once<T>
     ensures made { result ≡ record { value = Some t } }
@@ -276,16 +273,16 @@ pub fn repeat<T: Clone>(item: T) -> Repeat<T>
 /// ```
 /// use futures_lite::{StreamExt, future, stream};
 ///
-/// fn sevens<R>(rt: &R) -> Result<Vec<u8>, AllocError>
+/// fn sevens<R>(rt: &R, n: usize) -> Result<Vec<u8>, AllocError>
 /// where
 ///     R: Wait + RandomSource + AllocGlobal,
-///     ensures { IfOk result (λ v. v.items ≡ replicate 2 7) }
+///     ensures { IfOk result (λ v. v.items ≡ replicate n 7) }
 /// {
-///     let sevens = stream::repeat_with(|| 7u8).take(2);
+///     let sevens = stream::repeat_with(|| 7u8).take(n);
 ///     future::block_on(rt, sevens.collect::<Vec<u8>>(rt.alloc()))?.map_err(|_| AllocError)
 /// }
 ///
-/// assert_eq!(rt; sevens(&rt)?.as_slice(), [7, 7].as_slice());
+/// assert_eq!(rt; sevens(&rt, 2)?.as_slice(), [7, 7].as_slice());
 ///
 /// let mut next = 0u8;
 /// let numbers = stream::repeat_with(|| {
@@ -339,18 +336,7 @@ pub fn pending<T>() -> Pending<T>
 /// # Examples
 ///
 /// ```
-/// use futures_lite::{Context, Poll, StreamExt, future, stream};
-///
-/// fn next<R>(rt: &R) -> Result<Option<u8>, AllocError>
-/// where
-///     R: Wait + RandomSource + AllocGlobal,
-///     ensures { IfOk result (λ v. v ≡ Some 7) }
-/// {
-///     let mut sevens = stream::poll_fn(|_cx: &mut Context<'_>| Poll::Ready(Some(7u8)));
-///     future::block_on(rt, sevens.next())
-/// }
-///
-/// assert_eq!(rt; next(&rt)?, Some(7));
+/// use futures_lite::{Context, Poll, stream};
 ///
 /// let mut left = 2u8;
 /// let mut numbers = stream::block_on(rt, stream::poll_fn(move |_cx: &mut Context<'_>| {
@@ -414,26 +400,18 @@ pub fn script<T>(answers: Vec<Poll<Option<T>>>) -> Script<T>
 /// ```
 /// use futures_lite::{StreamExt, future, stream};
 ///
-/// fn below_two<R>(rt: &R) -> Result<Vec<u32>, AllocError>
-/// where
-///     R: Wait + RandomSource + AllocGlobal,
-///     ensures { IfOk result (λ v. v.items ≡ 0 ∷ 1 ∷ []) }
-/// {
-///     let below_two = stream::unfold(0u32, |n: u32| {
-///         future::ready(if n < 2 { Some((n, n + 1)) } else { None })
-///     });
-///     future::block_on(rt, below_two.collect::<Vec<u32>>(rt.alloc()))?.map_err(|_| AllocError)
-/// }
-///
-/// assert_eq!(rt; below_two(&rt)?.as_slice(), [0, 1].as_slice());
+/// let below_two = stream::unfold(0u32, |n: u32| {
+///     future::ready(if n < 2 { Some((n, n + 1)) } else { None })
+/// });
+/// let numbers = future::block_on(&rt, below_two.take(3).collect::<Vec<u32>>(rt.alloc()))??;
+/// assert_eq!(rt; numbers.as_slice(), [0, 1].as_slice());
 /// ```
 pub fn unfold<T, F, Fut, Item>(seed: T, f: F) -> Unfold<T, F, Fut>
 where
     F: FnMut(T) -> Fut,
     Fut: Future<Output = Option<(Item, T)>>,
     ensures made { result ≡ record { f = f; state = Holding.Seed seed } }
-    ensures lists { (xs : List Item) → UnfoldsInto F.FnMut Fut.run seed_of item_of f seed xs
-        → ListsAs (UnfoldsBy F.FnMut Fut.run) result xs }
+    ensures lists { ListsIf (UnfoldsBy F.FnMut Fut.run) result (UnfoldsInto F.FnMut Fut.run seed_of item_of f seed) }
 {
     lite_source::make::unfold(seed, f)
 }
@@ -451,40 +429,23 @@ where
 /// # Examples
 ///
 /// ```
-/// use futures_lite::{StreamExt, future, stream};
+/// use futures_lite::{future, stream};
 ///
-/// fn below_two<R>(rt: &R) -> Result<Vec<u32>, AllocError>
-/// where
-///     R: Wait + RandomSource + AllocGlobal,
-///     ensures { IfOk result (λ v. v.items ≡ 0 ∷ 1 ∷ []) }
-/// {
-///     let below_two = stream::try_unfold(0u32, |n: u32| {
-///         future::ready(if n < 2 { Ok(Some((n, n + 1))) } else { Ok::<_, u8>(None) })
-///     });
-///     future::block_on(rt, below_two.try_collect::<u32, u8, Vec<u32>>(rt.alloc()))?.map_err(|_| AllocError)
-/// }
-///
-/// fn failing<R>(rt: &R) -> Result<Vec<Result<u32, u8>>, AllocError>
-/// where
-///     R: Wait + RandomSource + AllocGlobal,
-///     ensures { IfOk result (λ v. v.items ≡ Ok 0 ∷ Err 9 ∷ []) }
-/// {
-///     let failing = stream::try_unfold(0u32, |n: u32| {
-///         future::ready(if n < 1 { Ok(Some((n, n + 1))) } else { Err(9) })
-///     });
-///     future::block_on(rt, failing.collect::<Vec<Result<u32, u8>>>(rt.alloc()))?.map_err(|_| AllocError)
-/// }
-///
-/// assert_eq!(rt; below_two(&rt)?.as_slice(), [0, 1].as_slice());
-/// assert_eq!(rt; failing(&rt)?.as_slice(), [Ok(0), Err(9)].as_slice());
+/// let below_two = stream::try_unfold(0u8, |n: u8| {
+///     future::ready(if n < 2 { Ok(Some((n, n + 1))) } else { Err("too large") })
+/// });
+/// let mut numbers = stream::block_on(rt, below_two);
+/// assert_eq!(rt; numbers.next()?, Some(Ok(0)));
+/// assert_eq!(rt; numbers.next()?, Some(Ok(1)));
+/// assert_eq!(rt; numbers.next()?, Some(Err("too large")));
+/// assert_eq!(rt; numbers.next()?, None);
 /// ```
 pub fn try_unfold<T, E, F, Fut, Item>(init: T, f: F) -> TryUnfold<T, F, Fut>
 where
     F: FnMut(T) -> Fut,
     Fut: Future<Output = Result<Option<(Item, T)>, E>>,
     ensures made { result ≡ record { f = f; state = Holding.Seed init } }
-    ensures lists { (xs : List (Result Item E)) → UnfoldsInto F.FnMut Fut.run try_seed_of try_item_of f init xs
-        → ListsAs (TryUnfoldsBy F.FnMut Fut.run) result xs }
+    ensures lists { ListsIf (TryUnfoldsBy F.FnMut Fut.run) result (UnfoldsInto F.FnMut Fut.run try_seed_of try_item_of f init) }
 {
     lite_source::make::try_unfold(init, f)
 }
@@ -533,7 +494,6 @@ where
 /// let both = stream::or(stream::once(1u8), stream::once(2)).collect::<Vec<_>>(rt.alloc());
 /// assert_eq!(rt; future::block_on(&rt, both)??.as_slice(), [1, 2].as_slice());
 /// ```
-#[tactic(auto, using(lite_views::proofs::Merge::or_first_never, lite_views::proofs::Merge::or_second_never, lite_views::proofs::Merge::or_at_once))]
 pub fn or<T, S1, S2>(stream1: S1, stream2: S2) -> Or<S1, S2>
 where
     S1: Stream<Item = T>,
@@ -544,7 +504,7 @@ where
     } }
     ensures first_never { (ys : List T) → NeverReady S1.run stream1 → Lists S2.run stream2 ys → ListsAs (Ors S1.run S2.run) result ys }
     ensures second_never { (xs : List T) → NeverReady S2.run stream2 → Lists S1.run stream1 xs → ListsAs (Ors S1.run S2.run) result xs }
-    ensures at_once { (x : T) → AtOnce S1.run stream1 (Some x) → AtOnce (Ors S1.run S2.run) result (Some x) }
+    ensures at_once { (x : T) → AtOnce S1.run stream1 (Some x) → Seen result x × AtOnce (Ors S1.run S2.run) result (Some x) }
 {
     lite_merge::make::or(stream1, stream2)
 }
@@ -907,14 +867,14 @@ pub trait StreamExt: Stream {
     ///
     /// assert_eq!(rt; firsts(&rt)?.as_slice(), [1, 2].as_slice());
     /// ```
-    #[tactic(auto, using(lite_views::proofs::Views::seen, lite_views::proofs::Take::taken_lists, lite_views::proofs::Take::taken_whole, lite_views::proofs::Take::repeated_lists))]
+    #[tactic(auto, using(lite_views::proofs::Views::seen, lite_views::proofs::Take::taken_lists, lite_views::proofs::Take::repeated_lists))]
     final fn take(self, n: usize) -> Take<Self>
     where
         Self: Sized,
         ensures parts { result ≡ record { stream = self; n = n } }
         ensures lists { OfItems Self.run self (λ xs. ListsAs (Takes Self.run) result (take n xs)) }
-        ensures whole { (xs : List Self.Item) → Lists Self.run self xs → length xs ≤ n → ListsAs (Takes Self.run) result xs }
-        ensures repeats { (x : Self.Item) → GoesOn Self.run self x → ListsAs (Takes Self.run) result (replicate n x) }
+        ensures repeats { (x : Self.Item) → FoundBy (replicate n x) self x
+            (GoesOn Self.run self x → ListsAs (Takes Self.run) result (replicate n x)) }
     {
         make::take(self, n)
     }
@@ -1208,7 +1168,6 @@ pub trait StreamExt: Stream {
     /// let both = stream::once(1u8).or(stream::once(2)).collect::<Vec<_>>(rt.alloc());
     /// assert_eq!(rt; future::block_on(&rt, both)??.as_slice(), [1, 2].as_slice());
     /// ```
-    #[tactic(auto, using(lite_views::proofs::Merge::or_first_never, lite_views::proofs::Merge::or_second_never, lite_views::proofs::Merge::or_at_once))]
     final fn or<S>(self, other: S) -> Or<Self, S>
     where
         Self: Sized,
@@ -1219,7 +1178,7 @@ pub trait StreamExt: Stream {
         } }
         ensures first_never { (ys : List Self.Item) → NeverReady Self.run self → Lists S.run other ys → ListsAs (Ors Self.run S.run) result ys }
         ensures second_never { (xs : List Self.Item) → NeverReady S.run other → Lists Self.run self xs → ListsAs (Ors Self.run S.run) result xs }
-        ensures at_once { (x : Self.Item) → AtOnce Self.run self (Some x) → AtOnce (Ors Self.run S.run) result (Some x) }
+        ensures at_once { (x : Self.Item) → AtOnce Self.run self (Some x) → Seen result x × AtOnce (Ors Self.run S.run) result (Some x) }
     {
         lite_merge::make::or(self, other)
     }
@@ -1438,17 +1397,17 @@ pub trait StreamExt: Stream {
     /// ```
     /// use futures_lite::{StreamExt, future, stream};
     ///
-    /// fn first<R>(rt: &R) -> Result<Option<u8>, AllocError>
+    /// fn copies<R>(rt: &R) -> Result<Vec<u8>, AllocError>
     /// where
     ///     R: Wait + RandomSource + AllocGlobal,
-    ///     ensures { IfOk result (λ v. v ≡ Some 1) }
+    ///     ensures { IfOk result (λ v. v.items ≡ 1 ∷ 2 ∷ []) }
     /// {
     ///     let numbers = [1u8, 2];
-    ///     let mut copies = stream::iter_array([&numbers[0], &numbers[1]]).copied();
-    ///     future::block_on(rt, copies.next())
+    ///     let copies = stream::iter_array([&numbers[0], &numbers[1]]).copied();
+    ///     future::block_on(rt, copies.collect::<Vec<u8>>(rt.alloc()))?.map_err(|_| AllocError)
     /// }
     ///
-    /// assert_eq!(rt; first(&rt)?, Some(1));
+    /// assert_eq!(rt; copies(&rt)?.as_slice(), [1, 2].as_slice());
     /// ```
     #[tactic(auto, using(lite_views::proofs::Views::seen, lite_views::proofs::Copied::copied_lists))]
     final fn copied<'a, T: 'a>(self) -> Copied<Self>
@@ -1617,26 +1576,37 @@ pub trait StreamExt: Stream {
     /// the stream, which can be polled further afterwards. A poll of the future after its value polls the
     /// stream again.
     ///
+    /// The contract also says which items a wait leaves, if [`wait_for`](crate::future::wait_for) waits for the
+    /// future. So it can be followed over several calls.
+    ///
     /// # Examples
     ///
     /// ```
     /// use futures_lite::{StreamExt, future, stream};
     ///
-    /// fn first<R>(rt: &R) -> Result<Option<u8>, AllocError>
+    /// fn first_two<R>(rt: &R) -> Result<(Option<u8>, Option<u8>), AllocError>
     /// where
     ///     R: Wait + RandomSource + AllocGlobal,
-    ///     ensures { IfOk result (λ v. v ≡ Some 1) }
+    ///     ensures { IfOk result (λ v. v ≡ (Some 7, Some 8)) }
     /// {
-    ///     let mut numbers = stream::iter_array([1u8, 2]);
-    ///     future::block_on(rt, numbers.next())
+    ///     let mut numbers = stream::iter_array([7, 8]);
+    ///     let first = future::wait_for(rt, &mut numbers.next())?;
+    ///     Ok((first, future::wait_for(rt, &mut numbers.next())?))
     /// }
     ///
-    /// assert_eq!(rt; first(&rt)?, Some(1));
+    /// fn third<R>(rt: &R) -> Result<Option<u8>, AllocError>
+    /// where
+    ///     R: Wait + RandomSource + AllocGlobal,
+    ///     ensures { IfOk result (λ v. v ≡ None) }
+    /// {
+    ///     let mut numbers = stream::iter_array([7, 8]);
+    ///     future::wait_for(rt, &mut numbers.next())?;
+    ///     future::wait_for(rt, &mut numbers.next())?;
+    ///     future::wait_for(rt, &mut numbers.next())
+    /// }
     ///
-    /// let mut numbers = stream::iter(1u8..3);
-    /// assert_eq!(rt; future::block_on(&rt, numbers.next())?, Some(1));
-    /// assert_eq!(rt; future::block_on(&rt, numbers.next())?, Some(2));
-    /// assert_eq!(rt; future::block_on(&rt, numbers.next())?, None);
+    /// assert_eq!(rt; first_two(&rt)?, (Some(7), Some(8)));
+    /// assert_eq!(rt; third(&rt)?, None);
     /// ```
     #[tactic(auto, using(lite_views::proofs::Views::seen, lite_views::proofs::Next::next_value, lite_views::proofs::Next::next_on, lite_views::proofs::Next::next_at_once))]
     final fn next<'a>(&'a mut self) -> NextFuture<'a, Self>
@@ -1644,11 +1614,13 @@ pub trait StreamExt: Stream {
         Self: Sized,
         ensures parts { result ≡ record { stream = self.entry; folder = record {} } }
         ensures value { OfItems Self.run self.old (λ xs. ValueIs ⟦<NextFuture<'a, Self> as Future>⟧.run result (slice_get xs 0)) }
-        ensures at_once { (o : Option Self.Item) → AtOnce Self.run self.old o → ValueIs ⟦<NextFuture<'a, Self> as Future>⟧.run result o }
+        ensures at_once { (x : Self.Item) → FoundBy (Some x) self.old x
+            (AtOnce Self.run self.old (Some x) → ValueIs ⟦<NextFuture<'a, Self> as Future>⟧.run result (Some x)) }
         ensures left { OfItems Self.run self.old (λ xs. WhenLeft AllocError ⟦<NextFuture<'a, Self> as Future>⟧.run result
-            (λ f. f.stream.ghost_name ≡ result.stream.ghost_name)
-            (λ f v. (v ≡ slice_get xs 0) × IfSome v (λ _. ListsAs Self.run f.stream.now (drop 1 xs)))) }
-        ensures on { (x : Self.Item) → GoesOn Self.run self.old x → ValueIs ⟦<NextFuture<'a, Self> as Future>⟧.run result (Some x) }
+            (λ f. f.stream.ghost_name ≡ self.entry.ghost_name)
+            (λ f v. (v ≡ slice_get xs 0) × RestIs Self.run f.stream.now xs)) }
+        ensures on { (x : Self.Item) → FoundBy (Some x) self.old x
+            (GoesOn Self.run self.old x → ValueIs ⟦<NextFuture<'a, Self> as Future>⟧.run result (Some x)) }
     {
         lite_consume::make::next(self)
     }
@@ -1669,15 +1641,14 @@ pub trait StreamExt: Stream {
     ///     R: Wait + RandomSource + AllocGlobal,
     ///     ensures { IfOk result (λ v. v ≡ Ok (Some 1)) }
     /// {
-    ///     let mut results = stream::iter_array([Ok(1u8), Err(2u8)]);
+    ///     let mut results = stream::iter_array([Ok(1), Err(9)]);
     ///     future::block_on(rt, results.try_next())
     /// }
     ///
     /// assert_eq!(rt; first(&rt)?, Ok(Some(1)));
-    ///
-    /// let mut results = stream::iter_array([Ok(1u8), Err("error")]);
+    /// let mut results = stream::iter_array([Ok(1), Err(9)]);
     /// assert_eq!(rt; future::block_on(&rt, results.try_next())?, Ok(Some(1)));
-    /// assert_eq!(rt; future::block_on(&rt, results.try_next())?, Err("error"));
+    /// assert_eq!(rt; future::block_on(&rt, results.try_next())?, Err(9));
     /// assert_eq!(rt; future::block_on(&rt, results.try_next())?, Ok(None));
     /// ```
     #[tactic(auto, using(lite_views::proofs::Views::seen, lite_views::proofs::TryNext::try_next_value))]
@@ -1687,9 +1658,9 @@ pub trait StreamExt: Stream {
         ensures parts { result ≡ record { stream = self.entry; folder = record {} } }
         ensures value { OfItems Self.run self.old (λ xs. ValueIs ⟦<TryNextFuture<'a, Self> as Future>⟧.run result (option_transpose (slice_get xs 0))) }
         ensures left { OfItems Self.run self.old (λ xs. WhenLeft AllocError ⟦<TryNextFuture<'a, Self> as Future>⟧.run result
-            (λ f. f.stream.ghost_name ≡ result.stream.ghost_name)
+            (λ f. f.stream.ghost_name ≡ self.entry.ghost_name)
             (λ f v. (v ≡ option_transpose (slice_get xs 0))
-            × MatchResult v (λ o. IfSome o (λ _. ListsAs Self.run f.stream.now (drop 1 xs))) (λ _. ListsAs Self.run f.stream.now (drop 1 xs)))) }
+            × RestIs Self.run f.stream.now xs)) }
     {
         lite_consume::make::try_next(self)
     }
@@ -1809,21 +1780,39 @@ pub trait StreamExt: Stream {
     /// ```
     /// use futures_lite::{StreamExt, future, stream};
     ///
+    /// fn second<R>(rt: &R) -> Result<Option<u8>, AllocError>
+    /// where
+    ///     R: Wait + RandomSource + AllocGlobal,
+    ///     ensures { IfOk result (λ v. v ≡ Some 5) }
+    /// {
+    ///     let mut numbers = stream::iter_array([0, 1, 2, 3, 4, 5, 6, 7]);
+    ///     future::wait_for(rt, &mut numbers.nth(2))?;
+    ///     future::wait_for(rt, &mut numbers.nth(2))
+    /// }
+    ///
     /// fn third<R>(rt: &R) -> Result<Option<u8>, AllocError>
+    /// where
+    ///     R: Wait + RandomSource + AllocGlobal,
+    ///     ensures { IfOk result (λ v. v ≡ None) }
+    /// {
+    ///     let mut numbers = stream::iter_array([0, 1, 2, 3, 4, 5, 6, 7]);
+    ///     future::wait_for(rt, &mut numbers.nth(2))?;
+    ///     future::wait_for(rt, &mut numbers.nth(2))?;
+    ///     future::wait_for(rt, &mut numbers.nth(2))
+    /// }
+    ///
+    /// fn first<R>(rt: &R) -> Result<Option<u8>, AllocError>
     /// where
     ///     R: Wait + RandomSource + AllocGlobal,
     ///     ensures { IfOk result (λ v. v ≡ Some 2) }
     /// {
-    ///     let mut numbers = stream::iter_array([0u8, 1, 2, 3]);
+    ///     let mut numbers = stream::iter_array([0, 1, 2, 3, 4, 5, 6, 7]);
     ///     future::block_on(rt, numbers.nth(2))
     /// }
     ///
-    /// assert_eq!(rt; third(&rt)?, Some(2));
-    ///
-    /// let mut numbers = stream::iter(0u8..4);
-    /// assert_eq!(rt; future::block_on(&rt, numbers.nth(2))?, Some(2));
-    /// assert_eq!(rt; future::block_on(&rt, numbers.nth(0))?, Some(3));
-    /// assert_eq!(rt; future::block_on(&rt, numbers.nth(0))?, None);
+    /// assert_eq!(rt; first(&rt)?, Some(2));
+    /// assert_eq!(rt; second(&rt)?, Some(5));
+    /// assert_eq!(rt; third(&rt)?, None);
     /// ```
     #[tactic(auto, using(lite_views::proofs::Views::seen, lite_views::proofs::Nth::nth_value))]
     final fn nth(&mut self, n: usize) -> NthFuture<'_, Self>
@@ -1832,8 +1821,8 @@ pub trait StreamExt: Stream {
         ensures parts { result ≡ record { stream = self.entry; folder = record { n = n } } }
         ensures value { OfItems Self.run self.old (λ xs. ValueIs (NthRuns Self.run) result (slice_get xs n)) }
         ensures left { OfItems Self.run self.old (λ xs. WhenLeft AllocError (NthRuns Self.run) result
-            (λ f. f.stream.ghost_name ≡ result.stream.ghost_name)
-            (λ f v. (v ≡ slice_get xs n) × IfSome v (λ _. ListsAs Self.run f.stream.now (drop (n + 1) xs)))) }
+            (λ f. f.stream.ghost_name ≡ self.entry.ghost_name)
+            (λ f v. (v ≡ slice_get xs n) × RestIs Self.run f.stream.now (drop n xs))) }
     {
         lite_consume::make::nth(self, n)
     }
@@ -1856,8 +1845,16 @@ pub trait StreamExt: Stream {
     ///     future::block_on(rt, stream::iter_array([1u8, 2, 3, 4]).last())
     /// }
     ///
+    /// fn none<R>(rt: &R) -> Result<Option<u8>, AllocError>
+    /// where
+    ///     R: Wait + RandomSource + AllocGlobal,
+    ///     ensures { IfOk result (λ v. v ≡ None) }
+    /// {
+    ///     future::block_on(rt, stream::empty::<u8>().last())
+    /// }
+    ///
     /// assert_eq!(rt; last(&rt)?, Some(4));
-    /// assert_eq!(rt; future::block_on(&rt, stream::empty::<u8>().last())?, None);
+    /// assert_eq!(rt; none(&rt)?, None);
     /// ```
     #[tactic(auto, using(lite_views::proofs::Views::seen, lite_views::proofs::Last::last_value))]
     final fn last(self) -> LastFuture<Self>

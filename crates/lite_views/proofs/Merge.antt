@@ -5,8 +5,8 @@ use Rattle.lite_views.specs.Uses.{Waiting, append-nil, end, is_first, item, rows
 use Rattle.lite_merge.specs.declared.or.Or.{Or}
 use Rattle.lite_merge.specs.declared.race.Race.{Race}
 use Rattle.lite_views.specs.Answering.{AtOnce, NeverReady}
-use Rattle.lite_views.specs.Views.{Fits, Lists, ListsAs}
-use Rattle.lite_views.proofs.Views.{listed}
+use Rattle.lite_views.specs.Views.{Fits, Lists, ListsAs, Seen}
+use Rattle.lite_views.proofs.Views.{listed, seen}
 
 module _ {A : Type 0} where
   -- as Fits, with no item after an end either
@@ -134,9 +134,9 @@ module _ {S U A : Type 0} (run : Runs (Answer A) S) (run' : Runs (Answer A) U) w
         let first = once b (own ++ end ∷ []) t (rw is at came) in
         let k : a ∷ firsts ≡ b ∷ (own ++ end ∷ later) = out_is in cc
 
-    pub or_at_once : (v : A) → AtOnce run x.stream1.stream (Some v) → AtOnce (Ors run run') x (Some v)
+    at_once : (v : A) → AtOnce run x.stream1.stream (Some v) → AtOnce (Ors run run') x (Some v)
     unfolding AtOnce
-    or_at_once v once c out y h =
+    at_once v once c out y h =
         by h.firsts h.seconds h.rows.0 h.rows.1 h.rows.2 (rw unended at h.came.related)
       where
         by : (firsts seconds i j : List (Answer A)) → MergeRow firsts seconds c i j
@@ -145,6 +145,9 @@ module _ {S U A : Type 0} (run : Runs (Answer A) S) (run' : Runs (Answer A) U) w
         by (a ∷ firsts) seconds i j r k =
             let first = first_answer (Some v) c a out firsts h.came.ins y.stream1.stream y.stream1.done once h.came.came k in
             (rw first at r).0
+
+    pub or_at_once : (v : A) → AtOnce run x.stream1.stream (Some v) → Seen x v × AtOnce (Ors run run') x (Some v)
+    or_at_once v once = (seen x v, at_once v once)
 
   -- `race`
   module _ {R : Type 0} (stream : R → Stream) (x : Race S U R) (unended : x.stream1.done ≡ false)

@@ -5,9 +5,10 @@ use Rattle.std.specs.Prelude.{◌≡◌, ◌+◌, ◌⊎◌, ⊤, List, [], ◌�
 use Rattle.lite_views.specs.Uses.{length, inl, inr, ap, sym, subst, arith, AllByRecursion, Stream, Poll, Ready, Pending, Gives, Waiting, Finishes, Runs, Stands}
 use Rattle.lite_views.specs.Uses.{FutureOrs, PickRow, PickRows, Picks, FutureRacesOn, is_first, PairRows, TryZips, try_pair, Called, Context, MutBor, Polled}
 use Rattle.lite_views.specs.Uses.{Poller, waiting_not_gives, rows_by, Half, Asked, Gave, Taken, Or, Race, TryZip}
-use Rattle.lite_views.specs.Answering.{AtOnce, HasOk, HasValueAs, NeverReady, PickedValue}
+use Rattle.lite_views.specs.Answering.{AtOnce, HasOk, HasValueAs, NeverReady, PickedValue, ReturnedBy}
 use Rattle.lite_views.specs.Futures.{TryZipRuns}
-use Rattle.lite_views.specs.Views.{HasValue, ValueIs}
+use Rattle.lite_views.specs.Views.{HasValue, ValueHolds, ValueIs}
+use Rattle.lite_views.specs.Uses.{CallAnswers, FoldsTo}
 use Rattle.lite_views.proofs.Views.{value_holds}
 
 -- If both lists are done when the rows are, the value of the rows is the last of one of the lists.
@@ -365,3 +366,14 @@ polled_at_once {F} g x v acts =
     acts h.1.1.0 h.1.1.1 a h.1.0 h.1.1.2 in
     let all = once_value (λ (p : PollFn F) l q. Polled g p.f l q.f) x v once in
     ((has_value (λ (p : PollFn F) l q. Polled g p.f l q.f) x v all, all), once)
+
+pub polled_returned : {F A E : Type 0} (g : Poller F A) (x : PollFn F)
+    → ValueHolds E (λ (p : PollFn F) l q. Polled g p.f l q.f) x (ReturnedBy g)
+polled_returned {F} {A} g x =
+    value_holds (λ (p : PollFn F) l q. Polled g p.f l q.f) x (ReturnedBy g)
+    (λ ins v f. last_call ins v x.f f.last.f f.gives f.came.1)
+  where
+    last_call : (l : List (Poll A)) (v : A) (p q : F) → Gives l v → FoldsTo (CallAnswers g) p l q → ReturnedBy g v
+    last_call [] v p q h c = absurd h
+    last_call (Pending ∷ l) v p q h c = last_call l v c.0 q h c.2
+    last_call (Ready w ∷ l) v p q h c = (p, c.0, c.1.0, c.1.1, rw (← h.0) c.1.2)

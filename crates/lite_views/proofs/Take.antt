@@ -3,8 +3,8 @@ use Rattle.std.specs.Prelude.{◌≡◌, ℕ, List, [], ◌∷◌, refl, Some, N
 use Rattle.std.proofs.Common.{◌-◌, ◌≤◌}
 use Rattle.lite_views.specs.Uses.{zero, suc, take, inl, inr, replicate, arith, Ready, Pending, Answer, item, Runs, Cuts, Takes, is_none_left, left_after}
 use Rattle.lite_views.specs.Uses.{take_parts, Take, length, take_all}
-use Rattle.lite_views.proofs.Views.{Carries, listed, listed_through}
-use Rattle.lite_views.specs.Views.{EachIs, Fits, GoesOn, Lists, ListsAs}
+use Rattle.lite_views.proofs.Views.{Carries, listed, listed_through, seen}
+use Rattle.lite_views.specs.Views.{EachIs, Fits, FoundBy, GoesOn, Lists, ListsAs}
 
 taken_fits : {A : Type 0} (n : ℕ) (xs : List A) → Carries (Cuts is_none_left left_after) n xs (take n xs)
 taken_fits n xs i [] q e h = tt
@@ -23,11 +23,6 @@ pub taken_lists : {S A : Type 0} (run : Runs (Answer A) S) (x : Take S) (xs : Li
 taken_lists run x xs lists =
     listed_through take_parts run (Cuts is_none_left left_after) x xs (take x.n xs) lists (taken_fits x.n xs)
 
-pub taken_whole : {S A : Type 0} (run : Runs (Answer A) S) (x : Take S) (xs : List A) → Lists run x.stream xs
-    → length xs ≤ x.n → ListsAs (Takes run) x xs
-taken_whole run x xs lists short =
-    rw (take_all x.n xs short) at (taken_lists run x xs lists)
-
 -- `take` of a stream that goes on for ever
 repeated_fits : {A : Type 0} (n m : ℕ) (i o : List (Answer A)) (x : A) → EachIs x i
     → Cuts is_none_left left_after n i o m → Fits o (replicate n x)
@@ -41,9 +36,13 @@ repeated_fits (suc n) m i (Ready (Some y) ∷ o) x e (inr h) =
     let one : suc n - 1 ≡ n = omega arith in
     (here.0, repeated_fits n m h.1 o x here.1 (rw one at h.3))
 
-pub repeated_lists : {S A : Type 0} (run : Runs (Answer A) S) (x : Take S) (y : A) → GoesOn run x.stream y
+repeats : {S A : Type 0} (run : Runs (Answer A) S) (x : Take S) (y : A) → GoesOn run x.stream y
     → ListsAs (Takes run) x (replicate x.n y)
 unfolding GoesOn
-repeated_lists run x y goes_on =
+repeats run x y goes_on =
     listed (Takes run) x (replicate x.n y)
     (λ l t r. repeated_fits x.n t.n r.ins l y (goes_on r.ins t.stream r.came) r.related)
+
+pub repeated_lists : {S A : Type 0} (run : Runs (Answer A) S) (x : Take S) (y : A)
+    → FoundBy (replicate x.n y) x.stream y (GoesOn run x.stream y → ListsAs (Takes run) x (replicate x.n y))
+repeated_lists run x y = (refl, seen x.stream y, repeats run x y)

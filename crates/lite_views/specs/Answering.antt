@@ -1,11 +1,17 @@
 -- When a future returns its value, and which value that is if two futures are waited for together.
 use Rattle.std.specs.Prelude.{◌≡◌, ◌⊎◌, List, ◌∷◌, Result, Ok}
-use Rattle.lite_views.specs.Uses.{AllocError, Poll, Ready, Runs, Waiting}
+use Rattle.lite_views.specs.Uses.{AllocError, Called, Context, MutBor, Poll, Poller, Ready, Runs, Waiting}
 use Rattle.lite_views.specs.Views.{HasValue, ValueHolds, ValueIs}
 
 -- The first poll of the future `f` returns the value `v`.
 unfoldable pub AtOnce : {F A : Type 0} → Runs (Poll A) F → F → A → Type 0
 AtOnce {F} {A} run f v = (a : Poll A) (ins : List (Poll A)) (g : F) → run f (a ∷ ins) g → a ≡ Ready v
+
+-- A call of a closure, with some context and in some state, returned the value `v`.
+abbrev pub ReturnedBy : {F A : Type 0} → Poller F A → A → Type 0
+ReturnedBy {F} g v =
+    (p : F) × (q : F) × (cx : MutBor Context) × (left : MutBor Context)
+    × Called g p (cx, tt) (Ready v, (left, tt)) q
 
 -- Every poll of the future `f` returns `Pending`.
 unfoldable pub NeverReady : {F A : Type 0} → Runs (Poll A) F → F → Type 0

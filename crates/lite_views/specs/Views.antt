@@ -60,6 +60,20 @@ abbrev pub OfItems : {S A : Type 0} → Runs (Answer A) S → S → (List A → 
 OfItems {A = A} run s P =
     ((xs : List A) → Lists run s xs → P xs) × ((xs : List A) → Lists run s xs → Seen s xs × P xs)
 
+-- The same as `C`. The prover tries it where it meets `t`, and then looks for what is known of `s` and `x`.
+abbrev pub FoundBy : {T S X : Type 0} → T → S → X → Type 0 → Type 0
+FoundBy t s x C = (t ≡ t) × Seen s x × C
+
+-- The items of `s` are those of the list without the first one. Nothing is said of an empty list.
+abbrev pub RestIs : {S A : Type 0} → Runs (Answer A) S → S → List A → Type 0
+RestIs run s [] = ⊤
+RestIs run s (x ∷ xs) = ListsAs run s xs
+
+-- If `P` holds of a list, that is the list of the items of `s`. It is said by cases, so that the prover finds it by the
+-- list.
+abbrev pub ListsIf : {S A : Type 0} → Runs (Answer A) S → S → (List A → Type 0) → Type 0
+ListsIf {A = A} run s P = ((x : A) (xs : List A) → P (x ∷ xs) → ListsAs run s (x ∷ xs)) × (P [] → ListsAs run s [])
+
 -- Every run from `s` yields a prefix of `xs`, also with items that come after an end of the stream.
 unfoldable pub Fronts : {S A : Type 0} → Runs (Answer A) S → S → List A → Type 0
 Fronts {S} {A} run s xs = (l : List (Answer A)) (t : S) → run s l t → Front (items_in l) xs

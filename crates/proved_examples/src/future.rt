@@ -1,7 +1,7 @@
 //! The examples of `futures_lite::future` that have clauses.
 ghost use Rattle.std.specs.Prelude.{◌≡◌, Err, IfOk, None, Some};
 
-use futures_lite::{FutureExt, future};
+use futures_lite::{Context, FutureExt, Poll, future};
 use rand_core::SeedableRng;
 use rand_pcg::Pcg32;
 use std::alloc::{AllocError, AllocGlobal};
@@ -14,6 +14,14 @@ where
     ensures { IfOk result (λ v. v ≡ 3) }
 {
     future::block_on(rt, future::ready(1 + 2))
+}
+
+pub fn future_ext_or_first<R>(rt: &R) -> Result<u8, AllocError>
+where
+    R: Wait + RandomSource + AllocGlobal,
+    ensures { IfOk result (λ v. v ≡ 1) }
+{
+    future::block_on(rt, future::ready(1).or(future::pending()))
 }
 
 pub fn future_ext_or_second<R>(rt: &R) -> Result<u8, AllocError>
@@ -32,6 +40,15 @@ where
     future::block_on(rt, future::ready(1).or(future::ready(2)))
 }
 
+pub fn future_ext_race_first<R>(rt: &R) -> Result<u8, AllocError>
+where
+    R: Wait + RandomSource + AllocGlobal,
+    ensures { IfOk result (λ v. v ≡ 1) }
+{
+    let rng = Pcg32::seed_from_u64(7);
+    future::block_on(rt, future::ready(1).race(future::pending(), rng))
+}
+
 pub fn future_ext_race_second<R>(rt: &R) -> Result<u8, AllocError>
 where
     R: Wait + RandomSource + AllocGlobal,
@@ -39,6 +56,14 @@ where
 {
     let rng = Pcg32::seed_from_u64(7);
     future::block_on(rt, future::pending().race(future::ready(2), rng))
+}
+
+pub fn or_first<R>(rt: &R) -> Result<u8, AllocError>
+where
+    R: Wait + RandomSource + AllocGlobal,
+    ensures { IfOk result (λ v. v ≡ 1) }
+{
+    future::block_on(rt, future::or(future::ready(1), future::pending()))
 }
 
 pub fn or_second<R>(rt: &R) -> Result<u8, AllocError>
@@ -55,6 +80,17 @@ where
     ensures { IfOk result (λ v. v ≡ 1) }
 {
     future::block_on(rt, future::or(future::ready(1), future::ready(2)))
+}
+
+pub fn poll_fn_seven<R>(rt: &R) -> Result<u8, AllocError>
+where
+    R: Wait + RandomSource + AllocGlobal,
+    ensures { IfOk result (λ v. v ≡ 7) }
+{
+    future::block_on(
+        rt,
+        future::poll_fn(|_cx: &mut Context<'_>| Poll::Ready(7u8)),
+    )
 }
 
 pub fn poll_once_at_once<R>(rt: &R) -> Result<Option<u8>, AllocError>
@@ -89,6 +125,17 @@ where
 {
     let rng = Pcg32::seed_from_u64(7);
     future::block_on(rt, future::race(future::pending(), future::ready(2), rng))
+}
+
+pub fn race_with_seed_first<R>(rt: &R) -> Result<u8, AllocError>
+where
+    R: Wait + RandomSource + AllocGlobal,
+    ensures { IfOk result (λ v. v ≡ 1) }
+{
+    future::block_on(
+        rt,
+        future::race_with_seed(future::ready(1), future::pending(), 0x42),
+    )
 }
 
 pub fn race_with_seed_second<R>(rt: &R) -> Result<u8, AllocError>

@@ -5,7 +5,10 @@ ghost use Rattle.futures_lite.specs.Lists.{map_while, scan};
 ghost use Rattle.futures_lite.specs.Uses.{first_error, try_fold};
 
 use futures_lite::{StreamExt, future, stream};
+use rand_core::SeedableRng;
+use rand_pcg::Pcg32;
 use std::alloc::{AllocError, AllocGlobal};
+use std::collections::BTreeSet;
 use std::random::RandomSource;
 use std::sync::Wait;
 
@@ -54,22 +57,59 @@ where
     .map_err(|_| AllocError)
 }
 
-pub fn iter_vec_first<R>(rt: &R) -> Result<Option<u8>, AllocError>
+pub fn iter_vec_numbers<R>(rt: &R) -> Result<Vec<u8>, AllocError>
+where
+    R: Wait + RandomSource + AllocGlobal,
+    ensures { IfOk result (λ v. v.items ≡ 1 ∷ 2 ∷ []) }
+{
+    let numbers = stream::iter_vec(vec![in rt.alloc(); 1u8, 2]?);
+    future::block_on(rt, numbers.collect::<Vec<u8>>(rt.alloc()))?.map_err(|_| AllocError)
+}
+
+pub fn once_only<R>(rt: &R) -> Result<(Option<u8>, Option<u8>), AllocError>
+where
+    R: Wait + RandomSource + AllocGlobal,
+    ensures { IfOk result (λ v. v ≡ (Some 7, None)) }
+{
+    let mut seven = stream::once(7);
+    let first = future::wait_for(rt, &mut seven.next())?;
+    Ok((first, future::wait_for(rt, &mut seven.next())?))
+}
+
+pub fn once_future_value<R>(rt: &R) -> Result<Vec<u8>, AllocError>
+where
+    R: Wait + RandomSource + AllocGlobal,
+    ensures { IfOk result (λ v. v.items ≡ 7 ∷ []) }
+{
+    let seven = stream::once_future(future::ready(7));
+    future::block_on(rt, seven.collect::<Vec<u8>>(rt.alloc()))?.map_err(|_| AllocError)
+}
+
+pub fn or_first<R>(rt: &R) -> Result<Option<u8>, AllocError>
 where
     R: Wait + RandomSource + AllocGlobal,
     ensures { IfOk result (λ v. v ≡ Some 1) }
 {
-    let mut numbers = stream::iter_vec(vec![in rt.alloc(); 1u8, 2]?);
-    future::block_on(rt, numbers.next())
+    let mut merged = stream::or(stream::once(1u8), stream::pending());
+    future::block_on(rt, merged.next())
 }
 
-pub fn once_only<R>(rt: &R) -> Result<Option<u8>, AllocError>
+pub fn or_second<R>(rt: &R) -> Result<Option<u8>, AllocError>
 where
     R: Wait + RandomSource + AllocGlobal,
-    ensures { IfOk result (λ v. v ≡ Some 7) }
+    ensures { IfOk result (λ v. v ≡ Some 2) }
 {
-    let mut seven = stream::once(7u8);
-    future::block_on(rt, seven.next())
+    let mut merged = stream::or(stream::pending(), stream::once(2u8));
+    future::block_on(rt, merged.next())
+}
+
+pub fn or_preferred<R>(rt: &R) -> Result<Option<u8>, AllocError>
+where
+    R: Wait + RandomSource + AllocGlobal,
+    ensures { IfOk result (λ v. v ≡ Some 1) }
+{
+    let mut merged = stream::or(stream::once(1u8), stream::once(2));
+    future::block_on(rt, merged.next())
 }
 
 pub fn pending_never<R>(rt: &R) -> Result<Option<Option<u8>>, AllocError>
@@ -79,6 +119,50 @@ where
 {
     let mut never = stream::pending::<u8>();
     future::block_on(rt, future::poll_once(never.next()))
+}
+
+pub fn race_first<R>(rt: &R) -> Result<Option<u8>, AllocError>
+where
+    R: Wait + RandomSource + AllocGlobal,
+    ensures { IfOk result (λ v. v ≡ Some 1) }
+{
+    let mut merged = stream::race(
+        stream::once(1u8),
+        stream::pending(),
+        Pcg32::seed_from_u64(1),
+    );
+    future::block_on(rt, merged.next())
+}
+
+pub fn race_second<R>(rt: &R) -> Result<Option<u8>, AllocError>
+where
+    R: Wait + RandomSource + AllocGlobal,
+    ensures { IfOk result (λ v. v ≡ Some 2) }
+{
+    let mut merged = stream::race(
+        stream::pending(),
+        stream::once(2u8),
+        Pcg32::seed_from_u64(1),
+    );
+    future::block_on(rt, merged.next())
+}
+
+pub fn race_with_seed_first<R>(rt: &R) -> Result<Option<u8>, AllocError>
+where
+    R: Wait + RandomSource + AllocGlobal,
+    ensures { IfOk result (λ v. v ≡ Some 1) }
+{
+    let mut merged = stream::race_with_seed(stream::once(1u8), stream::pending(), 123);
+    future::block_on(rt, merged.next())
+}
+
+pub fn race_with_seed_second<R>(rt: &R) -> Result<Option<u8>, AllocError>
+where
+    R: Wait + RandomSource + AllocGlobal,
+    ensures { IfOk result (λ v. v ≡ Some 2) }
+{
+    let mut merged = stream::race_with_seed(stream::pending(), stream::once(2u8), 123);
+    future::block_on(rt, merged.next())
 }
 
 pub fn repeat_repeated<R>(
@@ -92,6 +176,15 @@ where
 {
     let items = stream::repeat(item).take(n);
     future::block_on(rt, items.collect::<Vec<_>>(rt.alloc()))?.map_err(|_| AllocError)
+}
+
+pub fn repeat_with_sevens<R>(rt: &R, n: usize) -> Result<Vec<u8>, AllocError>
+where
+    R: Wait + RandomSource + AllocGlobal,
+    ensures { IfOk result (λ v. v.items ≡ replicate n 7) }
+{
+    let sevens = stream::repeat_with(|| 7u8).take(n);
+    future::block_on(rt, sevens.collect::<Vec<u8>>(rt.alloc()))?.map_err(|_| AllocError)
 }
 
 pub fn stream_ext_all_all_even<R>(rt: &R, numbers: Vec<u32>) -> Result<bool, AllocError>
@@ -149,14 +242,14 @@ where
     .map_err(|_| AllocError)
 }
 
-pub fn stream_ext_copied_first<R>(rt: &R) -> Result<Option<u8>, AllocError>
+pub fn stream_ext_copied_copies<R>(rt: &R) -> Result<Vec<u8>, AllocError>
 where
     R: Wait + RandomSource + AllocGlobal,
-    ensures { IfOk result (λ v. v ≡ Some 1) }
+    ensures { IfOk result (λ v. v.items ≡ 1 ∷ 2 ∷ []) }
 {
     let numbers = [1u8, 2];
-    let mut copies = stream::iter_array([&numbers[0], &numbers[1]]).copied();
-    future::block_on(rt, copies.next())
+    let copies = stream::iter_array([&numbers[0], &numbers[1]]).copied();
+    future::block_on(rt, copies.collect::<Vec<u8>>(rt.alloc()))?.map_err(|_| AllocError)
 }
 
 pub fn stream_ext_count_evens<R>(rt: &R, numbers: Vec<u32>) -> Result<usize, AllocError>
@@ -270,6 +363,14 @@ where
     future::block_on(rt, stream::iter_array([1u8, 2, 3, 4]).last())
 }
 
+pub fn stream_ext_last_none<R>(rt: &R) -> Result<Option<u8>, AllocError>
+where
+    R: Wait + RandomSource + AllocGlobal,
+    ensures { IfOk result (λ v. v ≡ None) }
+{
+    future::block_on(rt, stream::empty::<u8>().last())
+}
+
 pub fn stream_ext_map_doubled<R>(rt: &R, numbers: Vec<u32>) -> Result<Vec<u64>, AllocError>
 where
     R: Wait + RandomSource + AllocGlobal,
@@ -292,22 +393,82 @@ where
     future::block_on(rt, halves.collect::<Vec<u32>>(rt.alloc()))?.map_err(|_| AllocError)
 }
 
-pub fn stream_ext_next_first<R>(rt: &R) -> Result<Option<u8>, AllocError>
+pub fn stream_ext_next_first_two<R>(rt: &R) -> Result<(Option<u8>, Option<u8>), AllocError>
 where
     R: Wait + RandomSource + AllocGlobal,
-    ensures { IfOk result (λ v. v ≡ Some 1) }
+    ensures { IfOk result (λ v. v ≡ (Some 7, Some 8)) }
 {
-    let mut numbers = stream::iter_array([1u8, 2]);
-    future::block_on(rt, numbers.next())
+    let mut numbers = stream::iter_array([7, 8]);
+    let first = future::wait_for(rt, &mut numbers.next())?;
+    Ok((first, future::wait_for(rt, &mut numbers.next())?))
+}
+
+pub fn stream_ext_next_third<R>(rt: &R) -> Result<Option<u8>, AllocError>
+where
+    R: Wait + RandomSource + AllocGlobal,
+    ensures { IfOk result (λ v. v ≡ None) }
+{
+    let mut numbers = stream::iter_array([7, 8]);
+    future::wait_for(rt, &mut numbers.next())?;
+    future::wait_for(rt, &mut numbers.next())?;
+    future::wait_for(rt, &mut numbers.next())
+}
+
+pub fn stream_ext_nth_second<R>(rt: &R) -> Result<Option<u8>, AllocError>
+where
+    R: Wait + RandomSource + AllocGlobal,
+    ensures { IfOk result (λ v. v ≡ Some 5) }
+{
+    let mut numbers = stream::iter_array([0, 1, 2, 3, 4, 5, 6, 7]);
+    future::wait_for(rt, &mut numbers.nth(2))?;
+    future::wait_for(rt, &mut numbers.nth(2))
 }
 
 pub fn stream_ext_nth_third<R>(rt: &R) -> Result<Option<u8>, AllocError>
 where
     R: Wait + RandomSource + AllocGlobal,
+    ensures { IfOk result (λ v. v ≡ None) }
+{
+    let mut numbers = stream::iter_array([0, 1, 2, 3, 4, 5, 6, 7]);
+    future::wait_for(rt, &mut numbers.nth(2))?;
+    future::wait_for(rt, &mut numbers.nth(2))?;
+    future::wait_for(rt, &mut numbers.nth(2))
+}
+
+pub fn stream_ext_nth_first<R>(rt: &R) -> Result<Option<u8>, AllocError>
+where
+    R: Wait + RandomSource + AllocGlobal,
     ensures { IfOk result (λ v. v ≡ Some 2) }
 {
-    let mut numbers = stream::iter_array([0u8, 1, 2, 3]);
+    let mut numbers = stream::iter_array([0, 1, 2, 3, 4, 5, 6, 7]);
     future::block_on(rt, numbers.nth(2))
+}
+
+pub fn stream_ext_or_first<R>(rt: &R) -> Result<Option<u8>, AllocError>
+where
+    R: Wait + RandomSource + AllocGlobal,
+    ensures { IfOk result (λ v. v ≡ Some 1) }
+{
+    let mut merged = stream::once(1u8).or(stream::pending());
+    future::block_on(rt, merged.next())
+}
+
+pub fn stream_ext_or_second<R>(rt: &R) -> Result<Option<u8>, AllocError>
+where
+    R: Wait + RandomSource + AllocGlobal,
+    ensures { IfOk result (λ v. v ≡ Some 2) }
+{
+    let mut merged = stream::pending().or(stream::once(2u8));
+    future::block_on(rt, merged.next())
+}
+
+pub fn stream_ext_or_preferred<R>(rt: &R) -> Result<Option<u8>, AllocError>
+where
+    R: Wait + RandomSource + AllocGlobal,
+    ensures { IfOk result (λ v. v ≡ Some 1) }
+{
+    let mut merged = stream::once(1u8).or(stream::once(2));
+    future::block_on(rt, merged.next())
 }
 
 pub fn stream_ext_partition_parted<R>(
@@ -336,6 +497,24 @@ where
 {
     let mut numbers = stream::iter_vec(numbers);
     future::block_on(rt, numbers.position(|x: u32| x == 7))
+}
+
+pub fn stream_ext_race_first<R>(rt: &R) -> Result<Option<u8>, AllocError>
+where
+    R: Wait + RandomSource + AllocGlobal,
+    ensures { IfOk result (λ v. v ≡ Some 1) }
+{
+    let mut merged = stream::once(1u8).race(stream::pending(), Pcg32::seed_from_u64(1));
+    future::block_on(rt, merged.next())
+}
+
+pub fn stream_ext_race_second<R>(rt: &R) -> Result<Option<u8>, AllocError>
+where
+    R: Wait + RandomSource + AllocGlobal,
+    ensures { IfOk result (λ v. v ≡ Some 2) }
+{
+    let mut merged = stream::pending().race(stream::once(2u8), Pcg32::seed_from_u64(1));
+    future::block_on(rt, merged.next())
 }
 
 pub fn stream_ext_scan_sums<R>(rt: &R, numbers: Vec<u32>) -> Result<Vec<u32>, AllocError>
@@ -446,7 +625,7 @@ where
     R: Wait + RandomSource + AllocGlobal,
     ensures { IfOk result (λ v. v ≡ Ok (Some 1)) }
 {
-    let mut results = stream::iter_array([Ok(1u8), Err(2u8)]);
+    let mut results = stream::iter_array([Ok(1), Err(9)]);
     future::block_on(rt, results.try_next())
 }
 

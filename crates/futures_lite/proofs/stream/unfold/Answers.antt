@@ -1,5 +1,10 @@
+use Rattle.std.specs.Prelude.{[], ◌∷◌}
 use Rattle.futures_lite.specs.Uses.{refl, unfolded_lists}
 use Rattle.futures_lite.proofs.stream.unfold.Goals as goal
 
 pub returns-clause-lists : goal.returns-clause-lists
-returns-clause-lists g c xs makes = rw c.unfold.ensures (unfolded_lists _ _ g.met.Fut.Future.laws _ _ xs refl makes)
+returns-clause-lists g c =
+    rw c.unfold.ensures (
+      λ x xs makes. unfolded_lists _ _ g.met.Fut.Future.laws _ _ (x ∷ xs) refl makes,
+      λ makes. unfolded_lists _ _ g.met.Fut.Future.laws _ _ [] refl makes,
+    )
