@@ -848,8 +848,9 @@ pub trait StreamExt: Stream {
 
     /// Returns a stream that yields the first `n` items, and then ends for ever.
     ///
-    /// If this stream ends sooner, the result ends for ever too. Once the result has ended, it does not poll
-    /// this stream. If `n` is 0, it never polls this stream. Size hint: `(0, None)`.
+    /// `Pending` is passed on. If this stream ends sooner, the result ends for ever too. Once the result has
+    /// ended, it does not poll this stream. If `n` is 0, it never polls this stream. This stream is dropped with
+    /// the result, and not before. Size hint: `(0, None)`.
     ///
     /// # Examples
     ///
@@ -1577,7 +1578,7 @@ pub trait StreamExt: Stream {
     /// stream again.
     ///
     /// The contract also says which items a wait leaves, if [`wait_for`](crate::future::wait_for) waits for the
-    /// future. So it can be followed over several calls.
+    /// future. So a proof can follow the stream over several calls.
     ///
     /// # Examples
     ///

@@ -4,7 +4,7 @@ use Rattle.lite_views.specs.Uses.{Answer, Called, Finishes, FoldsTo, FutureLaws,
 use Rattle.lite_views.specs.Uses.{TryUnfold, TryUnfoldsBy, Unfold, UnfoldPart, UnfoldsBy, Waiting, comes, finishes_later, handed, inl, inr, seed_of, item_of}
 use Rattle.lite_views.specs.Uses.{subst, sym, try_item_of, try_seed_of}
 use Rattle.lite_views.specs.Unfold.{GoesOnWith, UnfoldsInto}
-use Rattle.lite_views.specs.Views.{Fits, ListsAs, Waited}
+use Rattle.lite_views.specs.Views.{Fits, HasValue, ListsAs}
 use Rattle.lite_views.proofs.Views.{listed}
 
 module _ {F S V O B : Type 0} (call : Mut F (S × Unit {0}) V) {run : Runs (Poll O) V} (laws : FutureLaws run)
@@ -53,9 +53,9 @@ module _ {F S V O B : Type 0} (call : Mut F (S × Unit {0}) V) {run : Runs (Poll
 
   made_stands : (s : S) (xs : List B) (v : V) (g : F) → UnfoldsInto call run after shown f s xs
       → Called call f (s, tt) v g → (g ≡ f) × Stands (Holding.Asked v) xs
-  unfolding Waited
+  unfolding HasValue
   made_stands s xs v g makes called =
-      let made = makes v g called in (made.0, λ ins o finishes. (made.1 (Ok o) (ins, finishes)).1)
+      let made = makes v g called in (made.0, λ ins o finishes. rw (made.2 ins o finishes) made.3)
 
   abbrev part_step : F × Holding S V → Answer B × List (Answer B) → F × Holding S V → Type 0
   part_step s part t = UnfoldPart call run after shown s.0 s.1 (part.0 ∷ part.1) t.0 t.1

@@ -3,7 +3,7 @@ use Rattle.std.specs.Prelude.{◌≡◌, ◌⊎◌, List, ◌∷◌, Result, Ok}
 use Rattle.lite_views.specs.Uses.{AllocError, Called, Context, MutBor, Poll, Poller, Ready, Runs, Waiting}
 use Rattle.lite_views.specs.Views.{HasValue, ValueHolds, ValueIs}
 
--- The first poll of the future `f` returns the value `v`.
+-- The first poll of the future `f` returns the value `v`. Of a stream, `v` is `Some` of an item, or `None` at an end.
 unfoldable pub AtOnce : {F A : Type 0} → Runs (Poll A) F → F → A → Type 0
 AtOnce {F} {A} run f v = (a : Poll A) (ins : List (Poll A)) (g : F) → run f (a ∷ ins) g → a ≡ Ready v
 
@@ -13,7 +13,7 @@ ReturnedBy {F} g v =
     (p : F) × (q : F) × (cx : MutBor Context) × (left : MutBor Context)
     × Called g p (cx, tt) (Ready v, (left, tt)) q
 
--- Every poll of the future `f` returns `Pending`.
+-- Every poll of the future or stream `f` returns `Pending`.
 unfoldable pub NeverReady : {F A : Type 0} → Runs (Poll A) F → F → Type 0
 NeverReady {F} {A} run f = (ins : List (Poll A)) (g : F) → run f ins g → Waiting ins
 

@@ -13,6 +13,7 @@ Fits (Ready (Some x) ∷ l) [] = ⊥
 Fits (Ready (Some x) ∷ l) (y ∷ xs) = (x ≡ y) × Fits l xs
 
 -- The items of `s` are `xs`: every run from `s` yields a prefix of `xs`, and all of `xs` before the end of the stream.
+-- This does not say that the stream ends, nor that all items come.
 unfoldable pub Lists : {S A : Type 0} → Runs (Answer A) S → S → List A → Type 0
 Lists {S} {A} run s xs = (l : List (Answer A)) (t : S) → run s l t → Fits l xs
 
@@ -23,7 +24,7 @@ EachIs x (Pending ∷ l) = EachIs x l
 EachIs x (Ready None ∷ l) = ⊥
 EachIs x (Ready (Some y) ∷ l) = (y ≡ x) × EachIs x l
 
--- The stream `s` yields the item `x` over and over: each result of each run from `s` is `Pending` or `x`.
+-- The stream `s` yields the item `x` over and over: each result of each run from `s` is `Pending` or `Ready(Some(x))`.
 unfoldable pub GoesOn : {S A : Type 0} → Runs (Answer A) S → S → A → Type 0
 GoesOn {S} {A} run s x = (l : List (Answer A)) (t : S) → run s l t → EachIs x l
 
@@ -35,7 +36,7 @@ Waited {F} {A} run f r = IfOk r (λ v. (ins : List (Poll A)) × Finishes run f i
 unfoldable pub HasValue : {F A : Type 0} → Runs (Poll A) F → F → A → Type 0
 HasValue {F} {A} run f v = (ins : List (Poll A)) (w : A) → Finishes run f ins w → w ≡ v
 
--- Always true. `grind` applies a fact about `x` and `y` when it meets this, which is shorter than the fact.
+-- Always true. It marks `x` and `y`, so that the prover looks for facts about the two.
 unfoldable pub Seen : {X Y : Type 0} → X → Y → Type 0
 Seen x y = ⊤
 
