@@ -4,6 +4,7 @@
 mod closures;
 mod nest;
 mod twice;
+mod unfolding;
 
 use closures::hundredths;
 use futures_lite::stream::script;
@@ -11,8 +12,12 @@ use futures_lite::{Doorbell, Poll, Solo};
 use nest::{first_evens, small_evens, tripled};
 use std::io;
 use twice::triples_agree;
+use unfolding::below_two;
 
 fn main(rt: HostRuntime) -> io::Result<()> {
+    for number in below_two(&rt)? {
+        println!(rt; "{number}")?;
+    }
     let numbers = vec![in rt.alloc(); 1u32, 2, 3, 4, 500, 6]?;
     let divisors = vec![in rt.alloc(); 1u64, 7, 30]?;
     let (once, once_more) = (numbers.clone()?, numbers.clone()?);
