@@ -6,12 +6,34 @@ import examples
 from reference import Reference
 from sources import Sources
 
+OTHER = """ghost use Rattle.lite_halves.specs.Counts.{HalfCounts};
+
+/// The future of either. Returned by [`or`].
+pub struct Or<F> {
+    first: F,
+}
+
+impl<F: Future> Future for Or<F> {
+}
+
+impl<F: CalmFuture> CalmFuture for Or<F> {
+}
+
+impl<F> Model for Or<F> {
+    ghost Value = { HalfCounts };
+}
+
+/// Anything else.
+pub trait Other {
+}
+"""
 TEXTS = (
     (
         "futures_lite",
         "stream.rt",
         """//! Streams.
 pub use lite_stream::make::{or, swap};
+pub use lite_stream::count::{Consume, CountFuture, count};
 pub use lite_stream::Or;
 """,
     ),
@@ -23,7 +45,7 @@ pub use lite_base::{Or, Other};
 pub use lite_base::make::or;
 """,
     ),
-    ("lite_stream", "lib.rt", "mod or;\npub use or::Or;\npub mod make;\n"),
+    ("lite_stream", "lib.rt", "mod or;\npub use or::Or;\npub mod count;\npub mod make;\n"),
     (
         "lite_stream",
         "or.rt",
@@ -35,6 +57,14 @@ pub struct Or<S, T> {
 }
 
 impl<S: Stream, T> Stream for Or<S, T> {
+}
+
+impl<
+    S: Counted,
+    T,
+> Counted
+    for Or<S, T>
+{
 }
 
 impl<S, T> Or<S, T>
@@ -59,16 +89,44 @@ where
 
     /// Swaps the streams.
     pub fn or(self, size: u8) -> Or<T, S>
+    where
+        Self: Sized,
         requires { (n : ℕ) → n ≤ length (Strange self.first self.unheard) → S.unknown n ≡ size }
         ensures { IfOk result (λ it. it.first ≡ size) }
+        ensures own { Self.known }
     {
     }
 }
 """,
     ),
     ("lite_stream", "make.rt", "use crate::Or;\nuse lite_base::Other;\n/// Returns a stream of both: the items\n/// of each.\npub fn or<S: Other, T>(first: S, second: T) -> Or<S, T> {\n}\n/// Swaps.\npub fn swap<S, T>(it: Or<S, T>) -> Or<T, S> {\n}\n"),
+    (
+        "lite_stream",
+        "count.rt",
+        """/// A future of what a folder makes of a stream.
+pub struct Consume<S, F> {
+    stream: S,
+    folder: F,
+}
+
+/// The number so far.
+pub struct Count<N> {
+    count: N,
+}
+
+/// A future of the number of items. Returned by [`count`].
+pub type CountFuture<S> = Consume<S, Count<u8>>;
+
+/// Returns a future of the number of items.
+pub fn count<S: Stream<Item = S::Item>>(stream: S) -> CountFuture<S>
+    ensures { result.folder.count ≡ result.stream }
+    ensures items { (x : S.Item) → S.run stream x }
+{
+}
+""",
+    ),
     ("lite_base", "lib.rt", "mod other;\npub mod make;\npub use other::{Or, Other};\n"),
-    ("lite_base", "other.rt", "/// The future of either. Returned by [`or`].\npub struct Or<F> {\n}\n\n/// Anything else.\npub trait Other {\n}\n"),
+    ("lite_base", "other.rt", OTHER),
     (
         "lite_base",
         "make.rt",
@@ -120,6 +178,29 @@ class TwoModules(unittest.TestCase):
     def test_a_type_names_the_fields_that_contracts_name(self):
         self.assertIn("Fields that contracts name: `first: S`.", self.entry("stream", "struct `Or`"))
 
+    def test_a_type_with_a_model_names_the_fields_of_the_model(self):
+        self.assertIn("Fields that contracts name: `calls: ℕ`, `bytes: ℕ`, `made: List Note`. They are those of", self.entry("future", "struct `Or`"))
+
+    def test_an_alias_names_the_fields_that_contracts_name(self):
+        self.assertIn("Fields that contracts name: `folder: Count<u8>`, `stream: S`, `count: N` of its `Count`.", self.entry("stream", "type `CountFuture`"))
+
+    def test_an_entry_names_the_fields_that_no_other_entry_names_or_that_the_table_explains_otherwise(self):
+        self.assertIn("Field in this contract: `count: N` of `Count`.", self.entry("stream", "fn `count`"))
+        self.assertNotIn("in this contract", self.entry("stream", "method `Or::or`"))
+
+    def test_a_mark_stands_with_the_bounds_of_its_impl(self):
+        self.assertIn("must meet:\n\n- `Counted`: `impl<S: Counted, T> Counted for Or<S, T>`\n", self.entry("stream", "struct `Or`"))
+        told = " ".join(self.entry("future", "fn `or`").split())
+        self.assertIn("`CalmFuture`. It has it if its type arguments meet the bounds of the impl, in [its entry](#struct-or).", told)
+
+    def test_a_mark_of_the_tables_without_an_impl_is_named(self):
+        told = [what for _, what in Reference(self.sources).faults()]
+        self.assertIn("the impl of OkCounted for `stream::Or` is not found", told)
+        self.assertNotIn("the impl of Counted for `stream::Or` is not found", told)
+
+    def test_a_method_that_returns_its_own_type_has_a_link_to_it(self):
+        self.assertIn("Type of the result: [`Or`](#struct-or).", self.entry("stream", "method `Or::or`"))
+
     def test_a_link_leads_to_the_page_that_has_the_item(self):
         self.assertIn("an [`or`](#fn-or). It needs no [`Other`](future.md#trait-other).", self.entry("stream", "method `Or::first`"))
         self.assertIn("From other modules: [`future::Other`](future.md#trait-other).", self.entry("stream", "fn `or`"))
@@ -136,7 +217,8 @@ class TwoModules(unittest.TestCase):
     def test_a_word_that_no_entry_explains_is_in_the_table(self):
         told = self.pages["docs/api/stream.md"].partition("## Words of contracts")[2]
         self.assertIn("| `IfOk` | `IfOk r (λ v. B)`:", told)
-        self.assertIn("| `length` |", told)
+        for word in ("length", "Self", "Item"):
+            self.assertIn(f"| `{word}` |", told)
         for word in ("size", "first", "n", "it", "S"):
             self.assertNotIn(f"| `{word}` |", told)
 

@@ -15,6 +15,8 @@ BINDERS = (re.compile(r"λ ([^.]*)\."), re.compile(rf"\(({NAME}(?: {NAME})*) : "
 FIELDS = re.compile(r"(?<![\w⟧.'])([a-z_][\w']*|\))((?:\.\w+)+)")
 # The fields that need a word: of std's types, and those that tell how a value stands to a call.
 WITH_MEANING = {"entry", "ghost_name", "items", "new", "now", "old"}
+# What a value is at the beginning and at the end of a call.
+PHASES = {"entry", "new", "now", "old"}
 # A variant by its type's name.
 VARIANT = re.compile(rf"(?<![\w.])([A-Z]\w*)\.({NAME})")
 FIELD = re.compile(rf"^ +(?:pub(?:\([^)]*\))? )?({NAME}) ?: ", re.M)
@@ -23,6 +25,15 @@ FIELD = re.compile(rf"^ +(?:pub(?:\([^)]*\))? )?({NAME}) ?: ", re.M)
 def text_of(item):
     """Returns an item's contract without the comments in it and the names of its clauses."""
     return CLAUSE_NAME.sub(r"\1 {", re.sub(r"//.*", "", "\n".join([*item.asks, *item.gives])))
+
+
+def arguments(text):
+    """Returns the parts of a text between the commas that stand in no brackets."""
+    parts, depth = [""], 0
+    for it in text:
+        depth += (it in "<([") - (it in ">)]")
+        parts = [*parts, ""] if it == "," and not depth else [*parts[:-1], parts[-1] + it]
+    return [it.strip() for it in parts if it.strip()]
 
 
 @functools.cache
@@ -36,8 +47,9 @@ def unexplained(item, listed):
     """Returns the words of an item's contract that are no parameter, type, bound, field or name that is bound, and not listed in its entry; one
     that is a member of a type or a part of a value with the dot before it."""
     text = text_of(item)
-    # (a method may have the name of a function of lists that its contract means)
-    head = set(re.findall(NAME, f"{re.sub(r'fn [^(<]*', '', item.head)} {item.impl}"))
+    # (a method may have the name of a function of lists that its contract means; `Self`, and a type that a type has, are no parameters)
+    head = re.sub(r"\b([A-Z]\w*)::\w+|\w+ = ", r"\1 ", f"{re.sub(r'fn [^(<]*', '', item.head)} {item.impl}")
+    head = set(re.findall(NAME, head)) - {"Self"}
     bound = {name for it in BINDERS for names in it.findall(text) for name in re.findall(NAME, names)}
     known, plain = {*head, *bound, *listed, "_", "λ"}, fields() - WITH_MEANING
     text = FIELDS.sub(lambda it: f"{it[1]} {' '.join(f'.{name}' for name in it[2].split('.') if name and name not in plain)}", text)

@@ -5,9 +5,9 @@ import textwrap
 
 import pictures
 from examples import CLAUSES, GHOST
-from legend import LEGEND, legend, members, text_of, unexplained
+from legend import FIELDS, LEGEND, NAME, PHASES, WITH_MEANING, arguments, fields, legend, members, text_of, unexplained
 from repository import TOP, read_text
-from sources import MODULES, Sources
+from sources import MODULES, Sources, head_of_impl
 from vocabulary import PLAIN, WIDTH, bullet, cited, definitions, imported, libraries, table, wrapped
 
 ROW = re.compile(r"^\|( .*)\|$", re.M)
@@ -17,7 +17,8 @@ MAKERS = re.compile(r"(Returned|Made) by \[`[^.]*\.")
 # The clause of a call that lends what it has: the field that is lent, and what `self` is after that.
 WRITES_BACK = re.compile(r"^ensures\* (\w+) .*record self\.old \{ (\w+) = (record)?", re.S)
 AFTERWARDS = re.compile(r"^ensures\* (\w+) .*\(Afterwards ", re.S)
-IMPL = re.compile(r"^impl\b(?P<types>[^{]*?)\s(?P<trait>\w+)(?:<[^{]*?>)? for (?P<type>\w+)", re.M)
+IMPL = re.compile(r"^impl\b(?P<types>[^{]*?)\s(?P<trait>\w+)(?:<[^{]*?>)?\s+for\s+(?P<type>\w+)", re.M)
+ALIAS = re.compile(r"type \w+(?:<.*?>)? = (?P<type>\w+)(?P<arguments><.*>)?")
 TRAITS = "Traits"
 # The groups of a page, with where the code of their items stands; the longest path decides.
 GROUPS = {
@@ -93,8 +94,9 @@ def listed(item):
     return bullet(f"{linked(item, f'`{item.title}`')}{': ' if item.says else ''}{first_sentence(item.says)}")
 
 ABOUT_MARKS = (
-    "A mark is a trait that states a property of a type. `yes` means that a type has it, if the type's arguments meet the bounds of the impl. The entry"
-    " of a mark says what it means. [TABLES](../TABLES.md#which-marks-a-type-carries) says more, and has the rows of std's types."
+    "A mark is a trait that states a property of a type. `yes` means that a type has it, if the type's arguments meet the bounds of the impl. The type's"
+    " entry has the impl with its bounds. The entry of a mark says what the mark means. [TABLES](../TABLES.md#which-marks-a-type-carries) says more, and"
+    " has the rows of std's types."
 )
 # How a contract is read, for someone who has this page alone.
 ABOUT_CONTRACTS = "\n".join(
@@ -136,9 +138,15 @@ class Reference:
             self.tables[marks[0]] = told
         # The type that has a trait, by the trait and its name: no two of one name have one trait.
         self.impls = {}
+        # The heads of the impls of each trait for each type, with their bounds.
+        self.heads = {}
         for source in self.sources.by_module.values():
+            lines = source.text.splitlines()
             for found in IMPL.finditer(source.text):
-                self.impls.setdefault((found["trait"], found["type"]), self.sources.resolve(source, found["type"]))
+                type_ = self.sources.resolve(source, found["type"])
+                self.impls.setdefault((found["trait"], found["type"]), type_)
+                head = head_of_impl(lines, source.text.count("\n", 0, found.start()))
+                self.heads.setdefault((found["trait"], type_), []).append(head.replace("< ", "<").replace(", >", ">"))
 
     @functools.cache
     def names_in(self, path):
@@ -192,15 +200,17 @@ class Reference:
 
     def meaning(self, word, item):
         """Returns what a page says of a word of an item's contract that its entry does not explain; None if nothing does."""
+        name = word.removeprefix(".")
+        if name in legend():
+            return legend()[name]
         at = self.names_in(item.path).get(word)
         defined = at and self.words.get((*at, word))
         if defined:
             return f"{defined.says} ([{defined.module}](../../{defined.path}))"
-        name = word.removeprefix(".")
         traits = {}
         for trait, says in members().get(name, ()):
             traits.setdefault(says, []).append(f"`{trait}`")
-        return legend().get(name) or " ".join(f"Of {' and '.join(of)}: {says}" for says, of in traits.items()) or None
+        return " ".join(f"Of the trait{'s' * (len(of) > 1)} {in_a_row(of)}: {says}" for says, of in traits.items()) or None
 
     def of_examples(self, item):
         """Yields the words of the clauses in an item's examples that an example need not import, each with what a page says of it, if anything."""
@@ -210,10 +220,15 @@ class Reference:
                 own = None if where.startswith("Rattle.std.") else next((it for it in self.words.values() if it.name == word), None)
                 yield word, f"{own.says} ([{own.module}](../../{own.path}))" if own else legend().get(word)
 
-    def legend_of(self, module):
-        """Returns the table of the words that the contracts of a page have, and those in its examples, and that their entries do not explain."""
+    @functools.cache
+    def rows_of(self, module):
+        """Returns what the table of a page says of each word that its contracts and its examples have, and that their entries do not explain."""
         rows = {word: says for it in self.shown(module) for word, says in self.of_examples(it)}
-        rows |= {word.removeprefix("."): self.meaning(word, it) for it in self.shown(module) for word in self.unexplained(it)}
+        return rows | {word.removeprefix("."): self.meaning(word, it) for it in self.shown(module) for word in self.unexplained(it)}
+
+    def legend_of(self, module):
+        """Returns the table of words of a page."""
+        rows = self.rows_of(module)
         return table(["Word", "Meaning"], [[f"`{word}`", rows[word]] for word in sorted(rows, key=lambda it: (it.lower(), it)) if rows[word]])
 
     def faults(self):
@@ -226,6 +241,10 @@ class Reference:
                 for word, says in told.items():
                     if not says:
                         yield f"{item.path}:{item.line}", f"nothing explains the word {word} of the contract of `{module}::{title}`; {LEGEND} may"
+            for item in filter(is_type, self.shown(module)):
+                for mark in self.marks_of(item):
+                    if not self.heads.get((mark, self.based(item))):
+                        yield f"{item.path}:{item.line}", f"the impl of {mark} for `{module}::{item.name}` is not found"
         for word in legend():
             if word not in used:
                 yield LEGEND, f"no contract of docs/api has the word {word}"
@@ -278,8 +297,7 @@ class Reference:
         calls = self.makers(item, module) if made else []
         if not calls:
             return item.says
-        *most, last = [f"[`{it.title}`]({it.title})" for it in calls]
-        told = f"{', '.join(most)} and {last}" if most else last
+        told = in_a_row([f"[`{it.title}`]({it.title})" for it in calls])
         return f"{item.says[: made.start()]}{made[1]} by {told}.{item.says[made.end() :]}"
 
     @functools.cache
@@ -289,17 +307,70 @@ class Reference:
 
     def based(self, item):
         """Returns a type itself, and of an alias the type that it is for."""
-        while item.kind == "type" and (alias := re.match(r"type .*?= (\w*)", item.head)):
-            named = self.sources.resolve(self.sources.by_path[item.path], alias[1])
+        while item.kind == "type" and (alias := ALIAS.match(item.head)):
+            named = self.sources.resolve(self.sources.by_path[item.path], alias["type"])
             if not named:
                 break
             item = named
         return item
 
+    @functools.cache
+    def model_of(self, item):
+        """Returns the definition of what contracts see of a type, if that is a record; None otherwise."""
+        source = self.sources.by_path[item.path]
+        found = re.search(rf"\bModel for {item.name}\b.*?ghost Value = \{{ (\w+)", source.text, re.S)
+        at = found and self.names_in(item.path).get(found[1])
+        word = at and self.words.get((*at, found[1]))
+        return word if word and fields_of_record(word) else None
+
+    def fields_of(self, item):
+        """Returns the fields of a type that contracts see, with their types: those of its model, if it has one."""
+        if re.search(rf"\bModel for {item.name}\b", self.sources.by_path[item.path].text):
+            return fields_of_record(self.model_of(item)) if self.model_of(item) else {}
+        return item.fields
+
+    def types_in(self, item, text):
+        """Returns the types of the library that a type of an item's source names, from the first on; an alias is what it is for."""
+        source, found = self.sources.by_path[item.path], []
+        for name in re.findall(r"\w+", text):
+            named = self.sources.resolve(source, name)
+            if named and named.kind == "type" and (alias := ALIAS.match(named.head)):
+                found += self.types_in(named, alias[0].partition(" = ")[2])
+            elif named and named.kind == "struct":
+                found.append(named)
+        return found
+
+    @functools.cache
+    def fields_in(self, item):
+        """Returns the fields of the library's types that a contract names: each with the type that has it, None for one that is not public."""
+        found = {}
+        parameters, _, result = item.head.partition(") -> ")
+        typed = dict(re.findall(r"(\w+): ((?:[^,<(]|<[^>]*>|\([^)]*\))*)", parameters.partition("(")[2]))
+        typed |= {"self": item.owner.name if item.owner and item.owner.kind == "struct" else "", "result": result.partition(" where ")[0]}
+        for root, path in FIELDS.findall(text_of(item)):
+            # (what a function binds is mostly the result, or a part of it)
+            text = typed.get(root, typed["result"] or typed["self"])
+            types = self.types_in(item, text)
+            for name in path.split(".")[1:]:
+                if name.isdigit():
+                    parts = re.search(r"\((.*)\)", text)
+                    parts = arguments(parts[1]) if parts else []
+                    types = self.types_in(item, parts[int(name)]) if int(name) < len(parts) else []
+                elif name not in PHASES:
+                    there = next((it for it in types if name in self.fields_of(it)), None)
+                    if there or name in fields():
+                        found[there, name] = None
+                    if not there:
+                        break
+                    inner = [] if self.model_of(there) else self.types_in(there, there.fields[name])
+                    types = [*inner, *(it for it in types if it is not there)]
+        return list(found)
+
     def marks_of(self, item):
         """Returns the marks of a type, each for one of the traits that it has; an alias has those of its type."""
         item = self.based(item)
-        return [mark for kind in KINDS for marks in self.tables[kind] if self.impls.get((kind, marks[0])) is item for mark in marks[1]]
+        found = (mark for kind in KINDS for marks in self.tables[kind] if self.impls.get((kind, marks[0])) is item for mark in marks[1])
+        return list(dict.fromkeys(found))
 
     def about_result(self, item, module):
         """Yields what a page says of the type that a call returns, in the call's entry."""
@@ -308,27 +379,80 @@ class Reference:
             says = re.sub(r"(?:Returned|Made) by [^.]*\.\s?", "", made.says)
             yield laid_out(f"{linked(made, f'`{made.name}`')}: {self.with_links(says, made, module)}")
             yield from self.about_marks(made, module)
+        elif made and made is item.owner and module in self.pages_with(made):
+            yield f"Type of the result: {linked(made, f'`{made.name}`')}."
 
-    def about_marks(self, item, module):
-        """Yields which marks a type may have."""
+    def about_marks(self, item, module, is_own=False):
+        """Yields which marks a type may have; in its own entry each with the impl."""
         marks, base = self.marks_of(item), self.based(item)
         there = self.pages_with(base)
         if marks and there:
             section = f"{'' if module in there else f'{there[0]}.md'}#marks"
-            alias = "" if base is item else f" It is an alias of {self.link_from(module, base, f'`{base.name}`')}, whose marks these are."
+            alias = "" if base is item else f" It is an alias of {self.link_from(module, base, f'`{base.name}`')}, whose entry has the impls."
             links = ", ".join(self.mark_link(it, module) for it in marks)
-            given = " It has each of them if its type arguments meet the bounds of the impl." if "<" in base.head else ""
-            yield wrapped(f"[Marks]({section}) of `{item.name}`: {links}.{given}{alias}")
+            heads = [(mark, head) for mark in marks for head in self.heads.get((mark, base), ())]
+            if "<" not in base.head:
+                yield wrapped(f"[Marks]({section}) of `{item.name}`: {links}.{alias}")
+            elif is_own and base is item and heads:
+                yield f"[Marks]({section}) of `{item.name}`, each with its impl, whose bounds the type arguments must meet:"
+                yield "\n".join(f"- {self.mark_link(mark, module)}: `{head}`" for mark, head in heads)
+            else:
+                given = f"It has {'it' if len(marks) == 1 else 'each of them'} if its type arguments meet the bounds of the impl"
+                where = "" if alias else f", in {self.link_from(module, base, 'its entry')}"
+                yield wrapped(f"[Marks]({section}) of `{item.name}`: {links}. {given}{where}.{alias}")
 
     def about_fields(self, item, module):
-        """Yields the fields of a type that contracts on the page name. (Contracts do not name those of a type that has a model.)"""
+        """Yields the fields of a type that contracts on the page name; of a type that has a model, the model's."""
+        model = item.kind == "struct" and self.model_of(item)
+        if model:
+            told = ", ".join(f"`{name}: {of}`" for name, of in fields_of_record(model).items())
+            there = f"`{model.name}` ([{model.module}](../../{model.path}))"
+            yield wrapped(f"Fields that contracts name: {told}. They are those of its model {there}: {model.says}")
+            return
+        told = self.fields_of_alias(item, module) if item.kind == "type" else self.fields_named(item, module)
+        if told:
+            yield wrapped(f"Fields that contracts name: {', '.join(told)}.")
+
+    def fields_named(self, item, module):
+        """Returns the fields of a type that contracts on a page name."""
         names = [it for it in self.shown(module) if self.based(it) is item]
         calls = [*(call for it in names for call in self.makers(it, module)), *self.sources.methods.get(item, ())]
         named = {name for it in calls for name in re.findall(r"(?<=\.)\w+|\w+(?= = )", text_of(it))}
-        is_seen = not re.search(rf"\bModel for {item.name}\b", self.sources.by_path[item.path].text)
-        told = [f"`{name}: {of}`" for name, of in item.fields.items() if name in named]
-        if is_seen and told:
-            yield wrapped(f"Fields that contracts name: {', '.join(told)}.")
+        return [f"`{name}: {of}`" for name, of in self.fields_of(item).items() if name in named]
+
+    def fields_of_alias(self, item, module):
+        """Returns the fields that contracts on a page name of the type that an alias is for, and of those that this is made of."""
+        alias, base = ALIAS.match(item.head), self.based(item)
+        given = (alias and alias["arguments"] or "")[1:-1]
+        parameters = [it.partition(":")[0] for it in arguments((re.search(r"<(.*)>", base.head) or ["", ""])[1])]
+        of = dict(zip(parameters, arguments(given)))
+        found = dict.fromkeys(it for call in self.makers(item, module) for it in self.fields_in(call))
+        typed = {name: of.get(it, it) for name, it in self.fields_of(base).items()}
+        own = [f"`{name}: {typed[name]}`" for type_, name in found if type_ is base]
+        inner = [it for it in found if it[0] in self.types_in(item, given)]
+        return [*own, *self.by_type(inner, module, "its ")]
+
+    def by_type(self, found, module, whose=""):
+        """Returns fields of types, those of one type together, with a link to its entry."""
+        types = {}
+        for type_, name in found:
+            types.setdefault(type_, []).append(f"`{name}: {self.fields_of(type_)[name]}`" if type_ else f"`{name}`")
+        owners = {it: f"{whose}{self.link_from(module, it, f'`{it.name}`') or f'`{it.name}`'}" if it else "a private type" for it in types}
+        return [f"{in_a_row(names)} of {owners[it]}" for it, names in types.items()]
+
+    def about_words(self, item, module):
+        """Yields what some words of an item's contract mean in it: fields of the library's types, if the page's table says something else of them or
+        if no entry of the page has the type, and members of the item's own trait, if the table says something else of them."""
+        rows = self.rows_of(module)
+        differs = {it for it in rows if it not in WITH_MEANING}
+        shown = [it for it in self.fields_in(item) if it[1] in differs or it[0] and module not in self.pages_with(it[0])]
+        if shown:
+            yield wrapped(f"Field{'s' * (len(shown) > 1)} in this contract: {', '.join(self.by_type(shown, module))}.")
+        trait = item.owner.name if item.owner and item.owner.kind == "trait" else None
+        for word in dict.fromkeys(re.findall(NAME, text_of(item))) if trait else ():
+            says = dict(members().get(word, ())).get(trait)
+            if says and word in legend():
+                yield wrapped(f"`{word}` is the member of `{trait}`: {says}")
 
     def about_types(self, item, module):
         """Yields links to the types and the traits of other pages that an item's signature names."""
@@ -356,12 +480,12 @@ class Reference:
         parts += self.about_types(item, module)
         parts += [laid_out(self.with_links(self.says_of(item, module), item, module))] if item.says else []
         parts += self.about_result(item, module) if item.kind == "fn" else self.about_fields(item, module)
-        parts += self.about_marks(item, module) if item.kind != "fn" else []
+        parts += self.about_marks(item, module, is_own=True) if item.kind != "fn" else []
         parts += [f"Example:\n\n{code([it], 'rust')}" for it in item.examples]
         picture = self.pictures.get(f"{module}::{item.title}")
         parts += [f"Polled so (`P` is `Pending`, `E` the end of the stream):\n\n{code(picture.lines())}\n\nThe same [as a picture](../{picture.file})."] if picture else []
         parts += [f"Contract:\n\n{code([*item.asks, *item.gives])}"] if item.asks or item.gives else []
-        parts += self.about_borrows(item)
+        parts += [*self.about_borrows(item), *self.about_words(item, module)]
         words = [bullet(f"`{it.name}` ([{it.module}](../../{it.path})): {it.says}") for it in self.words_of(item)]
         parts += ["\n".join(words)] if words else []
         return "\n\n".join([*parts, f"Code: [{item.path}](../../{item.path})."])
@@ -405,6 +529,20 @@ def tables_of_marks():
     """Returns the tables of marks, each with its head, as cells."""
     told = read_text(f"{TOP}/docs/TABLES.md").partition("## Which marks a type carries")[2].partition("## Cases")[0]
     return [rows_in(it) for it in told.split("\n### ")[1:]]
+
+
+def in_a_row(texts):
+    """Returns the texts with commas between them, and `and` before the last."""
+    *most, last = texts
+    return f"{', '.join(most)} and {last}" if most else last
+
+
+@functools.cache
+def fields_of_record(word):
+    """Returns the fields of a definition that is a record, with their types."""
+    text = read_text(f"{TOP}/{word.path}")
+    found = re.search(rf"^(?:pub )?record (?:pub )?{re.escape(word.name)}(?=[\s(]).*\bwhere\n((?:  .*\n)+)", text, re.M)
+    return dict(re.findall(r"^  (?:pub )?(\w+) : (.*)$", found[1], re.M)) if found else {}
 
 
 def is_type(item):
