@@ -22,7 +22,7 @@ PROVED = "proved_examples"
 GHOST = {
     "Rattle.std.specs.Prelude": (
         *("◌≡◌", "◌⊎◌", "◌==◌", "◌≤◌", "◌%◌", "◌/◌", "◌*◌", "◌+◌", "◌-◌", "◌++◌", "◌^◌", "◌∷◌", "[]", "if◌then◌else◌"),
-        *("Err", "IfOk", "None", "Ok", "Some", "drop", "flat_map", "length", "map", "nat_lt", "not", "replicate", "string_bytes", "take"),
+        *("Err", "IfOk", "IsOk", "None", "Ok", "Some", "drop", "flat_map", "length", "map", "nat_lt", "not", "replicate", "string_bytes", "take"),
     ),
     "Rattle.std.specs.List": (
         *("enumerate_from", "filter", "filter_map", "find", "fold", "last_or", "list_all", "list_any", "position", "prefix_len"),
@@ -32,6 +32,7 @@ GHOST = {
     "Rattle.futures_lite.specs.Lines": ("byte_lines", "byte_pieces", "through_first"),
     "Rattle.futures_lite.specs.Lists": ("map_while", "scan", "step_from", "try_pair"),
     "Rattle.futures_lite.specs.Uses": ("first_error", "try_fold"),
+    "Rattle.futures_lite.specs.Writers.BufWriter": ("unwritten", "writer_inner"),
 }
 STD = {"alloc": ("AllocError", "AllocGlobal"), "random": ("RandomSource",), "sync": ("Wait",)}
 # A function of a block that stands at its margin, with its comment.

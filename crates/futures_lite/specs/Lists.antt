@@ -3,6 +3,7 @@
 pub use Rattle.lite_base.specs.Future.TryZip.{try_pair}
 pub use Rattle.lite_views.specs.Answering.{HasOk, HasValueAs, PickedValue, ReturnedBy}
 unfoldable pub use Rattle.lite_views.specs.Answering.{AtOnce, NeverReady}
+pub use Rattle.lite_views.specs.Futures.{RestIfFound, behind_match}
 pub use Rattle.lite_views.specs.Lists.{map_while, scan, step_from}
 pub use Rattle.lite_views.specs.OkLists.{OkListsAs}
 unfoldable pub use Rattle.lite_views.specs.OkLists.{OkLists, OkSeen}

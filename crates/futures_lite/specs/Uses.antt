@@ -10,6 +10,7 @@ pub use Rattle.lite_base.specs.declared.future.half.Half.TheVariants.{Asked}
 pub use Rattle.lite_buffered.specs.Budgeted.{budget_of, budgeted_inner, left_of}
 pub use Rattle.lite_buffered.specs.BufReader.{reader_capacity}
 pub use Rattle.lite_buffered.specs.Chain.{first_of, has_ended, second_of}
+pub use Rattle.lite_buffered.specs.Repeat.{byte_of}
 pub use Rattle.lite_buffered.specs.Take.{limit_of, take_inner}
 pub use Rattle.lite_consume.specs.Calls.{CallsBoth}
 pub use Rattle.lite_gather.specs.Gathering.{LacksRoom}
@@ -27,6 +28,8 @@ pub use Rattle.lite_read.specs.Laws.ReadUntil.{until_any}
 pub use Rattle.lite_read.specs.Laws.Texts.{line_room, string_room, text_any}
 pub use Rattle.lite_read.specs.LineText.{without_return}
 pub use Rattle.lite_read.specs.Lines.{GivesLines, lines_over}
+pub use Rattle.lite_read.specs.Polled.{PolledByCalls}
+pub use Rattle.lite_read.specs.Read.{Reads}
 pub use Rattle.lite_read.specs.ReadExact.{ReadsExactly}
 pub use Rattle.lite_read.specs.ReadLine.{LineHolds, ReadsLine, ReadsLineByRoom, line_over}
 pub use Rattle.lite_read.specs.ReadToEnd.{ReadsToEnd, ReadsToEndByRoom}
@@ -67,7 +70,7 @@ pub use Rattle.lite_views.proofs.Copy.{copy_left, on_each}
 pub use Rattle.lite_views.proofs.Empty.{empty_lists}
 pub use Rattle.lite_views.proofs.Filter.{filter_fewer, filtered_fits}
 pub use Rattle.lite_views.proofs.FilterMap.{filter_map_fewer, filter_mapped_fits}
-pub use Rattle.lite_views.proofs.Find.{find_made}
+pub use Rattle.lite_views.proofs.Find.{find_left, find_made}
 pub use Rattle.lite_views.proofs.FindMap.{find_map_made}
 pub use Rattle.lite_views.proofs.Fold.{fold_made}
 pub use Rattle.lite_views.proofs.Futures.{all_read, gathered_left, when_less}
@@ -88,8 +91,8 @@ pub use Rattle.lite_views.proofs.Picking.{or_at_once, or_picked, polled_at_once,
 pub use Rattle.lite_views.proofs.Picking.{try_second_fails}
 pub use Rattle.lite_views.proofs.Pieces.{pieces_listed}
 pub use Rattle.lite_views.proofs.PollFn.{polled_on}
-pub use Rattle.lite_views.proofs.Position.{position_made}
-pub use Rattle.lite_views.proofs.ReadExact.{exactly_read}
+pub use Rattle.lite_views.proofs.Position.{position_left, position_made}
+pub use Rattle.lite_views.proofs.ReadExact.{exactly_read, same_read}
 pub use Rattle.lite_views.proofs.Repeat.{repeated_on}
 pub use Rattle.lite_views.proofs.RepeatWith.{called_on}
 pub use Rattle.lite_views.proofs.Scan.{scan_fewer, scanned_fits}
@@ -105,11 +108,12 @@ pub use Rattle.lite_views.proofs.Until.{read_piece, read_text_line}
 pub use Rattle.lite_views.proofs.Unzip.{unzip_made}
 pub use Rattle.lite_views.proofs.Views.{lent_lists, listed_through, seen}
 pub use Rattle.lite_views.proofs.Waiting.{left_seen}
-pub use Rattle.lite_views.proofs.WriteAll.{written_left}
+pub use Rattle.lite_views.proofs.OneCall.{closed_left, flushed_left, read_left, wrote_left}
+pub use Rattle.lite_views.proofs.WriteAll.{accepted_left, written_left}
 pub use Rattle.lite_views.specs.Acting.{ActsAsOnState}
 pub use Rattle.lite_views.specs.Answering.{HasOk, HasValueAs, PickedValue, ReturnedBy}
 unfoldable pub use Rattle.lite_views.specs.Answering.{AtOnce, NeverReady}
-pub use Rattle.lite_views.specs.Futures.{CountRuns, FindRuns, FoldRuns, LastRuns, NthRuns, TryFoldRuns, TryZipRuns}
+pub use Rattle.lite_views.specs.Futures.{CountRuns, FindRuns, FoldRuns, LastRuns, NthRuns, RestIfFound, TryFoldRuns, TryZipRuns, behind_match}
 pub use Rattle.lite_views.specs.Iterators.{GivesAll}
 pub use Rattle.lite_views.specs.Lists.{map_while, scan, step_from}
 pub use Rattle.lite_views.specs.OkLists.{AllTaken, OkListsAs}
@@ -118,10 +122,16 @@ pub use Rattle.lite_views.specs.Trying.{TriesCollect, first_error, try_fold}
 pub use Rattle.lite_views.specs.Unfold.{UnfoldsInto}
 pub use Rattle.lite_views.specs.Views.{FoundBy, FrontsAs, ListsAs, ListsIf, OfItems, RestIs, ValueHolds, ValueIs}
 unfoldable pub use Rattle.lite_views.specs.Views.{Fronts, GoesOn, HasValue, Lists, Seen, Waited}
+pub use Rattle.lite_views.specs.OneCall.{ArrivesAll, ReadsFront, WritesFront}
 pub use Rattle.lite_views.specs.Waiting.{WhenLeft}
 unfoldable pub use Rattle.lite_views.specs.Waiting.{LeftAs, LeftSeen}
+unfoldable pub use Rattle.lite_views.specs.Accepts.{AcceptsAll}
+unfoldable pub use Rattle.lite_views.specs.YieldsOn.{YieldsOn}
+pub use Rattle.lite_write.specs.Close.{Closes}
 pub use Rattle.lite_write.specs.Copy.{CopyRuns}
+pub use Rattle.lite_write.specs.Flush.{Flushes}
 pub use Rattle.lite_write.specs.Parts.{NothingCopied, source_of}
+pub use Rattle.lite_write.specs.Write.{Writes}
 pub use Rattle.lite_write.specs.WriteAll.{WritesAll}
 pub use Rattle.std.proofs.Common.{ap, arith, refl, rules, subst, sym, ◌∙◌}
 pub use Rattle.std.proofs.lemmas.Grind.{common_steps}

@@ -6,7 +6,7 @@ ghost use Rattle.futures_lite.specs.Uses.{range_with_len, slice_get, zip, ActsAs
 ghost use Rattle.futures_lite.specs.Uses.{until_end, Calls, MayCallEach, items_in, Filters, SkipsFirst, SkipsWhile, StepsBy, Fuses, Inspects, Takes};
 ghost use Rattle.futures_lite.specs.Uses.{TakesWhile, Zips, ActsAsOnState, map_while, scan, step_from, Fronts, FrontsAs, GoesOn, HasValue, Lists, ListsAs, OfItems};
 ghost use Rattle.futures_lite.specs.Uses.{Seen, ValueHolds, ValueIs, CountRuns, FindRuns, FoldRuns, LastRuns, NthRuns, TryFoldRuns, TriesCollect, first_error};
-ghost use Rattle.futures_lite.specs.Uses.{AtOnce, FoundBy, ListsIf, NeverReady, RestIs, Ors, RacesOn, WhenLeft};
+ghost use Rattle.futures_lite.specs.Uses.{AtOnce, RestIfFound, behind_match, FoundBy, ListsIf, NeverReady, RestIs, Ors, RacesOn, WhenLeft};
 ghost use Rattle.futures_lite.specs.Uses.{Context, GivesFuture, Holding, MutBor, Ready, TryUnfoldsBy, UnfoldsBy, UnfoldsInto, item_of, seed_of, try_item_of, try_seed_of};
 ghost use Rattle.futures_lite.specs.Uses.{try_fold, option_transpose, AllTaken, OkLists, OkSeen, Budgets, CycleOf, FlatMaps, Flattens, Thens, First};
 
@@ -309,7 +309,7 @@ where
 /// ```
 /// use futures_lite::{StreamExt, future, stream};
 ///
-/// fn never<R>(rt: &R) -> Result<Option<Option<u8>>, AllocError>
+/// fn at_first<R>(rt: &R) -> Result<Option<Option<u8>>, AllocError>
 /// where
 ///     R: Wait + RandomSource + AllocGlobal,
 ///     ensures { IfOk result (λ v. v ≡ None) }
@@ -318,7 +318,17 @@ where
 ///     future::block_on(rt, future::poll_once(never.next()))
 /// }
 ///
-/// assert_eq!(rt; never(&rt)?, None);
+/// assert_eq!(rt; at_first(&rt)?, None);
+///
+/// // Its clause says that it does not return `Ok`. A call waits for ever.
+/// fn waits<R>(rt: &R) -> Result<Option<u8>, AllocError>
+/// where
+///     R: Wait + RandomSource + AllocGlobal,
+///     ensures { IfOk result (λ _. ⊥) }
+/// {
+///     let mut never = stream::pending::<u8>();
+///     future::block_on(rt, never.next())
+/// }
 /// ```
 #[tactic(auto, using(lite_views::proofs::Pending::pending_never))]
 pub fn pending<T>() -> Pending<T>
@@ -1609,7 +1619,7 @@ pub trait StreamExt: Stream {
     /// assert_eq!(rt; first_two(&rt)?, (Some(7), Some(8)));
     /// assert_eq!(rt; third(&rt)?, None);
     /// ```
-    #[tactic(auto, using(lite_views::proofs::Views::seen, lite_views::proofs::Next::next_value, lite_views::proofs::Next::next_on, lite_views::proofs::Next::next_at_once))]
+    #[tactic(auto, using(lite_views::proofs::Views::seen, lite_views::proofs::Next::next_value, lite_views::proofs::Next::next_on, lite_views::proofs::Next::next_at_once, lite_views::proofs::Next::next_never))]
     final fn next<'a>(&'a mut self) -> NextFuture<'a, Self>
     where
         Self: Sized,
@@ -1622,6 +1632,7 @@ pub trait StreamExt: Stream {
             (λ f v. (v ≡ slice_get xs 0) × RestIs Self.run f.stream.now xs)) }
         ensures on { (x : Self.Item) → FoundBy (Some x) self.old x
             (GoesOn Self.run self.old x → ValueIs ⟦<NextFuture<'a, Self> as Future>⟧.run result (Some x)) }
+        ensures never { NeverReady Self.run self.old → ValueHolds AllocError ⟦<NextFuture<'a, Self> as Future>⟧.run result (λ v. ⊥) }
     {
         lite_consume::make::next(self)
     }
@@ -1901,6 +1912,11 @@ pub trait StreamExt: Stream {
         ensures value { (test : Self.Item → Bool) (xs : List Self.Item) → Lists Self.run self.old xs
             → ActsAsAt P.FnMut predicate test
             → ValueIs (FindRuns Self.run (CalledAt P.FnMut)) result (find test xs) }
+        ensures left { (test : Self.Item → Bool) (xs : List Self.Item) → FoundBy (behind_match test xs) self.old xs
+            (Lists Self.run self.old xs → ActsAsAt P.FnMut predicate test
+            → WhenLeft AllocError (FindRuns Self.run (CalledAt P.FnMut)) result
+            (λ f. f.stream.ghost_name ≡ self.entry.ghost_name)
+            (λ f v. (v ≡ find test xs) × RestIfFound Self.run f.stream.now v (behind_match test xs))) }
     {
         lite_consume::make::find(self, predicate)
     }
@@ -1976,6 +1992,11 @@ pub trait StreamExt: Stream {
         ensures value { (test : Self.Item → Bool) (xs : List Self.Item) → Lists Self.run self.old xs
             → ActsAs P.FnMut predicate test
             → length xs < 2 ^ 64 → ValueIs ⟦<PositionFuture<'a, Self, P> as Future>⟧.run result (position test xs) }
+        ensures left { (test : Self.Item → Bool) (xs : List Self.Item) → FoundBy (behind_match test xs) self.old xs
+            (Lists Self.run self.old xs → ActsAs P.FnMut predicate test → length xs < 2 ^ 64
+            → WhenLeft AllocError ⟦<PositionFuture<'a, Self, P> as Future>⟧.run result
+            (λ f. f.stream.ghost_name ≡ self.entry.ghost_name)
+            (λ f v. (v ≡ position test xs) × RestIfFound Self.run f.stream.now v (behind_match test xs))) }
     {
         lite_consume::make::position(self, predicate)
     }

@@ -79,8 +79,8 @@ pub trait Future {
     /// The type of the value.
     type Output;
 
-    /// The values that may be polled: those that have not returned `Ready` before, and whose closures may be
-    /// called.
+    /// The values that may be polled: those that have not returned `Ready` before, unless the type allows a
+    /// poll after it, and whose closures may be called.
     ghost can_poll: { Self → Type 0 } = { λ _. ⊤ };
 
     /// From the first value, polls returned these results in order, and left the second value.

@@ -69,6 +69,20 @@ impl<'r, 'ctx, T> AsyncAsSync<'r, 'ctx, T> {
     /// # Examples
     ///
     /// ```
+    /// use futures_lite::io::AsyncAsSync;
+    /// use futures_lite::{Context, Poll, future};
+    ///
+    /// fn length(cx: &mut Context<'_>, bytes: &[u8]) -> usize
+    ///     ensures { result ≡ length bytes.now }
+    /// {
+    ///     AsyncAsSync::new(cx, bytes).borrow().len()
+    /// }
+    ///
+    /// let wrapped = future::poll_fn(|cx| Poll::Ready(length(cx, b"hello")));
+    /// assert_eq!(rt; future::block_on(&rt, wrapped)?, 5);
+    /// ```
+    ///
+    /// ```
     /// use futures_lite::io::{AsyncAsSync, ErrorKind};
     /// use futures_lite::{AsyncReadExt, Poll, future};
     /// use std::io::Read;
@@ -95,8 +109,19 @@ impl<'r, 'ctx, T> AsyncAsSync<'r, 'ctx, T> {
     ///
     /// ```
     /// use futures_lite::io::{AsyncAsSync, BufWriter};
-    /// use futures_lite::{AsyncWriteExt, Poll, future};
+    /// use futures_lite::{AsyncWriteExt, Context, Poll, future};
     /// use std::alloc::AllocError;
+    /// use std::io;
+    ///
+    /// fn closed(cx: &mut Context<'_>, out: &mut Vec<u8>) -> io::Result<()>
+    ///     ensures { out.new.items ≡ out.old.items }
+    /// {
+    ///     AsyncAsSync::new(cx, out).close()
+    /// }
+    ///
+    /// let mut output = Vec::from_slice(rt.alloc(), b"hello")?;
+    /// let closing = future::poll_fn(|cx| Poll::Ready(closed(cx, &mut output)));
+    /// future::block_on(&rt, closing)??;
     ///
     /// let mut writer = BufWriter::new(rt.alloc(), Vec::new(rt.alloc())).map_err(|_| AllocError)?;
     /// future::block_on(&rt, writer.write_all(b"hello"))??;
@@ -124,6 +149,17 @@ impl<'r, 'ctx, T> AsyncAsSync<'r, 'ctx, T> {
     /// ```
     /// use futures_lite::io::{AsyncAsSync, AsyncRead};
     /// use futures_lite::{Context, Poll, future};
+    /// use std::io;
+    ///
+    /// fn left(cx: &mut Context<'_>, bytes: &[u8]) -> io::Result<usize>
+    ///     ensures { result ≡ Ok (length bytes.now) }
+    /// {
+    ///     let mut reader = AsyncAsSync::new(cx, bytes);
+    ///     reader.poll_with(|io: &mut &[u8], _cx: &mut Context<'_>| Poll::Ready(Ok(io.len())))
+    /// }
+    ///
+    /// let asking = future::poll_fn(|cx| Poll::Ready(left(cx, b"hello")));
+    /// assert_eq!(rt; future::block_on(&rt, asking)??, 5);
     ///
     /// let mut reader = b"hello".as_slice();
     /// let reading = future::poll_fn(|cx| {

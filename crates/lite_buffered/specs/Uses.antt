@@ -33,6 +33,7 @@ pub use Rattle.lite_io_base.specs.Parts.{Part, PartsInOrder, reading_of}
 pub use Rattle.lite_io_base.specs.Runs.{Afterwards, Fills, Idle, MarkLaws, OnlyOkLends, ReadsInto, Shows, room_in}
 pub use Rattle.lite_io_base.specs.SeekKeeps.{SeekKeeps}
 pub use Rattle.lite_io_base.specs.Steady.{CalmReadLaws, NoPendingRead, SteadyReadLaws, strip_marks}
+pub use Rattle.lite_io_base.specs.Stored.{Arrives, Stored}
 pub use Rattle.lite_io_base.specs.SteadyWrite.{CalmWriteLaws, EndsFlushed, NoError, NoPendingWrite, SteadyWriteLaws}
 pub use Rattle.lite_io_base.specs.Takings.{WriteMark, bytes_in, bytes_taken, done_marks, write_marks}
 pub use Rattle.lite_io_base.specs.Takings.WriteMark.{closed, flushed}

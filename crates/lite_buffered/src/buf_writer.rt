@@ -30,6 +30,32 @@ const MOST_INTERRUPTIONS: usize = 16;
 /// ```
 /// use futures_lite::io::BufWriter;
 /// use futures_lite::{AsyncWriteExt, future};
+/// use std::io;
+///
+/// fn through<R>(rt: &R, bytes: &[u8], out: Vec<u8>) -> Result<io::Result<Vec<u8>>, AllocError>
+/// where
+///     R: Wait + RandomSource + AllocGlobal,
+///     ensures { IfOk result (λ r. IfOk r (λ v. v.items ≡ out.items ++ bytes.now)) }
+/// {
+///     let Ok(mut writer) = BufWriter::new(rt.alloc(), out) else {
+///         return Err(AllocError);
+///     };
+///     if let Err(e) = future::wait_for(rt, &mut writer.write_all(bytes))? {
+///         return Ok(Err(e));
+///     }
+///     if let Err(e) = future::wait_for(rt, &mut writer.flush())? {
+///         return Ok(Err(e));
+///     }
+///     Ok(Ok(writer.into_inner()))
+/// }
+///
+/// let output = through(&rt, b"world", Vec::from_slice(rt.alloc(), b"hello, ")?)??;
+/// assert_eq!(rt; output.as_slice(), b"hello, world".as_slice());
+/// ```
+///
+/// ```
+/// use futures_lite::io::BufWriter;
+/// use futures_lite::{AsyncWriteExt, future};
 /// use std::alloc::AllocError;
 ///
 /// let mut output = Vec::new(rt.alloc());
@@ -100,6 +126,7 @@ impl<W: Drop> BufWriter<W> {
     pub fn new(alloc: Global, inner: W) -> Result<BufWriter<W>, W>
         ensures inner { IfOk result (λ w. writer_inner w ≡ inner) }
         ensures empty { IfOk result (λ w. buffered w ≡ []) }
+        ensures held { IfOk result (λ w. unwritten w ≡ []) }
         ensures capacity { IfOk result (λ w. writer_capacity w ≡ 8192) }
         ensures handed_back { IfErr result (λ w. w ≡ inner) }
     {
@@ -147,6 +174,7 @@ impl<W: Drop> BufWriter<W> {
     pub fn with_capacity(alloc: Global, capacity: usize, inner: W) -> Result<BufWriter<W>, W>
         ensures inner { IfOk result (λ w. writer_inner w ≡ inner) }
         ensures empty { IfOk result (λ w. buffered w ≡ []) }
+        ensures held { IfOk result (λ w. unwritten w ≡ []) }
         ensures capacity { IfOk result (λ w. writer_capacity w ≡ capacity) }
         ensures handed_back { IfErr result (λ w. w ≡ inner) }
     {
@@ -247,20 +275,28 @@ impl<W: Drop> BufWriter<W> {
     ///
     /// ```
     /// use futures_lite::io::BufWriter;
+    /// use futures_lite::{AsyncWriteExt, future};
+    /// use std::io;
     ///
-    /// fn kept<R>(rt: &R, inner: Vec<u8>) -> Result<Vec<u8>, AllocError>
+    /// fn flushed<R>(rt: &R, bytes: &[u8], inner: Vec<u8>) -> Result<io::Result<Vec<u8>>, AllocError>
     /// where
-    ///     R: AllocGlobal,
-    ///     ensures { IfOk result (λ v. v ≡ inner) }
+    ///     R: Wait + RandomSource + AllocGlobal,
+    ///     ensures { IfOk result (λ r. IfOk r (λ v. v.items ≡ inner.items ++ bytes.now)) }
     /// {
-    ///     let Ok(writer) = BufWriter::new(rt.alloc(), inner) else {
+    ///     let Ok(mut writer) = BufWriter::new(rt.alloc(), inner) else {
     ///         return Err(AllocError);
     ///     };
-    ///     Ok(writer.into_inner())
+    ///     if let Err(e) = future::wait_for(rt, &mut writer.write_all(bytes))? {
+    ///         return Ok(Err(e));
+    ///     }
+    ///     if let Err(e) = future::wait_for(rt, &mut writer.flush())? {
+    ///         return Ok(Err(e));
+    ///     }
+    ///     Ok(Ok(writer.into_inner()))
     /// }
     ///
-    /// let kept = kept(&rt, Vec::from_slice(rt.alloc(), b"hello")?)?;
-    /// assert_eq!(rt; kept.as_slice(), b"hello".as_slice());
+    /// let inner = flushed(&rt, b"hello", Vec::new(rt.alloc()))??;
+    /// assert_eq!(rt; inner.as_slice(), b"hello".as_slice());
     /// ```
     ///
     /// ```
@@ -351,11 +387,13 @@ impl<W> BufWriter<W> {
 
 impl<W: Takings> Takings for BufWriter<W> {
     ghost use Rattle.lite_buffered.specs.BufWriter.{Buffers};
-    ghost use Rattle.lite_buffered.specs.Laws.BufWriter.{buffers_laws};
+    ghost use Rattle.lite_buffered.specs.Laws.BufWriter.{buffers_laws, buffers_stored};
 
     ghost writes = { Buffers W.writes };
 
     ghost write_laws = { buffers_laws W.write_laws };
+
+    ghost stored = { buffers_stored W.stored };
 }
 
 // It is not read from.

@@ -89,7 +89,17 @@ impl<R1, R2> Chain<R1, R2> {
     /// ```
     /// use futures_lite::{AsyncReadExt, future};
     ///
+    /// fn lengths(first: &[u8], second: &[u8]) -> (usize, usize)
+    ///     ensures { result ≡ (length first.now, length second.now) }
+    /// {
+    ///     let mut reader = AsyncReadExt::chain(first, second);
+    ///     let (first, second) = reader.get_mut();
+    ///     (first.len(), second.len())
+    /// }
+    ///
     /// let (hello, world): (&[u8], &[u8]) = (b"hello", b"world");
+    /// assert_eq!(rt; lengths(hello, world), (5, 5));
+    ///
     /// let mut reader = AsyncReadExt::chain(hello, world);
     /// let (first, second) = reader.get_mut();
     /// future::block_on(&rt, first.read(&mut [0; 3]))??;

@@ -9,8 +9,12 @@ use std::io::IoSliceMut;
 /// A reader over the first bytes of another reader, up to a limit, and then at end of file until
 /// [`set_limit`](Take::set_limit) raises the limit.
 ///
-/// Returned by [`take`](crate::make::take). Once the limit is used up, the inner reader is not polled. Before
-/// that, `Pending`, errors and end of file of the inner reader are passed on. They leave the limit unchanged.
+/// Returned by [`take`](crate::make::take). A read lowers the limit by the number of bytes that it returns,
+/// and `consume` lowers it by its amount. A vectored read fills one buffer: the first that is not empty.
+///
+/// Once the limit is used up, the inner reader is not polled. Before that, `Pending`, errors and end of file
+/// of the inner reader are passed on. They leave the limit unchanged. The inner reader is dropped with the
+/// `Take`.
 #[derive(Debug, Drop)]
 pub struct Take<R> {
     inner: R,

@@ -13,7 +13,7 @@ pub trait Gather<T> {
     /// The type of the allocator that it gets its memory from.
     type Alloc;
 
-    /// The collection that results from adding these items to an empty one, in order.
+    /// The collection is what an empty one becomes if these items are added to it in order.
     ghost holds: { Self → List T → Type 0 };
 
     /// It has room for the item, so it may not refuse it. If an impl does not define this, it is never known.

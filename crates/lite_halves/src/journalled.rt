@@ -21,9 +21,9 @@ pub use write_half::JournalWriteHalf;
 
 /// Splits a journal into a half that reads and a half that writes, which may be used in two threads.
 ///
-/// Each half counts the entries of its kind that the journal has, including those from before the split. `B`
-/// names the counters of the calls and of the bytes of both halves, so halves of two splits cannot be mixed.
-/// `blanks` must be the counters that `B` names.
+/// The read half counts the journal's reads and the bytes that they returned. The write half counts its writes
+/// and the bytes that they accepted. Entries from before the split are included. `B` names these four
+/// counters, so halves of two splits cannot be mixed. `blanks` must be the counters that `B` names.
 ///
 /// Each call of a half locks the journal, so it may wait. The halves keep `rt` for that. This call does not
 /// wait. `rt` and the stream must be `Drop`.

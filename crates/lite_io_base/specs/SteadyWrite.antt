@@ -1,4 +1,4 @@
--- Writers that leave the same bytes no matter when they were pending, and writers that are never pending.
+-- Writers whose bytes do not depend on when they were pending, and writers that are never pending.
 use Rattle.std.specs.Prelude.{◌≡◌, ℕ, List, [], ◌∷◌, ◌++◌, ⊤}
 use Rattle.lite_io_base.specs.Uses.{Interrupted, CalmRuns, Runs}
 use Rattle.lite_io_base.specs.Takings.{WriteMark, bytes_taken}

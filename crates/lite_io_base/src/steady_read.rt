@@ -5,7 +5,7 @@ ghost use Rattle.lite_io_base.specs.Steady.{SteadyReadLaws};
 
 use crate::async_read::AsyncRead;
 
-/// A reader that gives the same bytes, errors and ends whenever it returns `Pending`, if no memory is
+/// A reader whose bytes, errors and ends of file do not depend on when it returns `Pending`, if no memory is
 /// refused.
 pub trait SteadyRead: AsyncRead {
     /// The runs in which no memory was refused.

@@ -26,9 +26,14 @@ impl<'a, S> Drain<'a, S> {
     /// ```
     /// use futures_lite::{Stream, StreamExt, stream};
     ///
+    /// fn hint<S: Stream>(s: &mut S) -> (usize, Option<usize>)
+    ///     ensures { S.hints s.old result }
+    /// {
+    ///     s.drain().get_ref().size_hint()
+    /// }
+    ///
     /// let mut numbers = stream::iter(0u8..4);
-    /// let ready = numbers.drain();
-    /// assert_eq!(rt; ready.get_ref().size_hint(), (4, Some(4)));
+    /// assert_eq!(rt; hint(&mut numbers), (4, Some(4)));
     /// ```
     pub fn get_ref(&self) -> &S
         ensures { result.now ≡ self.now.stream.now }
@@ -41,9 +46,17 @@ impl<'a, S> Drain<'a, S> {
     /// # Examples
     ///
     /// ```
-    /// use futures_lite::{StreamExt, future, stream};
+    /// use futures_lite::{Stream, StreamExt, future, stream};
     ///
-    /// let mut numbers = stream::iter(0u8..4);
+    /// fn replaced<S: Stream + Drop>(s: S, other: S) -> S
+    ///     ensures { result ≡ other }
+    /// {
+    ///     let mut s = s;
+    ///     *s.drain().get_mut() = other;
+    ///     s
+    /// }
+    ///
+    /// let mut numbers = replaced(stream::iter(0u8..2), stream::iter(0..4));
     /// let mut ready = numbers.drain();
     /// assert_eq!(rt; future::block_on(&rt, ready.get_mut().nth(2))?, Some(2));
     /// assert_eq!(rt; future::block_on(&rt, ready.next())?, Some(3));
@@ -61,9 +74,17 @@ impl<'a, S> Drain<'a, S> {
     /// # Examples
     ///
     /// ```
-    /// use futures_lite::{StreamExt, future, stream};
+    /// use futures_lite::{Stream, StreamExt, future, stream};
     ///
-    /// let mut numbers = stream::iter(0u8..4);
+    /// fn replaced<S: Stream + Drop>(s: S, other: S) -> S
+    ///     ensures { result ≡ other }
+    /// {
+    ///     let mut s = s;
+    ///     *s.drain().into_inner() = other;
+    ///     s
+    /// }
+    ///
+    /// let mut numbers = replaced(stream::iter(0u8..2), stream::iter(0..4));
     /// let mut ready = numbers.drain();
     /// assert_eq!(rt; future::block_on(&rt, ready.next())?, Some(0));
     /// let rest = ready.into_inner();

@@ -2,7 +2,7 @@
 use Rattle.std.specs.Prelude.{◌≡◌, ◌%◌, ◌^◌, ℕ, false, List, [], ◌∷◌, ◌++◌, Result, Ok, Err, IfOk, length}
 use Rattle.std.proofs.Common.{◌+◌}
 use Rattle.lite_theorems.specs.Uses.{AtEachOk, ◌∙◌, refl, ap, sym, subst, arith, append-nil, Error, Poll, Gives, gives_strip, Lent, Runs, Buffers, unwritten}
-use Rattle.lite_theorems.specs.Uses.{writer_inner, segments_flushed, BufWriter, ChainsReaders, first_of, has_ended, second_of, Chain, ReadMark, MarkLaws}
+use Rattle.lite_theorems.specs.Uses.{writer_inner, segments_done, BufWriter, ChainsReaders, first_of, has_ended, second_of, Chain, ReadMark, MarkLaws}
 use Rattle.lite_theorems.specs.Uses.{WriteMark, bytes_taken, CopyRuns, CopyValue, ok_value, told_both, taken_both, bytes_told, NothingCopied, held_of, met_in}
 use Rattle.lite_theorems.specs.Uses.{source_of, CopyFuture, MutBor}
 use Rattle.lite_theorems.specs.Chained.{CopiesBoth, CopiesWhole, TakesWhole, TellsRest, TellsWhole}
@@ -13,7 +13,7 @@ buffered_whole : {W : Type 0} (writes : Runs WriteMark W) (x y : BufWriter W) (o
     → Buffers writes x (out ++ WriteMark.flushed ∷ []) y
     → TakesWhole writes (writer_inner x) (unwritten x ++ bytes_taken out) (writer_inner y) × (unwritten y ≡ [])
 buffered_whole writes x y out h =
-    let last = segments_flushed (unwritten x) (unwritten y) h.taken out h.segments in
+    let last = segments_done (unwritten x) (unwritten y) h.taken out WriteMark.flushed tt h.segments in
     let told : bytes_taken (out ++ WriteMark.flushed ∷ []) ≡ bytes_taken out = taken_both out (WriteMark.flushed ∷ [])
     ∙ append-nil (bytes_taken out) in
     let front : bytes_taken h.taken ≡ bytes_taken last.0.0 = ap bytes_taken last.0.1

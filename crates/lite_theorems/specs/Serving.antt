@@ -44,13 +44,14 @@ LineEnds reply xs rest took (Ok true) = (rest ≡ []) × EndsAtFirst 10 xs × (b
 LineEnds reply xs rest took (Ok false) = (rest ≡ ReadMark.end ∷ []) × AllFlushed reply xs took
 LineEnds reply xs rest took (Err e) = StopsServing rest e
 
--- How serving all lines ends. `Ok`: the end of file came, and all is flushed. An error: serving stopped.
+-- How serving all lines ends. `Ok`: the end of file came, and the replies to all lines were written and flushed. An
+-- error: serving stopped.
 abbrev pub ServingEnds : Replying → List ℕ → List ReadMark → List WriteMark → Result (Unit {0}) ServeError → Type 0
 ServingEnds reply xs rest took (Ok u) = (rest ≡ ReadMark.end ∷ []) × AllFlushed reply xs took
 ServingEnds reply xs rest took (Err e) = StopsServing rest e
 
--- The server read the bytes `read`, and wrote the replies to their lines or a prefix of those. `Ends` says how it ended
--- with this value.
+-- The reader's marks, `told`, are the bytes `read` and then `rest`. The writer's marks, `took`, hold the replies to the
+-- lines of `read`, or a prefix of them. `Ends` says of all these, and of the value, how it ended.
 pub record Replied {R : Type 0} (reply : Replying) (told : List ReadMark) (took : List WriteMark)
     (Ends : Replying → List ℕ → List ReadMark → List WriteMark → R → Type 0) (value : R) : Type 0 where
   pub read : List ℕ

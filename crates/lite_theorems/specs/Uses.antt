@@ -20,7 +20,7 @@ pub use Rattle.lite_buffered.specs.BufReader.{PassesBuffer, ThroughBuffer, ahead
 pub use Rattle.lite_buffered.specs.BufWriter.{Buffers, unwritten, writer_inner}
 pub use Rattle.lite_buffered.specs.Chain.{ChainsReaders, EndlessMarks, JoinsReaders, ReadsAcross, first_of, has_ended, second_of}
 pub use Rattle.lite_buffered.specs.Laws.BufReader.{passes_some}
-pub use Rattle.lite_buffered.specs.Laws.SteadyWrite.{segments_flushed}
+pub use Rattle.lite_buffered.specs.Laws.BufWriter.{segments_done}
 pub use Rattle.lite_buffered.specs.Take.{LimitEnds, TakesMarks, WithinLimit, limit_of, take_inner}
 pub use Rattle.lite_buffered.specs.declared.buf_reader.BufReader.{BufReader}
 pub use Rattle.lite_buffered.specs.declared.buf_writer.BufWriter.{BufWriter}

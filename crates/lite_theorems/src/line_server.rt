@@ -15,7 +15,8 @@ use std::sync::Wait;
 
 /// The replies that [`serve_lines`] writes: one for each line.
 pub trait LineService {
-    /// The reply to a line. The line has no newline, and no carriage return before it.
+    /// The reply to a line. The line comes without its newline and without one carriage return before that. A
+    /// last line that has no newline keeps its carriage return.
     ghost reply: { Replying };
 
     /// Replaces a line with the reply to it. `Err` means that memory for the reply was refused; the line may
@@ -53,22 +54,25 @@ pub trait LineService {
 /// The service gets each line without its newline, and without one carriage return right before that. A last
 /// line without a newline is answered, too, and keeps its carriage return, as in
 /// [`lines`](futures_lite::io::AsyncBufReadExt::lines). If no byte follows the last newline, there is no
-/// further line. The call blocks this thread, by `on`, and may wait for ever.
+/// further line. The call blocks this thread, by `on` and the runtime `rt`, and may wait for ever. Lines are
+/// allocated from `rt`.
 ///
 /// If it returns `Ok`, it has written the replies to all lines, none lost and none twice, and has flushed
-/// them. After each reply the call also flushes `replies`, if no more input is buffered.
+/// them. The call also flushes `replies` after each reply, if the reader has no more bytes buffered.
 ///
-/// The caller guarantees that `ranks.counts` holds for the reader `requests`: one read cannot go on for ever
-/// without a `Pending`.
+/// The caller guarantees that `ranks.counts` holds for the reader `requests`: it cannot give bytes and errors
+/// for ever without end of file or `Pending`.
 ///
 /// # Errors
 ///
-/// After an error the call has written a prefix of the replies, which may end within a reply. The
-/// [`ServeError`] says why it stopped:
+/// After an error the call has written a prefix of the replies, which may end within a reply. What it wrote
+/// since the last flush is not flushed. The [`ServeError`] says why it stopped:
 ///
-/// - `ServeError::Input`: the reader failed, or memory for a line was refused.
-/// - `ServeError::Output`: the writer failed.
-/// - `ServeError::Memory`: the service had no memory for a reply.
+/// - `ServeError::Input`: the reader failed, or memory for a line was refused. All lines before that have
+///   their whole replies. The bytes of the line that was not finished are lost. They are consumed from
+///   `requests`, and so is the error.
+/// - `ServeError::Output`: the writer failed, at a reply or at a flush. The line of that reply was read.
+/// - `ServeError::Memory`: the service returned `Err`, for lack of memory. Nothing of its reply was written.
 ///
 /// # Examples
 ///

@@ -2,8 +2,11 @@
 use Rattle.std.specs.Prelude.{◌≡◌, List, [], ◌∷◌, ◌++◌, refl, Option, Some, None}
 use Rattle.std.proofs.Common.{◌⊎◌}
 use Rattle.lite_views.specs.Uses.{inl, inr, sym, Poll, Ready, Answer, Gives, item, Question, Runs, Folds, Consumes, Decides, Fold, TakesIn, consumes_steps}
-use Rattle.lite_views.specs.Uses.{Consume}
-use Rattle.lite_views.proofs.Views.{AnswersAs, answered, value_holds}
+use Rattle.lite_views.specs.Uses.{Consume, Hints, Lent, MutBor, StreamLaws, ap}
+use Rattle.lite_views.specs.Futures.{RestIfFound}
+use Rattle.lite_views.specs.Waiting.{WhenLeft}
+use Rattle.lite_views.proofs.Futures.{when_left}
+use Rattle.lite_views.proofs.Views.{AnswersAs, answered, listed, value_holds}
 use Rattle.lite_views.specs.Views.{Fits, Lists, ValueHolds, ValueIs}
 
 module _ {M A R : Type 0} (fold : Fold M A R) where
@@ -92,3 +95,50 @@ module _ {M F A O R : Type 0} (fold : Fold M A R) (f_of : M → F) (call : Quest
   asked_made p (x ∷ xs) e v (inr (q, s)) =
       let g = stops p q x v xs s in
       let a = answered call f h acts (f_of p) (f_of q) x g.0 e g.1 in sym (g.2 a.1)
+
+-- Of such a fold that decides by an item: what comes later is the items behind that one, `behind`.
+module _ {M F A O B : Type 0} (fold : Fold M A (Option B)) (f_of : M → F) (call : Question F A O) (f : F) (h : A → O)
+    (acts : AnswersAs call f h) (behind : List A → List A)
+    (none : (p q : M) (r : Option B) → fold.closes p r q → r ≡ None)
+    (goes : (p q : M) (x : A) (xs : List A) → fold.asks p x None q
+    → (o : O) × call (f_of p) x o (f_of q) × (h x ≡ o → behind (x ∷ xs) ≡ behind xs))
+    (stops : (p q : M) (x : A) (r : Option B) (xs : List A) → fold.asks p x (Some r) q
+    → (o : O) × call (f_of p) x o (f_of q) × (h x ≡ o → behind (x ∷ xs) ≡ xs)) where
+  asked_behind : (later : List (Answer A)) (p : M) (xs : List A) (found : B) → f_of p ≡ f
+      → LeavesOf fold later p xs (Some found) → Fits later (behind xs)
+  asked_behind later p [] found e (q, s) = let k = none p q (Some found) s in cc
+  asked_behind later p (x ∷ xs) found e (inl (q, s, more)) =
+      let g = goes p q x xs s in
+      let a = answered call f h acts (f_of p) (f_of q) x g.0 e g.1 in
+      rw (g.2 a.1) (asked_behind later q xs found a.0 more)
+  asked_behind later p (x ∷ xs) found e (inr (q, s, fits)) =
+      let g = stops p q x (Some found) xs s in
+      let a = answered call f h acts (f_of p) (f_of q) x g.0 e g.1 in rw (g.2 a.1) fits
+
+  -- where such a future borrowed a stream: its value, and what is left of the stream
+  module _ {S : Type 0} {run : Runs (Answer A) S} {hints : Hints S} (laws : StreamLaws run hints)
+      (x : Consume (MutBor S) M) (xs : List A) (lists : Lists run x.stream.now xs) (from : f_of x.folder ≡ f)
+      (v : Option B) (made : MakesOnly fold x.folder xs v) where
+    rest : (ins : List (Poll (Option B))) (y : Consume (MutBor S) M) (o : Option B) → Gives ins o
+        → Folds (Lent run) fold x ins y → RestIfFound run y.stream.now o (behind xs)
+    unfolding Lists
+    rest ins y None gives ran = tt
+    rest ins y (Some found) gives ran =
+        listed run y.stream.now (behind xs)
+        (λ l t h.
+        asked_behind l x.folder xs found from
+        (leaves fold l x.folder y.folder ran.ins ins xs (Some found)
+        (lists (ran.ins ++ l) t (laws.follows x.stream.now y.stream.now t ran.ins l ran.came.0 h)) gives ran.consumed))
+
+    pub asked_left : {E : Type 0} → WhenLeft E (Folds (Lent run) fold) x (λ y. y.stream.ghost_name ≡ x.stream.ghost_name)
+        (λ y o. (o ≡ v) × RestIfFound run y.stream.now o (behind xs))
+    unfolding Lists
+    asked_left =
+        when_left (Folds (Lent run) fold) x (λ y. y.stream.ghost_name ≡ x.stream.ghost_name)
+        (λ y o. (o ≡ v) × RestIfFound run y.stream.now o (behind xs)) refl
+        (λ ins y ran. ap (λ r. r.ghost_name) ran.came.1)
+        (λ ins y o gives ran. (
+          made o
+              (settles fold x.folder y.folder ran.ins ins xs o (lists ran.ins y.stream.now ran.came.0) gives ran.consumed),
+          rest ins y o gives ran,
+        ))

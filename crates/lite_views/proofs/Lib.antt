@@ -34,6 +34,7 @@ pub mod Merge
 pub mod Next
 pub mod Nth
 pub mod OkLists
+pub mod OneCall
 pub mod Once
 pub mod OnceFuture
 pub mod Partition
@@ -46,9 +47,11 @@ pub mod ReadExact
 pub mod Ready
 pub mod Repeat
 pub mod RepeatWith
+pub mod RepeatByte
 pub mod Repeating
 pub mod Scan
 pub mod Script
+pub mod Sink
 pub mod Skip
 pub mod SkipWhile
 pub mod StepBy

@@ -2,11 +2,11 @@
 use Rattle.std.specs.Prelude.{◌≡◌, ℕ, List, [], ◌∷◌, ◌++◌, refl, Option, Some, None, IfSome}
 use Rattle.std.proofs.Common.{◌≤◌}
 use Rattle.lite_views.specs.Uses.{Lent, MutBor, Next, ◌∙◌, suc, length, inl, inr, ap, arith, slice_get, Poll, Ready, Answer, Gives, item, Runs, Folds, nexts}
-use Rattle.lite_views.specs.Uses.{Consume, Pending, Hints, StreamLaws, drop, end, items_in, replicate, until_end, zero}
+use Rattle.lite_views.specs.Uses.{Consume, Pending, Hints, StreamLaws, Waiting, consumes_steps, drop, end, items_in, replicate, until_end, zero}
 use Rattle.lite_views.proofs.Futures.{when_left}
 use Rattle.lite_views.proofs.Views.{lent_lists, listed, seen, value_holds}
-use Rattle.lite_views.specs.Answering.{AtOnce}
-use Rattle.lite_views.specs.Views.{EachIs, Fits, FoundBy, GoesOn, Lists, RestIs, ValueIs}
+use Rattle.lite_views.specs.Answering.{AtOnce, NeverReady}
+use Rattle.lite_views.specs.Views.{EachIs, Fits, FoundBy, GoesOn, Lists, RestIs, ValueHolds, ValueIs}
 use Rattle.lite_views.specs.Waiting.{WhenLeft}
 use Rattle.lite_views.proofs.Consume.{MakesOnly, LeavesOf, settles, leaves, only_made}
 
@@ -107,3 +107,14 @@ pub next_at_once : {S A : Type 0} (run : Runs (Answer A) S) (x : Consume (MutBor
     → FoundBy (Some y) x.stream.now y
     (AtOnce run x.stream.now (Some y) → ValueIs (Folds (Lent run) nexts) x (Some y))
 next_at_once run x y = (refl, seen x.stream.now y, at_once_value run x (Some y))
+
+-- `next` of a stream that is never ready
+pub next_never : {S A E : Type 0} (run : Runs (Answer A) S) (x : Consume (MutBor S) Next)
+    → NeverReady run x.stream.now → ValueHolds E (Folds (Lent run) nexts) x (λ v. ⊥)
+unfolding NeverReady
+next_never {A = A} run x never =
+    value_holds (Folds (Lent run) nexts) x (λ v. ⊥)
+    (λ ins v f.
+    consumes_steps nexts (λ p i l. Waiting i → Gives l v → ⊥) (λ p m y i b l t k w. absurd w) (λ p i l k. k)
+    f.last.folder (λ p o r d w. absurd w) x.folder f.came.ins ins (λ w g. absurd g) f.came.consumed
+    (never f.came.ins f.last.stream.now f.came.came.0) f.gives)

@@ -2,9 +2,12 @@
 use Rattle.std.specs.Prelude.{◌≡◌, ℕ, List, [], ◌∷◌, refl, Bool, true, false, cond, nat_lt, Option, Some, None, option_map}
 use Rattle.std.proofs.Common.{◌<◌, ◌^◌, ◌+◌}
 use Rattle.lite_views.specs.Uses.{Position, ◌∙◌, suc, length, inl, inr, ap, sym, arith, leb-suc-suc, leb-zero, position, position_or_len, Question, fold_of}
-use Rattle.lite_views.specs.Uses.{positions}
+use Rattle.lite_views.specs.Uses.{positions, Answer, Consume, Folds, Hints, Lent, MutBor, Runs, StreamLaws}
+use Rattle.lite_views.specs.Futures.{RestIfFound, behind_match}
+use Rattle.lite_views.specs.Views.{Lists}
+use Rattle.lite_views.specs.Waiting.{WhenLeft}
 use Rattle.lite_views.proofs.Views.{AnswersAs, answered}
-use Rattle.lite_views.proofs.Consume.{MakesOnly}
+use Rattle.lite_views.proofs.Consume.{MakesOnly, asked_left}
 
 module _ {F A : Type 0} (asked : Question F A Bool) (f : F) (test : A → Bool)
     (acts : AnswersAs asked f test) where
@@ -42,3 +45,15 @@ module _ {F A : Type 0} (asked : Question F A Bool) (f : F) (test : A → Bool)
       from_zero : (o : Option ℕ) → option_map (λ k. p.index + k) o ≡ o
       from_zero None = refl
       from_zero (Some k) = let e : p.index + k ≡ k = omega (arith, none) in ap (λ n. Some n) e
+
+  pub position_left : {S E : Type 0} {run : Runs (Answer A) S} {hints : Hints S} (laws : StreamLaws run hints)
+      (x : Consume (MutBor S) (Position F)) (xs : List A) → Lists run x.stream.now xs → x.folder.predicate ≡ f
+      → x.folder.index ≡ 0 → length xs < 2 ^ 64
+      → WhenLeft E (Folds (Lent run) (fold_of (λ m. (m.predicate, m.index)) (positions asked))) x
+      (λ y. y.stream.ghost_name ≡ x.stream.ghost_name)
+      (λ y v. (v ≡ position test xs) × RestIfFound run y.stream.now v (behind_match test xs))
+  position_left laws x xs lists from none small =
+      asked_left (fold_of (λ m. (m.predicate, m.index)) (positions asked)) (λ m. m.predicate) asked f test acts
+      (behind_match test) (λ p q r s. s.0) (λ p q x xs s. (false, s.0, λ e. rw e))
+      (λ p q x r xs s. (true, s.1, λ e. rw e)) laws x xs lists from (position test xs)
+      (position_made x.folder xs from none small)

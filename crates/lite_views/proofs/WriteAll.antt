@@ -1,8 +1,9 @@
 -- `write_all` to a writer of which it is known what it keeps.
-use Rattle.std.specs.Prelude.{◌≡◌, ℕ, List, [], ◌∷◌, ◌++◌, map, refl, Result, Ok, Err, IfOk}
+use Rattle.std.specs.Prelude.{◌≡◌, ℕ, List, [], ◌∷◌, ◌++◌, map, refl, Result, Ok, Err, IfOk, IsOk}
 use Rattle.lite_views.specs.Uses.{WriteAllFuture, ◌∙◌, ap, sym, append_assoc, FoldsTo, Error, Poll, Ready, Pending, Gives, segment_front, to_value_last, Runs}
 use Rattle.lite_views.specs.Uses.{Stored, Stores, stores_kept, WriteMark, bytes_taken, taken_both, Hands, Ended, HandsMarks, HandsOver, WritesAll}
 use Rattle.lite_views.proofs.Futures.{when_left}
+use Rattle.lite_views.specs.Accepts.{AcceptsAll, AllAccepted}
 use Rattle.lite_views.specs.Waiting.{WhenLeft}
 
 abbrev writes_of : List (List ℕ) → List WriteMark
@@ -50,3 +51,36 @@ written_left writes stored x stores =
     (λ ins y ran. ap (λ r. r.ghost_name) ran.stays)
     (λ ins y v gives ran. all_written v ins x.buf.now y.buf.now (stored.kept x.writer.now) (stored.kept y.writer.now)
     ran.marks ran.handed gives (stores_kept writes stored x.writer.now y.writer.now ran.marks stores ran.came))
+
+-- `write_all` to a writer whose writes do not fail
+accepted_part : (l m : List WriteMark) → AllAccepted (l ++ m) → AllAccepted m
+accepted_part [] m a = a
+accepted_part (WriteMark.fault kind ∷ l) m a = absurd a
+accepted_part (WriteMark.wrote [] ∷ l) m a = absurd a
+accepted_part (_ ∷ l) m a = accepted_part l m a
+
+ends_ok : (left : List ℕ) (last : List WriteMark) (v : Result (Unit {0}) Error) → AllAccepted last → Ended left last v
+    → IsOk v
+ends_ok left last (Ok u) a e = refl
+ends_ok left [] (Err e) a h = let none = h.1 in cc
+ends_ok left (WriteMark.wrote [] ∷ []) (Err e) a h = absurd a
+ends_ok left (WriteMark.fault kind ∷ []) (Err e) a h = absurd a
+ends_ok left last (Err e) a h = absurd h
+
+all_accepted : (out : List (Poll (Result (Unit {0}) Error))) (offered left : List ℕ) (marks : List WriteMark)
+    (v : Result (Unit {0}) Error) → AllAccepted marks → HandsOver offered marks out left → Gives out v → IsOk v
+all_accepted [] offered left marks v a h g = absurd g
+all_accepted (Pending ∷ out) offered left marks v a ((first, rest, m, cut, w, more), up) g =
+    all_accepted out m left rest v (accepted_part first rest (rw (← cut) a)) (more, up) g
+all_accepted (Ready r ∷ out) offered left marks v a h g =
+    let w = to_value_last HandsMarks offered left marks r out h in
+    rw (← g.0) (ends_ok w.between w.last r (accepted_part (writes_of w.taken) w.last (rw (← w.cut) a)) w.given.0)
+
+pub accepted_left : {W E : Type 0} (writes : Runs WriteMark W) (x : WriteAllFuture W) → AcceptsAll writes x.writer.now
+    → WhenLeft E (WritesAll writes) x (λ y. y.writer.ghost_name ≡ x.writer.ghost_name) (λ y r. IsOk r)
+unfolding AcceptsAll
+accepted_left writes x accepts =
+    when_left (WritesAll writes) x (λ y. y.writer.ghost_name ≡ x.writer.ghost_name) (λ y r. IsOk r) refl
+    (λ ins y ran. ap (λ r. r.ghost_name) ran.stays)
+    (λ ins y v gives ran. all_accepted ins x.buf.now y.buf.now ran.marks v (accepts ran.marks y.writer.now ran.came)
+    ran.handed gives)

@@ -26,7 +26,7 @@ abbrev pub HasValueAs : {F A : Type 0} → Runs (Poll A) F → F → A → Type 
 HasValueAs run f v = ValueIs run f v × HasValue run f v
 
 -- The value of the future `x` is that of `f` or that of `g`. If one of these two is never ready, it is the other's. If
--- both have the same value, it is that one. If both have a value, it is one of the two.
+-- the values of both are known and equal, it is that value. If they are known and differ, it is one of the two.
 abbrev pub PickedValue : {F G X A : Type 0} → Runs (Poll A) F → F → Runs (Poll A) G → G → Runs (Poll A) X → X → Type 0
 PickedValue {A = A} run_first f run_second g run x =
     ((v : A) → NeverReady run_first f → HasValue run_second g v → HasValueAs run x v)

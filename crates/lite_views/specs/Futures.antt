@@ -1,5 +1,6 @@
 -- The runs of the futures that the facade names. A clause over them needs no bounds on the types of their states.
-use Rattle.std.specs.Prelude.{ℕ, Bool, List, Option, Result}
+use Rattle.std.specs.Prelude.{ℕ, Bool, List, [], ◌∷◌, Option, Result, IfSome, cond}
+use Rattle.lite_views.specs.Views.{ListsAs}
 use Rattle.lite_views.specs.Uses.{Mut, MutBor, Poll, Answer, Lent, Question, Runs, CallsBoth, Folds, fold_of, counts, finds, folds, lasts, nths, tries_fold}
 use Rattle.lite_views.specs.Uses.{Consume, Find, Last, Nth, TryFold, TryZip, TryZips}
 use Rattle.lite_consume.specs.declared.count.Count.{Count}
@@ -38,3 +39,12 @@ TryFoldRuns run g = Folds (Lent run) (fold_of (λ m. (m.f, m.acc)) (tries_fold (
 abbrev pub TryZipRuns : {F G A B E : Type 0} → Runs (Poll (Result A E)) F → Runs (Poll (Result B E)) G
     → Runs (Poll (Result (A × B) E)) (TryZip F A G B)
 TryZipRuns run_first run_second x l y = TryZips run_first run_second x.first x.second l y.first y.second
+
+-- The items behind the first one that passes the test; none if no item does.
+abbrev pub behind_match : {A : Type 0} → (A → Bool) → List A → List A
+behind_match test [] = []
+behind_match test (x ∷ xs) = cond (test x) xs (behind_match test xs)
+
+-- If a search returned `Some`, the items of `s` are `xs`. Nothing is said of `None`.
+abbrev pub RestIfFound : {S A B : Type 0} → Runs (Answer A) S → S → Option B → List A → Type 0
+RestIfFound run s found xs = IfSome found (λ x. ListsAs run s xs)

@@ -1,3 +1,4 @@
+pub mod Accepts
 pub mod Acting
 pub mod Answering
 pub mod Each
@@ -7,8 +8,10 @@ pub mod Iterators
 pub mod Laws
 pub mod Lists
 pub mod OkLists
+pub mod OneCall
 pub mod Trying
 pub mod Unfold
 pub mod Views
 pub mod Waiting
+pub mod YieldsOn
 pub mod Uses

@@ -16,12 +16,11 @@ OkFits f (Ready (Some (Ok x)) ∷ l) (y ∷ xs) = (f x ≡ y) × OkFits f l xs
 unfoldable pub OkLists : {S T E Y : Type 0} → Runs (Answer (Result T E)) S → S → (T → Y) → List Y → Type 0
 OkLists {S} {T} {E} run s f xs = (l : List (Answer (Result T E))) (t : S) → run s l t → OkFits f l xs
 
--- Always true. `grind` applies a fact about `s`, `f` and `xs` when it meets this, which is shorter than the fact.
+-- Always true. It marks `s`, `f` and `xs` for the search for proofs.
 unfoldable pub OkSeen : {S T Y : Type 0} → S → (T → Y) → List Y → Type 0
 OkSeen s f xs = ⊤
 
--- `f` of what the `Ok` items of `s` hold is `xs`, up to an error. It is `OkLists`, in a form that the prover finds by
--- `xs`.
+-- `f` of what the `Ok` items of `s` hold is `xs`, up to an error.
 abbrev pub OkListsAs : {S T E Y : Type 0} → Runs (Answer (Result T E)) S → S → (T → Y) → List Y → Type 0
 OkListsAs run s f xs = OkSeen s f xs × OkLists run s f xs
 

@@ -31,6 +31,8 @@ pub use Rattle.lite_base.specs.declared.future.half.Half.TheVariants.{Asked, Gav
 pub use Rattle.lite_base.specs.declared.future.or.Or.{Or}
 pub use Rattle.lite_base.specs.declared.future.race.Race.{Race}
 pub use Rattle.lite_base.specs.declared.future.try_zip.TryZip.{TryZip}
+pub use Rattle.lite_buffered.specs.Repeat.{RepeatsByte, byte_of}
+pub use Rattle.lite_buffered.specs.declared.repeat.Repeat.{Repeat as RepeatReader}
 pub use Rattle.lite_consume.specs.All.{alls}
 pub use Rattle.lite_consume.specs.Any.{anys}
 pub use Rattle.lite_consume.specs.Calls.{CallsBoth}
@@ -76,9 +78,10 @@ pub use Rattle.lite_io_base.specs.Known.{Known, Knows, TellsKnown}
 pub use Rattle.lite_io_base.specs.Laws.Known.{knows_spends, spends_bytes, spends_split}
 pub use Rattle.lite_io_base.specs.Laws.Stored.{stores_kept}
 pub use Rattle.lite_io_base.specs.Laws.Takings.{taken_both}
-pub use Rattle.lite_io_base.specs.Marks.{ReadMark, bytes}
-pub use Rattle.lite_io_base.specs.Stored.{Stored, Stores}
-pub use Rattle.lite_io_base.specs.Takings.{WriteMark, bytes_taken}
+pub use Rattle.lite_io_base.specs.Marks.{ReadMark, bytes, moved, read_marks}
+pub use Rattle.lite_io_base.specs.Runs.{MarkLaws}
+pub use Rattle.lite_io_base.specs.Stored.{Arrives, Stored, Stores}
+pub use Rattle.lite_io_base.specs.Takings.{WriteMark, bytes_taken, write_marks}
 pub use Rattle.lite_merge.specs.Budgeted.{Budgets, budget_parts}
 pub use Rattle.lite_merge.specs.Merge.{MergeRow, MergeRows, Merges}
 pub use Rattle.lite_merge.specs.Or.{Ors}
@@ -88,17 +91,21 @@ pub use Rattle.lite_merge.specs.declared.budgeted.Budgeted.{Budgeted}
 pub use Rattle.lite_merge.specs.declared.zip.Zip.{Zip}
 pub use Rattle.lite_read.specs.BytePieces.{behind, last_piece, pieces_from, through_first}
 pub use Rattle.lite_read.specs.Bytes.{TellsBytes, TellsEach}
-pub use Rattle.lite_read.specs.Filling.{Filling}
+pub use Rattle.lite_read.specs.Filling.{Filling, filling_of}
 pub use Rattle.lite_read.specs.Holding.{TextOver, TextStays}
 pub use Rattle.lite_read.specs.Laws.ReadExact.{filled_by}
 pub use Rattle.lite_read.specs.Pieces.{Cut, CutsPiece, Itemised, pieces}
-pub use Rattle.lite_read.specs.ReadExact.{Fulfils, fills}
+pub use Rattle.lite_read.specs.Polled.{PolledByCalls}
+pub use Rattle.lite_read.specs.Read.{Reads}
+pub use Rattle.lite_read.specs.ReadExact.{Fulfils, ReadsExactly, fills}
 pub use Rattle.lite_read.specs.ReadFold.{AnswerMarks, Gathers, ReadFold, ReadFolds}
 pub use Rattle.lite_read.specs.ReadToEnd.{Appended, appends}
 pub use Rattle.lite_read.specs.ReadUntil.{CountsPiece, until}
 pub use Rattle.lite_read.specs.Segments.{Flows, PieceSegments, StreamOver}
 pub use Rattle.lite_read.specs.Texts.{AppendsText, Reading, ReadsText, ValueOf, in_text, reading}
 pub use Rattle.lite_read.specs.declared.bytes.Bytes.{Bytes}
+pub use Rattle.lite_read.specs.declared.read.ReadFuture.{ReadFuture}
+pub use Rattle.lite_read.specs.declared.read_exact.ReadExactFuture.{ReadExactFuture}
 pub use Rattle.lite_reshape.specs.Chain.{Chains, Joins, is_done, second_after}
 pub use Rattle.lite_reshape.specs.Cloned.{Clones, IsCloneRefusal, Refers}
 pub use Rattle.lite_reshape.specs.Expanding.{Expanding, Expands}
@@ -149,12 +156,20 @@ pub use Rattle.lite_stream.specs.declared.enumerate.Enumerate.{Enumerate}
 pub use Rattle.lite_stream.specs.declared.fuse.Fuse.{Fuse}
 pub use Rattle.lite_stream.specs.declared.inspect.Inspect.{Inspect}
 pub use Rattle.lite_stream.specs.declared.take.Take.{Take}
+pub use Rattle.lite_write.specs.Close.{Closes}
 pub use Rattle.lite_write.specs.Copy.{CopyRuns, CopyValue, Moves}
+pub use Rattle.lite_write.specs.Flush.{Flushes}
 pub use Rattle.lite_write.specs.Hands.{Hands}
 pub use Rattle.lite_write.specs.MarkLists.{BytesAlone, bytes_told}
 pub use Rattle.lite_write.specs.Parts.{NothingCopied, held_of, met_in, source_of}
+pub use Rattle.lite_write.specs.Sink.{Sinks}
+pub use Rattle.lite_write.specs.Write.{Writes}
 pub use Rattle.lite_write.specs.WriteAll.{Ended, HandsMarks, HandsOver, WritesAll}
+pub use Rattle.lite_write.specs.declared.close.CloseFuture.{CloseFuture}
 pub use Rattle.lite_write.specs.declared.copy.CopyFuture.{CopyFuture}
+pub use Rattle.lite_write.specs.declared.flush.FlushFuture.{FlushFuture}
+pub use Rattle.lite_write.specs.declared.sink.Sink.{Sink}
+pub use Rattle.lite_write.specs.declared.write.WriteFuture.{WriteFuture}
 pub use Rattle.lite_write.specs.declared.write_all.WriteAllFuture.{WriteAllFuture}
 pub use Rattle.rand_core.specs.Stream.{Stream}
 pub use Rattle.std.proofs.Common.{add-one, ap, append-nil, append_assoc, arith, drop, inl, inr, length, length-append, replicate, subst, suc, sym, take}
@@ -163,8 +178,9 @@ pub use Rattle.std.proofs.Math.Bool.{not-not}
 pub use Rattle.std.proofs.Math.Dec.{leb-suc-suc, leb-zero}
 pub use Rattle.std.proofs.Math.Nat.{mod-add-mod, mod-eq_of_lt, zero-mod}
 pub use Rattle.std.proofs.Math.Seq.{drop-append_seam, drop-length, take-append_seam, take-length}
+pub use lib.Seq.{take-nil}
 pub use Rattle.std.proofs.lemmas.Bool.Decides.{eqb_tells}
-pub use Rattle.std.proofs.lemmas.List.{length-map, length-take, map-append, take_all}
+pub use Rattle.std.proofs.lemmas.List.{length-map, length-take, length-take-le, map-append, take-replicate, take_all}
 pub use Rattle.std.proofs.lemmas.List.Elements.{filter-append}
 pub use Rattle.std.proofs.lemmas.List.FromFn.{length-enumerate_from, length-range_with_len}
 pub use Rattle.std.specs.Array.Iter.{array_into_iter_items, array_steps}

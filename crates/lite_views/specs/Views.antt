@@ -1,4 +1,5 @@
--- The list of the items of a stream, and the value of a future.
+-- The list of the items of a stream, and the value of a future. Some definitions say `x ≡ x`, or one thing twice: the
+-- search for proofs goes by it.
 use Rattle.std.specs.Prelude.{◌≡◌, ⊤, List, [], ◌∷◌, Some, None, Result, IfOk}
 use Rattle.lite_views.specs.Uses.{AllocError, Poll, Ready, Pending, Answer, Finishes, Runs, items_in}
 use Rattle.lite_views.specs.Fronts.{Front}
@@ -36,32 +37,30 @@ Waited {F} {A} run f r = IfOk r (λ v. (ins : List (Poll A)) × Finishes run f i
 unfoldable pub HasValue : {F A : Type 0} → Runs (Poll A) F → F → A → Type 0
 HasValue {F} {A} run f v = (ins : List (Poll A)) (w : A) → Finishes run f ins w → w ≡ v
 
--- Always true. It marks `x` and `y`, so that the prover looks for facts about the two.
+-- Always true. It marks `x` and `y` for the search for proofs.
 unfoldable pub Seen : {X Y : Type 0} → X → Y → Type 0
 Seen x y = ⊤
 
--- If the future `f` was waited for, as `block_on` does, and the result is `Ok`, `P` holds of the value. `E` is the type
--- of the result's error.
+-- If the future `f` was waited for, as `block_on` does, and the wait returned `Ok`, `P` holds of the value. `E` is the
+-- type of the wait's error.
 abbrev pub ValueHolds : {F A : Type 0} (E : Type 0) → Runs (Poll A) F → F → (A → Type 0) → Type 0
 ValueHolds {F} {A} E run f P = (r : Result A E) → Waited run f r → Seen f r × IfOk r P
 
--- If the future `f` was waited for, as `block_on` does, and the result is `Ok`, the value is `v`. The definition names
--- `v` once more, because the prover searches by it.
+-- If the future `f` was waited for, as `block_on` does, and the wait returned `Ok`, the value is `v`.
 abbrev pub ValueIs : {F A : Type 0} → Runs (Poll A) F → F → A → Type 0
 ValueIs run f v = (v ≡ v) × ValueHolds AllocError run f (λ w. w ≡ v)
 
--- The items of `s` are `xs`: every run from `s` yields a prefix of `xs`, and all of `xs` before the end of the stream.
--- The definition names `xs` once more, because the prover searches by it.
+-- The items of `s` are `xs`, as `Lists` says it: every run from `s` yields a prefix of `xs`, and all of `xs` before the
+-- end of the stream.
 abbrev pub ListsAs : {S A : Type 0} → Runs (Answer A) S → S → List A → Type 0
 ListsAs {S} {A} run s xs = (xs ≡ xs) × Seen s xs × Lists run s xs
 
--- If the items of `s` are `xs`, `P` holds of `xs`. The definition says it twice, because the prover searches by the
--- list or by the stream.
+-- If the items of `s` are a list (`Lists`), `P` holds of that list.
 abbrev pub OfItems : {S A : Type 0} → Runs (Answer A) S → S → (List A → Type 0) → Type 0
 OfItems {A = A} run s P =
     ((xs : List A) → Lists run s xs → P xs) × ((xs : List A) → Lists run s xs → Seen s xs × P xs)
 
--- The same as `C`. The prover tries it where it meets `t`, and then looks for what is known of `s` and `x`.
+-- The same as its last argument, `C`. The others, `t`, `s` and `x`, serve the search for proofs alone.
 abbrev pub FoundBy : {T S X : Type 0} → T → S → X → Type 0 → Type 0
 FoundBy t s x C = (t ≡ t) × Seen s x × C
 
@@ -70,8 +69,7 @@ abbrev pub RestIs : {S A : Type 0} → Runs (Answer A) S → S → List A → Ty
 RestIs run s [] = ⊤
 RestIs run s (x ∷ xs) = ListsAs run s xs
 
--- If `P` holds of a list, that is the list of the items of `s`. It is said by cases, so that the prover finds it by the
--- list.
+-- If `P` holds of a list, that is the list of the items of `s`.
 abbrev pub ListsIf : {S A : Type 0} → Runs (Answer A) S → S → (List A → Type 0) → Type 0
 ListsIf {A = A} run s P = ((x : A) (xs : List A) → P (x ∷ xs) → ListsAs run s (x ∷ xs)) × (P [] → ListsAs run s [])
 
@@ -79,7 +77,6 @@ ListsIf {A = A} run s P = ((x : A) (xs : List A) → P (x ∷ xs) → ListsAs ru
 unfoldable pub Fronts : {S A : Type 0} → Runs (Answer A) S → S → List A → Type 0
 Fronts {S} {A} run s xs = (l : List (Answer A)) (t : S) → run s l t → Front (items_in l) xs
 
--- Every run from `s` yields a prefix of `xs`, also with items that come after an end of the stream. The definition
--- names `xs` once more, because the prover searches by it.
+-- Every run from `s` yields a prefix of `xs`, also with items that come after an end of the stream.
 abbrev pub FrontsAs : {S A : Type 0} → Runs (Answer A) S → S → List A → Type 0
 FrontsAs {S} {A} run s xs = (xs ≡ xs) × Fronts run s xs

@@ -1,11 +1,14 @@
 //! The examples of `futures_lite::io` that have clauses.
-ghost use Rattle.std.specs.Prelude.{◌≡◌, ◌+◌, ◌++◌, IfOk, Ok, length, map, string_bytes, take};
+ghost use Rattle.std.specs.Prelude.{◌≡◌, ◌≤◌, ◌+◌, ◌++◌, IfOk, IsOk, Ok, length, map, replicate, string_bytes, take};
 ghost use Rattle.std.specs.List.{slice_get};
 ghost use Rattle.futures_lite.specs.Lines.{byte_lines, byte_pieces, through_first};
+ghost use Rattle.futures_lite.specs.Writers.BufWriter.{writer_inner};
 
-use futures_lite::io::{AssertAsync, BlockOn, BufReader, BufWriter, Cursor, empty};
+use futures_lite::io::{
+    AssertAsync, AsyncAsSync, AsyncRead, BlockOn, BufReader, BufWriter, Cursor, empty,
+};
 use futures_lite::{
-    AsyncBufReadExt, AsyncReadExt, AsyncWriteExt, StreamExt, future, io as bytes_io,
+    AsyncBufReadExt, AsyncReadExt, AsyncWriteExt, Context, Poll, StreamExt, future, io as bytes_io,
 };
 use std::alloc::{AllocError, AllocGlobal};
 use std::io;
@@ -37,6 +40,25 @@ pub fn assert_async_new_left(bytes: &[u8]) -> usize
     ensures { result ≡ length bytes.now }
 {
     AssertAsync::new(bytes).get_ref().len()
+}
+
+pub fn async_as_sync_close_closed(cx: &mut Context<'_>, out: &mut Vec<u8>) -> io::Result<()>
+    ensures { out.new.items ≡ out.old.items }
+{
+    AsyncAsSync::new(cx, out).close()
+}
+
+pub fn async_as_sync_new_length(cx: &mut Context<'_>, bytes: &[u8]) -> usize
+    ensures { result ≡ length bytes.now }
+{
+    AsyncAsSync::new(cx, bytes).borrow().len()
+}
+
+pub fn async_as_sync_poll_with_left(cx: &mut Context<'_>, bytes: &[u8]) -> io::Result<usize>
+    ensures { result ≡ Ok (length bytes.now) }
+{
+    let mut reader = AsyncAsSync::new(cx, bytes);
+    reader.poll_with(|io: &mut &[u8], _cx: &mut Context<'_>| Poll::Ready(Ok(io.len())))
 }
 
 pub fn async_buf_read_ext_lines_all_lines<R>(rt: &R, text: &[u8]) -> Result<Vec<String>, AllocError>
@@ -114,6 +136,22 @@ where
     future::wait_for(rt, &mut reader.read_to_end(out))
 }
 
+pub fn async_read_ext_read_some<R>(
+    rt: &R,
+    bytes: &[u8],
+) -> Result<io::Result<(usize, [u8; 8])>, AllocError>
+where
+    R: Wait + RandomSource + AllocGlobal,
+    ensures { IfOk result (λ r. IfOk r (λ v. (v.0 ≤ 8) × (take v.0 v.1 ≡ take v.0 bytes.now))) }
+{
+    let mut reader = bytes;
+    let mut buf = [b'-'; 8];
+    match future::wait_for(rt, &mut reader.read(&mut buf))? {
+        Ok(n) => Ok(Ok((n, buf))),
+        Err(e) => Ok(Err(e)),
+    }
+}
+
 pub fn async_read_ext_read_exact_front<R>(
     rt: &R,
     bytes: &[u8],
@@ -163,10 +201,52 @@ pub fn async_read_ext_take_front<R>(
 ) -> Result<io::Result<usize>, AllocError>
 where
     R: Wait + RandomSource + AllocGlobal,
-    ensures { IfOk result (λ r. IfOk r (λ n. out.new.items ≡ out.old.items ++ take 3 bytes.now)) }
+    ensures { IfOk result (λ r. IfOk r (λ n. (out.new.items ≡ out.old.items ++ take 3 bytes.now)
+        × (n ≡ length (take 3 bytes.now)))) }
 {
     let mut reader = AsyncReadExt::take(bytes, 3);
     future::wait_for(rt, &mut reader.read_to_end(out))
+}
+
+pub fn async_write_ext_close_closed<R>(
+    rt: &R,
+    writer: &mut BufWriter<Vec<u8>>,
+) -> Result<io::Result<()>, AllocError>
+where
+    R: Wait + RandomSource + AllocGlobal,
+    ensures { IfOk result (λ r. IfOk r (λ _. (writer_inner writer.new).items
+        ≡ (writer_inner writer.old).items ++ unwritten writer.old)) }
+{
+    future::wait_for(rt, &mut writer.close())
+}
+
+pub fn async_write_ext_flush_arrived<R>(
+    rt: &R,
+    bytes: &[u8],
+    writer: &mut BufWriter<Vec<u8>>,
+) -> Result<io::Result<()>, AllocError>
+where
+    R: Wait + RandomSource + AllocGlobal,
+    ensures { IfOk result (λ r. IfOk r (λ _. (writer_inner writer.new).items
+        ≡ ((writer_inner writer.old).items ++ unwritten writer.old) ++ bytes.now)) }
+{
+    match future::wait_for(rt, &mut writer.write_all(bytes))? {
+        Ok(()) => future::wait_for(rt, &mut writer.flush()),
+        Err(e) => Ok(Err(e)),
+    }
+}
+
+pub fn async_write_ext_write_appended<R>(
+    rt: &R,
+    bytes: &[u8],
+    out: &mut Vec<u8>,
+) -> Result<io::Result<usize>, AllocError>
+where
+    R: Wait + RandomSource + AllocGlobal,
+    ensures { IfOk result (λ r. IfOk r
+        (λ n. (n ≤ length bytes.now) × (out.new.items ≡ out.old.items ++ take n bytes.now))) }
+{
+    future::wait_for(rt, &mut out.write(bytes))
 }
 
 pub fn async_write_ext_write_all_appended<R>(
@@ -275,6 +355,27 @@ where
     Ok(reader.get_ref().len())
 }
 
+pub fn buf_writer_type_through<R>(
+    rt: &R,
+    bytes: &[u8],
+    out: Vec<u8>,
+) -> Result<io::Result<Vec<u8>>, AllocError>
+where
+    R: Wait + RandomSource + AllocGlobal,
+    ensures { IfOk result (λ r. IfOk r (λ v. v.items ≡ out.items ++ bytes.now)) }
+{
+    let Ok(mut writer) = BufWriter::new(rt.alloc(), out) else {
+        return Err(AllocError);
+    };
+    if let Err(e) = future::wait_for(rt, &mut writer.write_all(bytes))? {
+        return Ok(Err(e));
+    }
+    if let Err(e) = future::wait_for(rt, &mut writer.flush())? {
+        return Ok(Err(e));
+    }
+    Ok(Ok(writer.into_inner()))
+}
+
 pub fn buf_writer_buffer_buffered<R>(rt: &R, inner: Vec<u8>) -> Result<usize, AllocError>
 where
     R: AllocGlobal,
@@ -309,15 +410,25 @@ where
     Ok(writer.get_ref().len())
 }
 
-pub fn buf_writer_into_inner_kept<R>(rt: &R, inner: Vec<u8>) -> Result<Vec<u8>, AllocError>
+pub fn buf_writer_into_inner_flushed<R>(
+    rt: &R,
+    bytes: &[u8],
+    inner: Vec<u8>,
+) -> Result<io::Result<Vec<u8>>, AllocError>
 where
-    R: AllocGlobal,
-    ensures { IfOk result (λ v. v ≡ inner) }
+    R: Wait + RandomSource + AllocGlobal,
+    ensures { IfOk result (λ r. IfOk r (λ v. v.items ≡ inner.items ++ bytes.now)) }
 {
-    let Ok(writer) = BufWriter::new(rt.alloc(), inner) else {
+    let Ok(mut writer) = BufWriter::new(rt.alloc(), inner) else {
         return Err(AllocError);
     };
-    Ok(writer.into_inner())
+    if let Err(e) = future::wait_for(rt, &mut writer.write_all(bytes))? {
+        return Ok(Err(e));
+    }
+    if let Err(e) = future::wait_for(rt, &mut writer.flush())? {
+        return Ok(Err(e));
+    }
+    Ok(Ok(writer.into_inner()))
 }
 
 pub fn buf_writer_new_kept<R>(rt: &R, inner: Vec<u8>) -> Result<usize, AllocError>
@@ -340,6 +451,14 @@ where
         return Err(AllocError);
     };
     Ok(writer.get_ref().len())
+}
+
+pub fn chain_get_mut_lengths(first: &[u8], second: &[u8]) -> (usize, usize)
+    ensures { result ≡ (length first.now, length second.now) }
+{
+    let mut reader = AsyncReadExt::chain(first, second);
+    let (first, second) = reader.get_mut();
+    (first.len(), second.len())
 }
 
 pub fn chain_get_ref_left(first: &[u8], second: &[u8]) -> (usize, usize)
@@ -420,6 +539,27 @@ where
     ensures { IfOk result (λ r. IfOk r (λ n. out.new.items ≡ out.old.items)) }
 {
     future::wait_for(rt, &mut empty().read_to_end(out))
+}
+
+pub fn repeat_three<R>(rt: &R, byte: u8) -> Result<io::Result<[u8; 3]>, AllocError>
+where
+    R: Wait + RandomSource + AllocGlobal,
+    ensures { IfOk result (λ r. IfOk r (λ v. v ≡ replicate 3 byte)) }
+{
+    let mut reader = bytes_io::repeat(byte);
+    let mut buf = [0; 3];
+    match future::wait_for(rt, &mut reader.read_exact(&mut buf))? {
+        Ok(()) => Ok(Ok(buf)),
+        Err(e) => Ok(Err(e)),
+    }
+}
+
+pub fn sink_thrown_away<R>(rt: &R, bytes: &[u8]) -> Result<io::Result<()>, AllocError>
+where
+    R: Wait + RandomSource + AllocGlobal,
+    ensures { IfOk result IsOk }
+{
+    future::wait_for(rt, &mut bytes_io::sink().write_all(bytes))
 }
 
 pub fn take_get_mut_replaced(bytes: &[u8]) -> usize

@@ -4,13 +4,35 @@ ghost use Rattle.std.specs.List.{filter, filter_map, find, fold, list_all, list_
 ghost use Rattle.futures_lite.specs.Lists.{map_while, scan};
 ghost use Rattle.futures_lite.specs.Uses.{first_error, try_fold};
 
-use futures_lite::{StreamExt, future, stream};
+use futures_lite::{Stream, StreamExt, future, stream};
 use rand_core::SeedableRng;
 use rand_pcg::Pcg32;
 use std::alloc::{AllocError, AllocGlobal};
 use std::collections::BTreeSet;
 use std::random::RandomSource;
 use std::sync::Wait;
+
+pub fn drain_get_mut_replaced<S: Stream + Drop>(s: S, other: S) -> S
+    ensures { result ≡ other }
+{
+    let mut s = s;
+    *s.drain().get_mut() = other;
+    s
+}
+
+pub fn drain_get_ref_hint<S: Stream>(s: &mut S) -> (usize, Option<usize>)
+    ensures { S.hints s.old result }
+{
+    s.drain().get_ref().size_hint()
+}
+
+pub fn drain_into_inner_replaced<S: Stream + Drop>(s: S, other: S) -> S
+    ensures { result ≡ other }
+{
+    let mut s = s;
+    *s.drain().into_inner() = other;
+    s
+}
 
 pub fn empty_nothing<R>(rt: &R) -> Result<Option<u8>, AllocError>
 where
@@ -112,13 +134,22 @@ where
     future::block_on(rt, merged.next())
 }
 
-pub fn pending_never<R>(rt: &R) -> Result<Option<Option<u8>>, AllocError>
+pub fn pending_at_first<R>(rt: &R) -> Result<Option<Option<u8>>, AllocError>
 where
     R: Wait + RandomSource + AllocGlobal,
     ensures { IfOk result (λ v. v ≡ None) }
 {
     let mut never = stream::pending::<u8>();
     future::block_on(rt, future::poll_once(never.next()))
+}
+
+pub fn pending_waits<R>(rt: &R) -> Result<Option<u8>, AllocError>
+where
+    R: Wait + RandomSource + AllocGlobal,
+    ensures { IfOk result (λ _. ⊥) }
+{
+    let mut never = stream::pending::<u8>();
+    future::block_on(rt, never.next())
 }
 
 pub fn race_first<R>(rt: &R) -> Result<Option<u8>, AllocError>

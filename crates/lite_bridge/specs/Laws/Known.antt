@@ -1,7 +1,7 @@
 -- The bytes known to come from a cursor, which are those from its position on. And those that a cursor at their end
 -- keeps as a writer.
 use Rattle.std.specs.Prelude.{◌≡◌, ℕ, ◌+◌, ◌-◌, List, [], ◌∷◌, ◌++◌, length, ⊤}
-use Rattle.lite_bridge.specs.Uses.{drop_all, take_all, ◌∙◌, ap, sym, arith, append-nil, length-append, Known, told_spends, Stored, WriteMark, bytes_taken}
+use Rattle.lite_bridge.specs.Uses.{drop_all, take_all, ◌∙◌, ap, refl, sym, arith, append-nil, length-append, Known, told_spends, Stored, WriteMark, bytes_taken}
 use Rattle.lite_bridge.specs.Cursor.{CursorReads, CursorWrites, bytes_left}
 use Rattle.lite_bridge.specs.Laws.Cursor.{cursor_told}
 use Rattle.lite_bridge.specs.Laws.SteadyWrite.{puts_all}
@@ -51,5 +51,7 @@ module _ {T : Type 0} (bytes : T → List ℕ) (puts : T → ℕ → List ℕ �
     told = CursorWrites puts refuses;
     stores = λ x. PutsBytes × CursorAtEnd x;
     kept = λ x. bytes x.inner;
+    arrived = λ x. bytes x.inner;
+    arrives = λ x y l m k h a. refl;
     tells = λ x y l know h. let k = overwrites_kept x y l know.0 know.1 h in ((know.0, k.0), k.1);
   }

@@ -1,8 +1,9 @@
 -- Laws of `BufWriter`.
 use Rattle.std.specs.Prelude.{◌≡◌, ℕ, List, [], ◌∷◌, ◌++◌}
-use Rattle.lite_buffered.specs.Uses.{◌∙◌, inl, inr, refl, sym, ap, append_assoc, append-nil, taken_both, MarkLaws, WriteMark, bytes_in, bytes_taken}
+use Rattle.lite_buffered.specs.Uses.{◌∙◌, inl, inr, refl, sym, ap, append_assoc, append-nil, taken_both, Arrives, MarkLaws, Stored, WriteMark, bytes_in, bytes_taken}
 use Rattle.lite_buffered.specs.Uses.{segments_join, Runs}
-use Rattle.lite_buffered.specs.BufWriter.{Balanced, Buffers, TakesHeld, WriterAnswers, WriterSegment}
+use Rattle.lite_buffered.specs.BufWriter.{Balanced, Buffers, TakesHeld, WriterAnswers, WriterSegment, WriterSegments, unwritten}
+use Rattle.lite_buffered.specs.declared.buf_writer.BufWriter.{BufWriter}
 
 -- The bytes held before are those that the inner writer took, followed by those left.
 pub drains_balance : (before rest : List ℕ) (taken : List WriteMark) (n : ℕ) → TakesHeld before taken rest n
@@ -69,3 +70,44 @@ module _ {W : Type 0} {writes : Runs WriteMark W} (laws : MarkLaws writes) where
       balanced = balanced_both _ _ _ a.taken b.taken l m a.balanced b.balanced;
     };
   }
+
+-- The inner writer's last mark is this one.
+abbrev pub EndsIn : WriteMark → List WriteMark → Type 0
+EndsIn m l = (before : List WriteMark) × (l ≡ before ++ m ∷ [])
+
+answers_done : (n : ℕ) (left after : List ℕ) (last : List WriteMark) (m : WriteMark) → Arrives m
+    → WriterAnswers n left last m after
+    → (last ≡ m ∷ []) × (after ≡ [])
+answers_done n left after last WriteMark.flushed a h = (h.0, h.2)
+answers_done n left after last WriteMark.closed a h = (h.0, h.2)
+answers_done n left after last _ a h = absurd a
+
+-- If a flush or a close comes last, it is the inner writer's last mark, too, and no byte is held.
+pub segments_done : (before after : List ℕ) (taken out : List WriteMark) (m : WriteMark) → Arrives m
+    → WriterSegments before taken (out ++ m ∷ []) after
+    → EndsIn m taken × (after ≡ [])
+segments_done before after taken [] m a h =
+    let s = h.4 in
+    let done = answers_done s.interruptions s.left h.2 s.last m a s.answers in
+    ((s.drained, rw (h.3, h.5.0, append-nil, s.cut, done.0)), h.5.1 ∙ done.1)
+segments_done before after taken (told ∷ out) m a h =
+    let rest = segments_done h.2 after h.1 out m a h.5 in
+    let whole = h.3 ∙ ap (λ l. h.0 ++ l) rest.0.1 ∙ sym (append_assoc h.0 rest.0.0 (m ∷ [])) in
+    ((h.0 ++ rest.0.0, whole), rest.1)
+
+-- What is known of a `BufWriter`: it keeps what its inner writer keeps, followed by the bytes held. What has arrived is
+-- what has arrived there.
+abbrev pub buffers_stored : {W : Type 0} → Stored W → Stored (BufWriter W)
+buffers_stored s = record {
+  told = Buffers s.told;
+  stores = λ x. s.stores x.inner;
+  kept = λ x. s.kept x.inner ++ unwritten x;
+  arrived = λ x. s.arrived x.inner;
+  arrives = λ x y l m know b a.
+      let done = segments_done (unwritten x) (unwritten y) b.taken l m a b.segments in
+      let all = s.arrives x.inner y.inner done.0.0 m know (rw (← done.0.1) b.ran) a in
+      all ∙ sym (rw (done.1, append-nil) refl);
+  tells = λ x y l know b.
+      let inner = s.tells x.inner y.inner b.taken know b.ran in
+      (inner.0, rw (inner.1, append_assoc, ← b.balanced, append_assoc));
+}

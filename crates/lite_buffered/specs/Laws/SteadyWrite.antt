@@ -3,6 +3,7 @@ use Rattle.std.specs.Prelude.{◌≡◌, ℕ, List, [], ◌∷◌, ◌++◌}
 use Rattle.lite_buffered.specs.Uses.{◌∙◌, inl, inr, refl, sym, ap, subst, append_assoc, append-nil, never_waits_parts, CalmWriteLaws, EndsFlushed, NoError}
 use Rattle.lite_buffered.specs.Uses.{NoPendingWrite, SteadyWriteLaws, WriteMark, bytes_taken, Runs}
 use Rattle.lite_buffered.specs.declared.buf_writer.BufWriter.{BufWriter}
+use Rattle.lite_buffered.specs.Laws.BufWriter.{segments_done}
 use Rattle.lite_buffered.specs.BufWriter.{Buffers, TakesHeld, WriterAnswers, WriterSegment, WriterSegments, unwritten}
 
 no_error_both : (l m : List WriteMark) → NoError l → NoError m → NoError (l ++ m)
@@ -47,17 +48,6 @@ segments_no_error before after taken (told ∷ out) none h =
     rw h.3 (no_error_both h.0 h.1 (segment_no_error before h.2 h.0 told each.0 h.4)
     (segments_no_error h.2 after h.1 out each.1 h.5))
 
--- If a flush comes last, the inner writer's last mark is a flush, and no byte is held.
-pub segments_flushed : (before after : List ℕ) (taken out : List WriteMark)
-    → WriterSegments before taken (out ++ WriteMark.flushed ∷ []) after → EndsFlushed taken × (after ≡ [])
-segments_flushed before after taken [] h =
-    let s = h.4 in
-    ((s.drained, rw (h.3, h.5.0, append-nil, s.cut, s.answers.0)), h.5.1 ∙ s.answers.2)
-segments_flushed before after taken (told ∷ out) h =
-    let rest = segments_flushed h.2 after h.1 out h.5 in
-    let whole = h.3 ∙ ap (λ l. h.0 ++ l) rest.0.1 ∙ sym (append_assoc h.0 rest.0.0 (WriteMark.flushed ∷ [])) in
-    ((h.0 ++ rest.0.0, whole), rest.1)
-
 told_no_pending : (n : ℕ) (left after : List ℕ) (last out : List WriteMark) (told : WriteMark) → NoPendingWrite last
     → NoPendingWrite out → WriterAnswers n left last told after → NoPendingWrite (told ∷ out)
 told_no_pending n left after last out WriteMark.pending a b h = absurd (subst NoPendingWrite h.0 a)
@@ -86,7 +76,7 @@ module _ {W : Type 0} (writes : Runs WriteMark W) where
 
   flushed : (x y : BufWriter W) (l : List WriteMark) → NoError l → EndsFlushed l → Buffers writes x l y → Flushed x l y
   flushed x y l none ends b =
-      let last = segments_flushed (unwritten x) (unwritten y) b.taken ends.0
+      let last = segments_done (unwritten x) (unwritten y) b.taken ends.0 WriteMark.flushed tt
       (rw (← ends.1) b.segments) in
       record {
         taken = b.taken;

@@ -7,6 +7,7 @@ use Rattle.lite_write.specs.declared.sink.Sink.{Sink}
 module _ (x y z : Sink) where
   follows : (l m : List WriteMark) → Sinks x l y → Sinks y m z → Sinks x (l ++ m) z
   follows [] m h k = rw (← h) k
+  follows (WriteMark.wrote [] ∷ l) m h k = absurd h
   follows (WriteMark.pending ∷ l) m h k = absurd h
   follows (WriteMark.fault kind ∷ l) m h k = absurd h
   follows (_ ∷ l) m h k = follows l m h k
@@ -17,6 +18,7 @@ sinks_laws = record { rests = λ x. refl; follows = follows }
 module _ (x y : Sink) where
   no_pending : (l : List WriteMark) → Sinks x l y → NoPendingWrite l
   no_pending [] h = tt
+  no_pending (WriteMark.wrote [] ∷ l) h = absurd h
   no_pending (WriteMark.pending ∷ l) h = absurd h
   no_pending (WriteMark.fault kind ∷ l) h = absurd h
   no_pending (_ ∷ l) h = no_pending l h

@@ -1,0 +1,5 @@
+use Rattle.futures_lite.specs.Uses.{read_left}
+use Rattle.futures_lite.proofs.io.AsyncReadExt.read.Goals as goal
+
+pub returns-clause-once : goal.returns-clause-once
+returns-clause-once g c known = rw c.read.ensures (read_left g.Self.Tale.read_laws g.Self.Tale.known _ known)

@@ -1,0 +1,5 @@
+use Rattle.futures_lite.specs.Uses.{wrote_left}
+use Rattle.futures_lite.proofs.io.AsyncWriteExt.write.Goals as goal
+
+pub returns-clause-once : goal.returns-clause-once
+returns-clause-once g c known = rw c.write.ensures (wrote_left g.Self.Takings.write_laws g.Self.Takings.stored _ known)
