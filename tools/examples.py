@@ -38,7 +38,8 @@ STD = {"alloc": ("AllocError", "AllocGlobal"), "random": ("RandomSource",), "syn
 # A function of a block that stands at its margin, with its comment.
 FUNCTION = re.compile(r"^(?:///.*\n)*fn \w+.*?^\}\n?", re.M | re.S)
 USE = re.compile(r"^use .*?;\n", re.M | re.S)
-CLAUSES = re.compile(r"(?:requires|ensures)\b[^{]*(\{.*)")
+# A clause, which may go over several lines: another clause or the body follows.
+CLAUSES = re.compile(r"(?:requires|ensures)\b[^{\n]*(\{.*?\})\n(?=\s*(?:requires\b|ensures\b|\{\n))", re.S)
 
 
 def name_of(item, number):

@@ -2,7 +2,7 @@
 ghost use Rattle.std.specs.Prelude.{◌≡◌, ◌≤◌, ◌+◌, ◌++◌, IfOk, IsOk, Ok, length, map, replicate, string_bytes, take};
 ghost use Rattle.std.specs.List.{slice_get};
 ghost use Rattle.futures_lite.specs.Lines.{byte_lines, byte_pieces, through_first};
-ghost use Rattle.futures_lite.specs.Writers.BufWriter.{writer_inner};
+ghost use Rattle.futures_lite.specs.Writers.BufWriter.{unwritten, writer_inner};
 
 use futures_lite::io::{
     AssertAsync, AsyncAsSync, AsyncRead, BlockOn, BufReader, BufWriter, Cursor, empty,
