@@ -1,7 +1,7 @@
 -- `read`, `write`, `flush` and `close`, which are polled by calls: what the whole wait did to the reader or the writer.
 use Rattle.std.specs.Prelude.{◌≡◌, ◌≤◌, ◌⊎◌, ℕ, zero, suc, List, [], ◌∷◌, ◌++◌, refl, drop, length, take, Result, Ok, Err, IfOk, ⊤}
-use Rattle.lite_views.specs.Uses.{Arrives, CloseFuture, Closes, Error, FlushFuture, Flushes, Gives, Known, Knows, MarkLaws, Poll, PolledByCalls, ReadFuture}
-use Rattle.lite_views.specs.Uses.{ReadMark, Reads, Ready, Pending, Runs, Stored, Stores, TellsKnown, WriteFuture, WriteMark, Writes, bytes_taken, replicate}
+use Rattle.lite_views.specs.Uses.{Arrives, CloseFuture, Closes, Error, FlushFuture, Flushes, Gives, Known, Knows, MarkLaws, MutBor, Poll, PolledByCalls, ReadFuture}
+use Rattle.lite_views.specs.Uses.{ReadMark, Reads, Ready, Pending, Runs, Stored, Stores, TellsKnown, WriteFuture, WriteMark, Writes, bytes_taken, done_marks, replicate}
 use Rattle.lite_views.specs.Uses.{knows_spends, moved, read_marks, spends_bytes, stores_kept, taken_both, write_marks, ap, append-nil, arith, inl, inr, sym, ◌∙◌}
 use Rattle.lite_views.specs.Uses.{drop-append_seam, length-take-le, take-append_seam, take-nil}
 use Rattle.lite_views.specs.OneCall.{ArrivesAll, ReadsFront, WritesFront}
@@ -109,75 +109,59 @@ module _ {W : Type 0} where
           (λ x. (refl, refl)) same_write x y ins ran).0)
           (λ ins y v gives ran. write_kept x y ins v gives stores ran)
 
--- `flush`
-module _ {W : Type 0} where
-  abbrev SameFlush : FlushFuture W → FlushFuture W → Type 0
-  SameFlush x y = y.writer.ghost_name ≡ x.writer.ghost_name
+-- A future that flushes or closes a writer, `done`: all that the writer keeps has arrived.
+module _ {W F : Type 0} {writes : Runs WriteMark W} (laws : MarkLaws writes) (stored : Stored W)
+    (call : F → Poll (Result (Unit {0}) Error) → F → Type 0) (writer : F → MutBor W) (done : WriteMark) (is_done : Arrives done)
+    (came : (x y : F) (c : Poll (Result (Unit {0}) Error)) → call x c y
+    → writes (writer x).now (done_marks done c) (writer y).now)
+    (stays : (x y : F) (c : Poll (Result (Unit {0}) Error)) → call x c y
+    → (writer y).ghost_name ≡ (writer x).ghost_name) where
+  abbrev SameWriter : F → F → Type 0
+  SameWriter x y = (writer y).ghost_name ≡ (writer x).ghost_name
 
-  module _ {writes : Runs WriteMark W} where
-    same_flush : (x y z : FlushFuture W) (c : Poll (Result (Unit {0}) Error)) → Flushes writes x c y → SameFlush y z
-        → SameFlush x z
-    same_flush x y z c h k = k ∙ ap (λ f. f.writer.ghost_name) h.stays
+  abbrev AllArrives : F → F → Result (Unit {0}) Error → Type 0
+  AllArrives x y r =
+      IfOk r
+      (λ u. ArrivesAll (stored.kept (writer x).now) (stored.kept (writer y).now) (stored.arrived (writer y).now))
 
-    module _ (laws : MarkLaws writes) (stored : Stored W) where
-      flush_kept : (x y : FlushFuture W) (l : List (Poll (Result (Unit {0}) Error))) (v : Result (Unit {0}) Error)
-          → Gives l v → Stores writes stored x.writer.now → PolledByCalls (Flushes writes) x l y
-          → IfOk v (λ u. ArrivesAll (stored.kept x.writer.now) (stored.kept y.writer.now) (stored.arrived y.writer.now))
-      flush_kept x y l (Err e) g stores ran = tt
-      flush_kept x y l (Ok u) g stores ran =
-          let c =
-          last_call (Flushes writes) (λ f. f.writer.now) laws WriteMark.pending SameFlush (λ x y h. h.came) (λ x. refl)
-          same_flush x y l (Ok u) g ran in
-          done_kept laws stored x.writer.now y.writer.now c.waits WriteMark.flushed tt stores
-          (laws.follows x.writer.now c.before.writer.now y.writer.now (replicate c.waits WriteMark.pending)
-          (WriteMark.flushed ∷ []) c.came c.last.came)
+  same_writer : (x y z : F) (c : Poll (Result (Unit {0}) Error)) → call x c y → SameWriter y z → SameWriter x z
+  same_writer x y z c h k = k ∙ stays x y c h
 
-      pub flushed_left : {E : Type 0} (x : FlushFuture W) → Stores writes stored x.writer.now
-          → WhenLeft E (PolledByCalls (Flushes writes)) x (λ y. y.writer.ghost_name ≡ x.writer.ghost_name)
-          (λ y r. IfOk r
-          (λ u. ArrivesAll (stored.kept x.writer.now) (stored.kept y.writer.now) (stored.arrived y.writer.now)))
-      flushed_left x stores =
-          when_left (PolledByCalls (Flushes writes)) x (λ y. y.writer.ghost_name ≡ x.writer.ghost_name)
-          (λ y r. IfOk r
-          (λ u. ArrivesAll (stored.kept x.writer.now) (stored.kept y.writer.now) (stored.arrived y.writer.now))) refl
-          (λ ins y ran. calls_stay (Flushes writes) (λ f. f.writer.now) laws WriteMark.pending SameFlush (λ x y h. h.came)
-          (λ x. refl) same_flush x y ins ran)
-          (λ ins y v gives ran. flush_kept x y ins v gives stores ran)
+  all_arrives : (x y : F) (l : List (Poll (Result (Unit {0}) Error))) (v : Result (Unit {0}) Error) → Gives l v
+      → Stores writes stored (writer x).now → PolledByCalls call x l y → AllArrives x y v
+  all_arrives x y l (Err e) g stores ran = tt
+  all_arrives x y l (Ok u) g stores ran =
+      let c =
+      last_call call (λ f. (writer f).now) laws WriteMark.pending SameWriter (λ x y h. came x y Pending h) (λ x. refl)
+      same_writer x y l (Ok u) g ran in
+      done_kept laws stored (writer x).now (writer y).now c.waits done is_done stores
+      (laws.follows (writer x).now (writer c.before).now (writer y).now (replicate c.waits WriteMark.pending) (done ∷ [])
+      c.came (came c.before y (Ready (Ok u)) c.last))
 
--- `close`
-module _ {W : Type 0} where
-  abbrev SameClose : CloseFuture W → CloseFuture W → Type 0
-  SameClose x y = y.writer.ghost_name ≡ x.writer.ghost_name
+  arrived_left : {E : Type 0} (x : F) → Stores writes stored (writer x).now
+      → WhenLeft E (PolledByCalls call) x (SameWriter x) (AllArrives x)
+  arrived_left x stores =
+      when_left (PolledByCalls call) x (SameWriter x) (AllArrives x) refl
+      (λ ins y ran. calls_stay call (λ f. (writer f).now) laws WriteMark.pending SameWriter (λ x y h. came x y Pending h)
+      (λ x. refl) same_writer x y ins ran)
+      (λ ins y v gives ran. all_arrives x y ins v gives stores ran)
 
-  module _ {writes : Runs WriteMark W} where
-    same_close : (x y z : CloseFuture W) (c : Poll (Result (Unit {0}) Error)) → Closes writes x c y → SameClose y z
-        → SameClose x z
-    same_close x y z c h k = k ∙ ap (λ f. f.writer.ghost_name) h.stays
+module _ {W E : Type 0} {writes : Runs WriteMark W} (laws : MarkLaws writes) (stored : Stored W) where
+  pub flushed_left : (x : FlushFuture W) → Stores writes stored x.writer.now
+      → WhenLeft E (PolledByCalls (Flushes writes)) x (λ y. y.writer.ghost_name ≡ x.writer.ghost_name)
+      (λ y r. IfOk r
+      (λ u. ArrivesAll (stored.kept x.writer.now) (stored.kept y.writer.now) (stored.arrived y.writer.now)))
+  flushed_left x stores =
+      arrived_left laws stored (Flushes writes) (λ f. f.writer) WriteMark.flushed tt (λ x y c h. h.came)
+      (λ x y c h. ap (λ f. f.writer.ghost_name) h.stays) x stores
 
-    module _ (laws : MarkLaws writes) (stored : Stored W) where
-      close_kept : (x y : CloseFuture W) (l : List (Poll (Result (Unit {0}) Error))) (v : Result (Unit {0}) Error)
-          → Gives l v → Stores writes stored x.writer.now → PolledByCalls (Closes writes) x l y
-          → IfOk v (λ u. ArrivesAll (stored.kept x.writer.now) (stored.kept y.writer.now) (stored.arrived y.writer.now))
-      close_kept x y l (Err e) g stores ran = tt
-      close_kept x y l (Ok u) g stores ran =
-          let c =
-          last_call (Closes writes) (λ f. f.writer.now) laws WriteMark.pending SameClose (λ x y h. h.came) (λ x. refl)
-          same_close x y l (Ok u) g ran in
-          done_kept laws stored x.writer.now y.writer.now c.waits WriteMark.closed tt stores
-          (laws.follows x.writer.now c.before.writer.now y.writer.now (replicate c.waits WriteMark.pending)
-          (WriteMark.closed ∷ []) c.came c.last.came)
-
-      pub closed_left : {E : Type 0} (x : CloseFuture W) → Stores writes stored x.writer.now
-          → WhenLeft E (PolledByCalls (Closes writes)) x (λ y. y.writer.ghost_name ≡ x.writer.ghost_name)
-          (λ y r. IfOk r
-          (λ u. ArrivesAll (stored.kept x.writer.now) (stored.kept y.writer.now) (stored.arrived y.writer.now)))
-      closed_left x stores =
-          when_left (PolledByCalls (Closes writes)) x (λ y. y.writer.ghost_name ≡ x.writer.ghost_name)
-          (λ y r. IfOk r
-          (λ u. ArrivesAll (stored.kept x.writer.now) (stored.kept y.writer.now) (stored.arrived y.writer.now))) refl
-          (λ ins y ran. calls_stay (Closes writes) (λ f. f.writer.now) laws WriteMark.pending SameClose (λ x y h. h.came)
-          (λ x. refl) same_close x y ins ran)
-          (λ ins y v gives ran. close_kept x y ins v gives stores ran)
+  pub closed_left : (x : CloseFuture W) → Stores writes stored x.writer.now
+      → WhenLeft E (PolledByCalls (Closes writes)) x (λ y. y.writer.ghost_name ≡ x.writer.ghost_name)
+      (λ y r. IfOk r
+      (λ u. ArrivesAll (stored.kept x.writer.now) (stored.kept y.writer.now) (stored.arrived y.writer.now)))
+  closed_left x stores =
+      arrived_left laws stored (Closes writes) (λ f. f.writer) WriteMark.closed tt (λ x y c h. h.came)
+      (λ x y c h. ap (λ f. f.writer.ghost_name) h.stays) x stores
 
 -- `read`
 spends_waits : (n : ℕ) (xs ys : List ℕ) (l : List ReadMark) → TellsKnown xs (replicate n ReadMark.pending ++ l) ys

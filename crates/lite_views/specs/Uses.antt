@@ -81,7 +81,7 @@ pub use Rattle.lite_io_base.specs.Laws.Takings.{taken_both}
 pub use Rattle.lite_io_base.specs.Marks.{ReadMark, bytes, moved, read_marks}
 pub use Rattle.lite_io_base.specs.Runs.{MarkLaws}
 pub use Rattle.lite_io_base.specs.Stored.{Arrives, Stored, Stores}
-pub use Rattle.lite_io_base.specs.Takings.{WriteMark, bytes_taken, write_marks}
+pub use Rattle.lite_io_base.specs.Takings.{WriteMark, bytes_taken, done_marks, write_marks}
 pub use Rattle.lite_merge.specs.Budgeted.{Budgets, budget_parts}
 pub use Rattle.lite_merge.specs.Merge.{MergeRow, MergeRows, Merges}
 pub use Rattle.lite_merge.specs.Or.{Ors}
