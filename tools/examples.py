@@ -16,8 +16,8 @@ from vocabulary import snake
 # The crate that the tests are compiled in, and its line for crates.txt.
 NAME = "examples"
 LINE = f"{NAME} tests_may=Threads+Wait: futures_lite futures rand_core rand_pcg"
-# The crate in crates.txt that has the functions with clauses.
-PROVED = "proved_examples"
+# The crates in crates.txt that have the functions with clauses, one a module: they are proved side by side.
+PROVED = {it: f"proved_examples_{it}" for it in MODULES}
 # What an example may name with no import of its own: the words of a clause, and what a function that waits takes.
 GHOST = {
     "Rattle.std.specs.Prelude": (
@@ -98,9 +98,9 @@ def merged(uses):
 
 @functools.cache
 def proofs():
-    """Returns the files of the crate of proofs, by their paths in it, as `rt fmt` lays them out."""
+    """Returns the files of the crates of proofs, by their paths below crates/, as `rt fmt` lays them out."""
     files = {}
-    for module in MODULES:
+    for module, crate in PROVED.items():
         functions, uses = [], []
         for item, number, block in blocks(module):
             found = proved_in(block)
@@ -109,21 +109,20 @@ def proofs():
             functions += [re.sub(r"^fn (\w+)", rf"pub fn {name_of(item, number)}_\1", it, flags=re.M) for it in found]
         if functions:
             text, there = "\n".join(functions), merged(uses)
-            files[f"src/{module}.rt"] = f"//! The examples of `futures_lite::{module}` that have clauses.\n{imports(text, there)}{there}\n{text}"
-    lines = "".join(f"pub mod {it};\n" for it in MODULES if f"src/{it}.rt" in files)
-    files["src/lib.rt"] = f"//! The functions with clauses in the examples of the documentation.\n#![tactic(auto)]\n\n{lines}"
-    return laid_out(files)
+            head = f"//! The functions with clauses in the examples of `futures_lite::{module}`.\n#![tactic(auto)]\n"
+            files[f"{crate}/src/lib.rt"] = laid_out(f"{head}{imports(text, there)}{there}\n{text}")
+    return files
 
 
-def laid_out(files):
-    """Returns the files of a crate as `rt fmt` writes them."""
+def laid_out(text):
+    """Returns the text of a crate's root as `rt fmt` writes it."""
     with tempfile.TemporaryDirectory(prefix="layout-") as place:
-        for path, text in files.items():
-            os.makedirs(os.path.dirname(f"{place}/{path}"), exist_ok=True)
-            with open(f"{place}/{path}", "w", encoding="utf-8") as file:
-                file.write(text)
+        os.makedirs(f"{place}/src")
+        root = f"{place}/src/lib.rt"
+        with open(root, "w", encoding="utf-8") as file:
+            file.write(text)
         subprocess.run(["rt", "fmt"], cwd=place, stdin=subprocess.DEVNULL, stdout=subprocess.DEVNULL, check=True)
-        return {path: read_text(f"{place}/{path}") for path in files}
+        return read_text(root)
 
 
 def calls(item, block):

@@ -11,7 +11,7 @@ from reference import Reference
 from repository import TOP, files_of, read_text
 
 # The folders in which every file is generated.
-WHOLE = ("docs/api", "docs/pictures", f"crates/{examples.PROVED}/src")
+WHOLE = ("docs/api", "docs/pictures", *(f"crates/{it}/src" for it in examples.PROVED.values()))
 
 
 def files():
@@ -21,7 +21,7 @@ def files():
     yield vocabulary.PAGE, vocabulary.glossary()
     yield original_examples.PAGE, original_examples.page()
     for file, text in examples.proofs().items():
-        yield f"crates/{examples.PROVED}/{file}", text
+        yield f"crates/{file}", text
     for page, parts in ((originals.PAGE, {**originals.tables(), **originals.added()}), (speed.PAGE, {"speed": speed.table()})):
         yield page, markers.filled(read_text(f"{TOP}/{page}"), parts)
 

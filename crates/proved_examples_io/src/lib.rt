@@ -1,4 +1,6 @@
-//! The examples of `futures_lite::io` that have clauses.
+//! The functions with clauses in the examples of `futures_lite::io`.
+#![tactic(auto)]
+
 ghost use Rattle.std.specs.Prelude.{◌≡◌, ◌≤◌, ◌+◌, ◌++◌, IfOk, IsOk, Ok, length, map, replicate, string_bytes, take};
 ghost use Rattle.std.specs.List.{slice_get};
 ghost use Rattle.futures_lite.specs.Lines.{byte_lines, byte_pieces, through_first};

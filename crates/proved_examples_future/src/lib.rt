@@ -1,4 +1,6 @@
-//! The examples of `futures_lite::future` that have clauses.
+//! The functions with clauses in the examples of `futures_lite::future`.
+#![tactic(auto)]
+
 ghost use Rattle.std.specs.Prelude.{◌≡◌, Err, IfOk, None, Some};
 
 use futures_lite::{Context, FutureExt, Poll, future};

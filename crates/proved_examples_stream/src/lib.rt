@@ -1,4 +1,6 @@
-//! The examples of `futures_lite::stream` that have clauses.
+//! The functions with clauses in the examples of `futures_lite::stream`.
+#![tactic(auto)]
+
 ghost use Rattle.std.specs.Prelude.{◌≡◌, ◌==◌, ◌%◌, ◌/◌, ◌*◌, ◌+◌, ◌-◌, ◌++◌, ◌^◌, ◌∷◌, [], if◌then◌else◌, Err, IfOk, None, Ok, Some, drop, flat_map, length, map, nat_lt, not, replicate, take};
 ghost use Rattle.std.specs.List.{filter, filter_map, find, fold, list_all, list_any, position, prefix_len, range_with_len, slice_get, zip};
 ghost use Rattle.futures_lite.specs.Lists.{map_while, scan};
