@@ -1,6 +1,6 @@
 //! Ranks over `Ok` items only: memory may be refused in every poll, so `Err` items lower no rank.
 ghost use Rattle.std.specs.Prelude.{⊤};
-ghost use Rattle.lite_read.specs.Laws.Counting.{flow_counting, flow_ranks};
+ghost use Rattle.lite_read.specs.Laws.Counting.{flow_counting, flow_ranks, pieces_out};
 ghost use Rattle.lite_read.specs.Lines.{lines_over};
 ghost use Rattle.lite_read.specs.Split.{IsVec, split_over};
 ghost use Rattle.lite_read.specs.LineText.{IsText, without_return};
@@ -17,7 +17,7 @@ impl<R: AsyncBufRead + CountedRead> OkCounted for Split<R> {
 
     ghost ok_ranks = { flow_ranks split_over R.ranks };
 
-    ghost ok_counting = { flow_counting split_over (λ k. k) ⊤ IsVec IsVec R.read_laws R.counting };
+    ghost ok_counting = { flow_counting split_over (λ k. pieces_out k ⊤ IsVec IsVec) R.read_laws R.counting };
 }
 
 impl<R: AsyncBufRead + CountedRead> OkCounted for Lines<R> {
@@ -27,5 +27,5 @@ impl<R: AsyncBufRead + CountedRead> OkCounted for Lines<R> {
 
     ghost ok_ranks = { flow_ranks lines_over R.ranks };
 
-    ghost ok_counting = { flow_counting lines_over (λ k. 10) ⊤ (λ xs. IsText (without_return xs)) IsText R.read_laws R.counting };
+    ghost ok_counting = { flow_counting lines_over (λ k. pieces_out 10 ⊤ (λ xs. IsText (without_return xs)) IsText) R.read_laws R.counting };
 }
