@@ -44,6 +44,11 @@ GROUPS = {
         "Bridges to std": ("lite_bridge",),
         "Halves and journals": ("lite_halves",),
     },
+    "codec": {
+        "Codecs": ("lite_codec/src/codec.rt", "lite_codec/src/length_delimited.rt"),
+        "Values": ("lite_codec/src/values.rt", "lite_codec/src/make.rt", "lite_codec/src/error.rt"),
+        "Waiting for one value": ("lite_theorems/src/values.rt",),
+    },
     "laws": {
         "Recording runs": ("lite_laws",),
         "Calls that carry a theorem": ("lite_theorems",),

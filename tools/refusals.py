@@ -103,7 +103,7 @@ def is_left_out(words, plain, harsh, ask):
 def is_refusal(words, plain, harsh, ask):
     """Whether the answers `harsh` to the case tell one refusal, and what it leaves; `ask` gives the answers to another case."""
     mode = words[2] if words[1] == "io" else words[1]
-    if mode in ("poll", "lines", "split"):
+    if mode in ("poll", "lines", "split", "values"):
         return is_one_more(plain, harsh)
     if words[1] != "io":
         return False

@@ -7,7 +7,7 @@ import textwrap
 from repository import FACADE, TOP, files_of, read_text
 from vocabulary import libraries
 
-MODULES = ("future", "stream", "io", "laws")
+MODULES = ("future", "stream", "io", "codec", "laws")
 HEAD = re.compile(r"(?P<indent> *)(?P<public>pub |final )?(?:const )?(?P<kind>fn|struct|enum|trait|type) (?P<name>\w+)")
 BLOCK = re.compile(r"(?P<impl>impl)\b(?P<types>.*)|pub trait (?P<trait>\w+)")
 CLAUSE = re.compile(r" +(requires|ensures)\b")

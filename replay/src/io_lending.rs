@@ -6,7 +6,8 @@ use crate::io_words::{byte_of, bytes_of, text_of};
 use crate::lenders::Lender;
 use crate::readers::{BuildReader, Nest};
 use crate::words::{Fault, Words};
-use futures_lite::io::{AsyncBufRead, AsyncRead, BufReader, CountedRead};
+use futures_lite::codec::{self, DecodeError, LengthDelimited};
+use futures_lite::io::{AsyncBufRead, AsyncRead, BufReader, CountedRead, ErrorKind};
 use futures_lite::laws::{CollectLinesFuture, collect_buffered_lines, collect_lines};
 use futures_lite::stream::{Stream, TryCollectError};
 use futures_lite::{AsyncBufReadExt, Poll, StreamExt};
@@ -26,6 +27,7 @@ pub(crate) fn answered(
         "lines" => lines(run, words)?,
         "split" => split(run, words)?,
         "pieces" => pieces(run, words)?,
+        "values" => values(run, words)?,
         "fill" => fill(run, words)?,
         "mixed" => mixed(run, words)?,
         "lends" => lends(run, words)?,
@@ -136,6 +138,28 @@ fn pieces(run: &mut Run<'_, '_>, words: &mut Words<'_>) -> Result<(), Fault> {
         Some(Err(TryCollectError::Source(e))) => run.kind(e.kind()),
         Some(Err(TryCollectError::Memory(_))) => Err(Fault::Memory),
     }
+}
+
+/// `values MOST LENDER`: polls of the stream of values with their length, at most so many bytes, before them.
+fn values(run: &mut Run<'_, '_>, words: &mut Words<'_>) -> Result<(), Fault> {
+    let max = u32::try_from(words.number()?).map_err(|_| Fault::Words)?;
+    let mut values = codec::values(
+        run.alloc,
+        Lender::build(run.alloc, words)?,
+        LengthDelimited { max },
+    );
+    while run.has_polls() {
+        match values.poll_next(run.poll()) {
+            Poll::Pending => run.word("P")?,
+            Poll::Ready(None) => run.word("E")?,
+            Poll::Ready(Some(Ok(value))) => run.bytes(value.as_slice())?,
+            Poll::Ready(Some(Err(DecodeError::Truncated))) => run.word("!Truncated")?,
+            Poll::Ready(Some(Err(DecodeError::Malformed))) => run.word("!Malformed")?,
+            Poll::Ready(Some(Err(DecodeError::Io(e)))) => run.kind(e.kind())?,
+            Poll::Ready(Some(Err(DecodeError::Memory))) => run.kind(ErrorKind::OutOfMemory)?,
+        }
+    }
+    Ok(())
 }
 
 /// `fill MOST LENDER`: polls of a fill, of which at most so many bytes are then taken.

@@ -3,7 +3,7 @@ use Rattle.std.specs.Prelude.{◌≡◌, ◌≤◌, ℕ, List, [], ◌++◌, len
 use Rattle.lite_codec.specs.declared.codec.Decoded.{Decoded}
 use Rattle.lite_codec.specs.declared.codec.Decoded.TheVariants.{Malformed, More, Whole}
 use Rattle.lite_codec.specs.declared.error.EncodeError.{EncodeError}
-use Rattle.lite_codec.specs.declared.error.EncodeError.TheVariants.{Memory, Unencodable}
+use Rattle.lite_codec.specs.declared.error.EncodeError.TheVariants.{Io, Memory, Unencodable}
 
 module _ {V : Type 0} (encodes : V → List ℕ → Type 0) where
   -- How an encoder ends. The bytes of the value were appended. Or the value has none, or memory was refused.
@@ -11,6 +11,7 @@ module _ {V : Type 0} (encodes : V → List ℕ → Type 0) where
   EncodedAs v before after (Ok u) = (xs : List ℕ) × encodes v xs × (after ≡ before ++ xs)
   EncodedAs v before after (Err Unencodable) = (xs : List ℕ) → encodes v xs → ⊥
   EncodedAs v before after (Err Memory) = ⊤
+  EncodedAs v before after (Err (Io e)) = ⊥
 
 module _ {V : Type 0} (encodes : V → List ℕ → Type 0) (refuses : List ℕ → Type 0) where
   -- The bytes are not those of a value, and they are not refused.

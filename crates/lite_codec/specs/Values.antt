@@ -14,15 +14,15 @@ module _ {V : Type 0} (encodes : V → List ℕ → Type 0) (refuses : List ℕ 
   -- and `after` is what is held then. A value is yielded at its last byte, and `Malformed` at the last byte that is
   -- refused. At end of file a value that has begun is `Truncated`. The reader's errors are handed on. If `may_refuse`
   -- holds, memory may be refused.
-  abbrev pub Yields : List ℕ → List ReadMark → Option (Result V DecodeError) → List ℕ → Type 0
-  Yields held marks (Some (Ok v)) after =
+  abbrev pub YieldsValue : List ℕ → List ReadMark → Option (Result V DecodeError) → List ℕ → Type 0
+  YieldsValue held marks (Some (Ok v)) after =
       (b : ℕ) × (marks ≡ ReadMark.byte b ∷ []) × encodes v (held ++ b ∷ []) × (after ≡ [])
-  Yields held marks (Some (Err Malformed)) after =
+  YieldsValue held marks (Some (Err Malformed)) after =
       (b : ℕ) × (marks ≡ ReadMark.byte b ∷ []) × refuses (held ++ b ∷ []) × (after ≡ [])
-  Yields held marks (Some (Err Truncated)) after = (marks ≡ ReadMark.end ∷ []) × (0 < length held) × (after ≡ [])
-  Yields held marks (Some (Err (Io e))) after = (marks ≡ ReadMark.fault (error_kind e) ∷ []) × (after ≡ held)
-  Yields held marks (Some (Err Memory)) after = (marks ≡ []) × may_refuse × (after ≡ held)
-  Yields held marks None after = (marks ≡ ReadMark.end ∷ []) × (held ≡ []) × (after ≡ [])
+  YieldsValue held marks (Some (Err Truncated)) after = (marks ≡ ReadMark.end ∷ []) × (0 < length held) × (after ≡ [])
+  YieldsValue held marks (Some (Err (Io e))) after = (marks ≡ ReadMark.fault (error_kind e) ∷ []) × (after ≡ held)
+  YieldsValue held marks (Some (Err Memory)) after = (marks ≡ []) × may_refuse × (after ≡ held)
+  YieldsValue held marks None after = (marks ≡ ReadMark.end ∷ []) × (held ≡ []) × (after ≡ [])
 
   -- How the bytes of a reader become values. A byte is held while more bytes are needed.
   abbrev pub decoding : ReadFold (List ℕ) (Option (Result V DecodeError))
@@ -30,7 +30,7 @@ module _ {V : Type 0} (encodes : V → List ℕ → Type 0) (refuses : List ℕ 
       record {
         takes = λ held b more. (more ≡ held ++ b ∷ []) × Undecided encodes refuses more;
         asks = λ held. ⊤;
-        gives = Yields;
+        gives = YieldsValue;
       }
 
 -- What end of file says of the bytes held: a value that has begun is truncated, and else the stream ends.
@@ -60,10 +60,10 @@ module _ {R C V : Type 0} (encodes : C → V → List ℕ → Type 0) (refuses :
   AtValue x = Undecided (encodes x.codec) (refuses x.codec) x.held.items
 
 -- Two items are the same: values that a codec gives the same bytes, or one kind of error.
-abbrev pub SameItem : {C V : Type 0} → (C → V → List ℕ → Type 0) → Result V DecodeError → Result V DecodeError → Type 0
-SameItem {C} encodes (Ok v) (Ok w) = (c : C) × (xs : List ℕ) × encodes c v xs × encodes c w xs
-SameItem encodes (Err (Io e)) (Err (Io f)) = error_kind e ≡ error_kind f
-SameItem encodes (Err Truncated) (Err Truncated) = ⊤
-SameItem encodes (Err Malformed) (Err Malformed) = ⊤
-SameItem encodes (Err Memory) (Err Memory) = ⊤
-SameItem encodes r s = ⊥
+abbrev pub SameValue : {C V : Type 0} → (C → V → List ℕ → Type 0) → Result V DecodeError → Result V DecodeError → Type 0
+SameValue {C} encodes (Ok v) (Ok w) = (c : C) × (xs : List ℕ) × encodes c v xs × encodes c w xs
+SameValue encodes (Err (Io e)) (Err (Io f)) = error_kind e ≡ error_kind f
+SameValue encodes (Err Truncated) (Err Truncated) = ⊤
+SameValue encodes (Err Malformed) (Err Malformed) = ⊤
+SameValue encodes (Err Memory) (Err Memory) = ⊤
+SameValue encodes r s = ⊥

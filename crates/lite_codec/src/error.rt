@@ -1,16 +1,29 @@
 //! Why a value was not encoded, or not decoded.
 ghost use Rattle.std.specs.Prelude.{◌≡◌};
 ghost use Rattle.lite_codec.specs.declared.error.DecodeError.TheVariants.{Io, Memory};
-ghost use Rattle.lite_codec.specs.declared.error.EncodeError.TheVariants.{Memory as Full};
+ghost use Rattle.lite_codec.specs.declared.error.EncodeError.TheVariants.{Io as Failed, Memory as Full};
 
 use std::alloc::AllocError;
 use std::io;
 
-/// Why a value was not encoded.
+/// Why a value was not encoded, or not written.
+///
+/// # Examples
+///
+/// ```
+/// use futures_lite::codec::{Codec, EncodeError, LengthDelimited};
+///
+/// let codec = LengthDelimited { max: 4 };
+/// let mut bytes = Vec::new(rt.alloc());
+/// let encoded = codec.encode(&Vec::from_slice(rt.alloc(), b"hello")?, &mut bytes);
+/// assert!(rt; matches!(encoded, Err(EncodeError::Unencodable)));
+/// ```
 #[derive(Debug, Drop)]
 pub enum EncodeError {
     /// The codec has no bytes for this value, for example because it is too long.
     Unencodable,
+    /// The writer returned this error, after a prefix of the bytes. A codec alone never returns it.
+    Io(io::Error),
     /// Memory was refused.
     Memory,
 }
@@ -23,7 +36,28 @@ impl From<AllocError> for EncodeError {
     }
 }
 
+impl From<io::Error> for EncodeError {
+    ghost from_gives = { λ given error. error ≡ Failed given };
+
+    fn from(error: io::Error) -> EncodeError {
+        EncodeError::Io(error)
+    }
+}
+
 /// Why no value was decoded.
+///
+/// # Examples
+///
+/// ```
+/// use futures_lite::codec::{DecodeError, LengthDelimited, values};
+/// use futures_lite::{StreamExt, future};
+///
+/// let mut reader = b"\0\0\0\x05hel".as_slice();
+/// let mut read = values(rt.alloc(), &mut reader, LengthDelimited { max: 100 });
+/// let item = future::block_on(&rt, read.next())?;
+/// assert!(rt; matches!(item, Some(Err(DecodeError::Truncated))));
+/// assert!(rt; future::block_on(&rt, read.next())?.is_none());
+/// ```
 #[derive(Debug, Drop)]
 pub enum DecodeError {
     /// The input ended within a value. The bytes of that value were consumed, and are dropped.

@@ -8,8 +8,19 @@ use std::alloc::{AllocError, Global};
 
 /// A codec for vectors of bytes: the number of the bytes in four bytes, the highest first, and then the bytes.
 ///
-/// A longer vector than `max` is not encoded. A greater number than `max` is refused, right behind its four
+/// A vector that is longer than `max` is not encoded. A number above `max` is refused, right after its four
 /// bytes.
+///
+/// # Examples
+///
+/// ```
+/// use futures_lite::codec::{Codec, LengthDelimited};
+///
+/// let codec = LengthDelimited { max: 1 << 16 };
+/// let mut bytes = Vec::new(rt.alloc());
+/// assert!(rt; codec.encode(&Vec::new(rt.alloc()), &mut bytes).is_ok());
+/// assert_eq!(rt; bytes.as_slice(), b"\0\0\0\0".as_slice());
+/// ```
 #[derive(Debug, Clone, Copy, PartialEq, Eq)]
 pub struct LengthDelimited {
     /// How many bytes a value may have at most, without the four before it.

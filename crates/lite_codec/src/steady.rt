@@ -2,7 +2,7 @@
 ghost use Rattle.std.specs.Prelude.{⊤};
 ghost use Rattle.lite_codec.specs.Uses.{FlowAlike, Sameness, flow_calm, flow_steady};
 ghost use Rattle.lite_codec.specs.Laws.Decoding.{decoding_deterministic};
-ghost use Rattle.lite_codec.specs.Values.{Decodes, SameItem, decoding, values_over};
+ghost use Rattle.lite_codec.specs.Values.{Decodes, SameValue, decoding, values_over};
 
 use crate::{Codec, Values};
 use lite_base::{CalmStream, SteadyStream};
@@ -20,7 +20,7 @@ impl<R: AsyncBufRead + CountedRead + SteadyRead, C: Codec> SteadyStream for Valu
 
     ghost needs_none = { ⊥ };
 
-    ghost same = { Sameness.by (SameItem C.encodes) };
+    ghost same = { Sameness.by (SameValue C.encodes) };
 
     ghost alike = { FlowAlike values_over R.alike };
 

@@ -1,3 +1,4 @@
+mod NextValue
 pub mod BothReaders
 pub mod BothWriters
 pub mod Collecting

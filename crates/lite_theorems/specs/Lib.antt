@@ -13,3 +13,4 @@ pub mod Serving
 pub mod Streams
 pub mod Told
 pub mod Uses
+pub mod Values

@@ -3,7 +3,7 @@ use Rattle.std.specs.Prelude.{◌≡◌, ◌<◌, ◌+◌, ℕ, List, [], ◌∷
 use Rattle.lite_codec.specs.Uses.{◌∙◌, append-nil, ap, arith, error_kind, Error, ErrorKind, GivenBy, given, GivesOut, IsDeterministic, OptionBy, ReadMark, TakenAt}
 use Rattle.lite_codec.specs.Uses.{deterministic_by, length-append, refl, sym}
 use Rattle.lite_codec.specs.Codec.{CodecLaws}
-use Rattle.lite_codec.specs.Values.{SameItem, Yields, decoding}
+use Rattle.lite_codec.specs.Values.{SameValue, YieldsValue, decoding}
 use Rattle.lite_codec.specs.declared.error.DecodeError.{DecodeError}
 use Rattle.lite_codec.specs.declared.error.DecodeError.TheVariants.{Io, Malformed, Memory, Truncated}
 
@@ -18,7 +18,7 @@ module _ {C V : Type 0} (encodes : C → V → List ℕ → Type 0) (refuses : C
         → Now held (ReadMark.fault kind ∷ []) (Some (Err (Io e))) held
 
   now : (held after : List ℕ) (l : List ReadMark) (r : Option (Result V DecodeError))
-      → Yields (encodes c) (refuses c) ⊥ held l r after → Now held l r after
+      → YieldsValue (encodes c) (refuses c) ⊥ held l r after → Now held l r after
   now held after l (Some (Ok v)) h = rw (h.1, h.3) (Now.value h.0 v h.2)
   now held after l (Some (Err Malformed)) h = rw (h.1, h.3) (Now.malformed h.0 h.2)
   now held after l (Some (Err Truncated)) h = rw (h.0, h.2) (Now.truncated h.1)
@@ -44,7 +44,7 @@ module _ {C V : Type 0} (encodes : C → V → List ℕ → Type 0) (refuses : C
     not_both held v is bad = laws.hopeless v held held [] [] bad is refl
 
     one_now : (held p q : List ℕ) (l : List ReadMark) (r s : Option (Result V DecodeError)) → Now held l r p
-        → Now held l s q → OptionBy (SameItem encodes) r s × (p ≡ q)
+        → Now held l s q → OptionBy (SameValue encodes) r s × (p ≡ q)
     one_now held _ _ _ _ _ (Now.value b v is) (Now.value _ w so) = ((c, _, is, so), refl)
     one_now held _ _ _ _ _ (Now.value b v is) (Now.malformed _ so) = absurd (not_both _ v is so)
     one_now held _ _ _ _ _ (Now.malformed b is) (Now.value _ w so) = absurd (not_both _ w so is)
@@ -55,7 +55,7 @@ module _ {C V : Type 0} (encodes : C → V → List ℕ → Type 0) (refuses : C
     one_now held _ _ _ _ _ (Now.ended none) (Now.ended again) = (tt, refl)
     one_now held _ _ _ _ _ (Now.failed e kind h) (Now.failed f _ k) = (h ∙ sym k, refl)
 
-    pub decoding_deterministic : IsDeterministic (OptionBy (SameItem encodes)) (decoding (encodes c) (refuses c) ⊥)
+    pub decoding_deterministic : IsDeterministic (OptionBy (SameValue encodes)) (decoding (encodes c) (refuses c) ⊥)
     decoding_deterministic =
         deterministic_by _ (λ p. ⊥) (λ p q r b h k. h.0 ∙ sym k.0) (λ p r b h n. n)
         (λ p q l v h. given_by p q l v (now p q l v h))
@@ -64,11 +64,11 @@ module _ {C V : Type 0} (encodes : C → V → List ℕ → Type 0) (refuses : C
   -- Each value gives out its bytes.
   module _ (may_refuse : Type 0) where
     value_out : (held after : List ℕ) (last : List ReadMark) (v : V)
-        → Yields (encodes c) (refuses c) may_refuse held last (Some (Ok v)) after
+        → YieldsValue (encodes c) (refuses c) may_refuse held last (Some (Ok v)) after
         → (n : ℕ) × (0 < n) × (given last + length held ≡ n + length after)
     value_out held after last v h = (length held + 1, omega arith, omega (arith, ap given h.1, ap length h.3))
 
-    nothing_out : (held after : List ℕ) (last : List ReadMark) → Yields (encodes c) (refuses c) may_refuse held last None after
+    nothing_out : (held after : List ℕ) (last : List ReadMark) → YieldsValue (encodes c) (refuses c) may_refuse held last None after
         → given last + length held ≡ length after
     nothing_out held after last h = omega (arith, ap given h.0, ap length h.1, ap length h.2)
 

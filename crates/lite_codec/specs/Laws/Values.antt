@@ -3,7 +3,7 @@ use Rattle.std.specs.Prelude.{◌≡◌, ℕ, List, [], ◌∷◌, ◌++◌, Opt
 use Rattle.lite_codec.specs.Uses.{FoldsTo, Poll, Pending, Ready, PieceSegments, ReadMark, Runs, append_assoc, ◌∙◌}
 use Rattle.lite_codec.specs.Uses.{TakesPieceIn, refl, ap}
 use Rattle.lite_codec.specs.Codec.{CodecLaws, Undecided}
-use Rattle.lite_codec.specs.Values.{AtValue, Decodes, Yields, decoding, values_over}
+use Rattle.lite_codec.specs.Values.{AtValue, Decodes, YieldsValue, decoding, values_over}
 use Rattle.lite_codec.specs.declared.error.DecodeError.{DecodeError}
 use Rattle.lite_codec.specs.declared.error.DecodeError.TheVariants.{Io, Malformed, Memory, Truncated}
 use Rattle.lite_codec.specs.declared.values.Values.{Values}
@@ -30,7 +30,7 @@ module _ {V : Type 0} {encodes : V → List ℕ → Type 0} {refuses : List ℕ 
     folds_undecided p q (x ∷ xs) u h = folds_undecided h.0 q xs h.1.1 h.2
 
     yields_undecided : (p q : List ℕ) (marks : List ReadMark) (r : Option (Result V DecodeError))
-        → Undecided encodes refuses p → Yields encodes refuses may_refuse p marks r q → Undecided encodes refuses q
+        → Undecided encodes refuses p → YieldsValue encodes refuses may_refuse p marks r q → Undecided encodes refuses q
     yields_undecided p q marks (Some (Ok v)) u h = rw h.3 (undecided_nothing laws)
     yields_undecided p q marks (Some (Err Malformed)) u h = rw h.3 (undecided_nothing laws)
     yields_undecided p q marks (Some (Err Truncated)) u h = rw h.2 (undecided_nothing laws)

@@ -1,0 +1,6 @@
+-- Values on a byte stream: which bytes they may have, what a decoder finds, and what is read and written for one.
+pub use Rattle.lite_codec.specs.Codec.{CodecLaws, DecodedAs, EncodedAs, IsOpen, Undecided}
+pub use Rattle.lite_codec.specs.LengthDelimited.{FrameOf, TooLong, framed, length_header}
+pub use Rattle.lite_codec.specs.Laws.LengthDelimited.{frame_here, one_number, refused_here}
+pub use Rattle.lite_codec.specs.Values.{AtValue, Decodes, SameValue, YieldsValue, decoding, values_over}
+pub use Rattle.lite_theorems.specs.Values.{ComesBack, ValueTaken, ValueTold, as_item}
