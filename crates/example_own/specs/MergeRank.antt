@@ -30,7 +30,7 @@ side_sized Pending xs = omega (arith, length-append xs (0 ∷ []))
 side_sized (Ready None) xs = omega (arith, length-append xs (0 ∷ []))
 side_sized (Ready (Some n)) xs = omega (arith, length-append xs (1 ∷ []))
 
--- A side that is filled does not get a higher rank, and it gets a lower one with the item that it gave.
+-- A poll of a side's stream does not raise the side's rank.
 module _ (xs ys : List ℕ) (same : length ys ≡ length xs) where
   polled_rank : (a : Answer ℕ) → (a ≡ Pending → AtMost ys xs) → ((n : ℕ) → a ≡ item n → Below ys xs)
       → AtMost (side_rank a ys) (side_rank Pending xs)
@@ -39,6 +39,7 @@ module _ (xs ys : List ℕ) (same : length ys ≡ length xs) where
   polled_rank (Ready (Some n)) still falls = inr (inr (refl, Below-first ys xs _ _ (falls n refl) refl))
 
 module _ {S : Type 0} {run : Runs (Answer ℕ) S} {r : Ranks S} (c : Counting run r) (x y : Side S) (filled : Filled run x y) where
+  -- What each run of the stream keeps, a side that is filled keeps.
   kept_stream : (P : S → Type 0) → ((s t : S) (l : List (Answer ℕ)) → P s → run s l t → P t) → P x.stream → P y.stream
   kept_stream P on p = by x.answer refl
     where
@@ -49,7 +50,8 @@ module _ {S : Type 0} {run : Runs (Answer ℕ) S} {r : Ranks S} (c : Counting ru
   same_size : length (r.rank y.stream) ≡ length (r.rank x.stream)
   same_size = c.sized y.stream ∙ sym (c.sized x.stream)
 
-  -- Each item of its stream lowers the stream's rank.
+  -- If an item lowers the stream's rank, a side that is filled does not get a higher rank, and it gets a lower one when
+  -- the item is passed on.
   module _ (falls : (n : ℕ) → run x.stream (item n ∷ []) y.stream → Below (r.rank y.stream) (r.rank x.stream)) where
     filled_rank : (y.answer ≡ Pending → run x.stream (Pending ∷ []) y.stream → AtMost (r.rank y.stream) (r.rank x.stream))
         → AtMost (side_rank y.answer (r.rank y.stream)) (side_rank x.answer (r.rank x.stream))
@@ -87,6 +89,7 @@ module _ {S T : Type 0} {run : Runs (Answer ℕ) S} {run' : Runs (Answer ℕ) T}
     (c : Counting run r) (d : Counting run' r') where
   module _ (x y : MergeSorted S T) (left : Side S) (right : Side T) (filled : Filled run x.left left)
       (filled' : Filled run' x.right right) where
+    -- One of the sides gets a lower rank with the item, and the other does not get a higher one.
     item_falls : ((n : ℕ) → run x.left.stream (item n ∷ []) left.stream → Below (r.rank left.stream) (r.rank x.left.stream))
         → ((n : ℕ) → run' x.right.stream (item n ∷ []) right.stream → Below (r'.rank right.stream) (r'.rank x.right.stream))
         → (n : ℕ) → SidesYield left right (item n) y → Below ((side_ranks r r').rank y) ((side_ranks r r').rank x)

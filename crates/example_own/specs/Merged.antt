@@ -12,7 +12,7 @@ use Rattle.example_own.specs.Side.{Filled, unanswered}
 use Rattle.example_own.specs.declared.merge_sorted.MergeSorted.{MergeSorted}
 use Rattle.example_own.specs.declared.side.Side.{Side}
 
--- The items of a side: what its answer has made of the list, and what its stream has to yield still.
+-- The items of a side: that of its answer, if it is one, and then those of its stream. After an end there are none.
 abbrev pub SideLists : {S : Type 0} → Runs (Answer ℕ) S → Side S → List ℕ → Type 0
 SideLists run x xs = ItemsAfter (Lists run) x.answer x.stream xs
 

@@ -13,14 +13,14 @@ use futures_lite::{Context, Poll, Stream};
 
 /// Yields the items of two streams: of the two that are next the smaller, and the left one if they are equal.
 ///
-/// A poll polls each side that has no answer, and is pending while one of them is. So it holds one item of each side at most.
+/// A poll polls each side that has no answer, and returns `Pending` if one of them is. At most one item of each side is held.
 #[derive(Drop)]
 pub struct MergeSorted<S, T> {
     pub left: Side<S>,
     pub right: Side<T>,
 }
 
-/// Merges two streams.
+/// Merges two streams. If the items of both are known, so are those of the merge.
 pub fn merge_sorted<S, T>(left: S, right: T) -> MergeSorted<S, T>
 where
     S: Stream<Item = u32>,
