@@ -2,7 +2,12 @@ pub mod Below
 pub mod Countdown
 pub mod Counter
 pub mod Dots
+pub mod InOrder
+pub mod MergeRank
+pub mod MergeSorted
+pub mod Merged
 pub mod Numbers
+pub mod Side
 pub mod Table
 pub mod Tally
 pub mod Upper

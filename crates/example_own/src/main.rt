@@ -7,7 +7,10 @@ mod dots;
 mod evens;
 mod futures_here;
 mod later;
+mod merge_sorted;
+mod merged;
 mod readers_here;
+mod side;
 mod streams_here;
 mod table;
 mod tally;
@@ -19,5 +22,6 @@ use std::io;
 fn main(rt: HostRuntime) -> io::Result<()> {
     futures_here::show(&rt)?;
     streams_here::show(&rt)?;
+    merged::show(&rt)?;
     readers_here::show(&rt)
 }

@@ -5,10 +5,10 @@ pub use Rattle.lite_views.specs.Answering.{HasOk, HasValueAs, PickedValue, Retur
 unfoldable pub use Rattle.lite_views.specs.Answering.{AtOnce, NeverReady}
 pub use Rattle.lite_views.specs.Futures.{RestIfFound, behind_match}
 pub use Rattle.lite_views.specs.Lists.{map_while, scan, step_from}
-pub use Rattle.lite_views.specs.OkLists.{OkListsAs}
+pub use Rattle.lite_views.specs.OkLists.{OkFits, OkListsAs}
 unfoldable pub use Rattle.lite_views.specs.OkLists.{OkLists, OkSeen}
 pub use Rattle.lite_views.specs.Unfold.{GoesOnWith, MakesValue, UnfoldsInto}
-pub use Rattle.lite_views.specs.Views.{Fits, FoundBy, ListsAs, ListsIf, OfItems, RestIs, ValueHolds, ValueIs}
+pub use Rattle.lite_views.specs.Views.{EachIs, Fits, FoundBy, ListsAs, ListsIf, OfItems, RestIs, ValueHolds, ValueIs}
 unfoldable pub use Rattle.lite_views.specs.Views.{Fronts, GoesOn, HasValue, Lists, Seen, Waited}
 pub use Rattle.lite_views.specs.Waiting.{WhenLeft}
 unfoldable pub use Rattle.lite_views.specs.Waiting.{LeftAs, LeftSeen}

@@ -9,6 +9,7 @@ pub use Rattle.lite_base.specs.Laws.Ends.{Terminates-after, Terminates-by, Termi
 pub use Rattle.lite_base.specs.Laws.Ends.{Terminates-where}
 pub use Rattle.lite_base.specs.Falling.{ItemRun}
 pub use Rattle.lite_base.specs.Laws.Falling.{Below-wf, counted_ends, ranked_ends}
+pub use Rattle.lite_base.specs.Laws.Falling.{AtMost-both, Below-after, Below-first, Below-then}
 pub use Rattle.lite_source.specs.Always.{no_ranks}
 -- a reader's: as many bytes and errors as it may still give
 pub use Rattle.lite_io_base.specs.Counting.{ReadCounting}

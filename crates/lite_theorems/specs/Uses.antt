@@ -1,7 +1,7 @@
 -- What this crate's files take from other crates. The prelude, and a name that two modules have, are imported from where they are.
 pub use Rattle.futures.specs.declared.task.Poll.{Poll}
 pub use Rattle.futures.specs.declared.task.Poll.TheVariants.{Pending, Ready}
-pub use Rattle.lite_base.specs.Answers.{Answer, Comparable, Gives, UpToValue, before_end, end, item, strip, until_end}
+pub use Rattle.lite_base.specs.Answers.{Answer, Comparable, Gives, UpToValue, before_end, end, item, items, strip, until_end}
 pub use Rattle.lite_base.specs.Future.AtEachOk.{AtEachOk}
 pub use Rattle.lite_base.specs.FutureLaws.{FutureLaws}
 pub use Rattle.lite_base.specs.Laws.Alike.{gives_strip}
@@ -12,7 +12,7 @@ pub use Rattle.lite_base.specs.Laws.Hint.{same_hint}
 pub use Rattle.lite_base.specs.Laws.Segments.{segment_before, segment_front, to_value_last}
 pub use Rattle.lite_base.specs.Laws.StreamLaws.{laws_of}
 pub use Rattle.lite_base.specs.Lent.{Lent}
-pub use Rattle.lite_base.specs.Rank.{Lowers}
+pub use Rattle.lite_base.specs.Rank.{AtMost, Below, Lowers}
 pub use Rattle.lite_base.specs.Ranks.{Counting, Ranks, number_ranks, ranks_of}
 pub use Rattle.lite_base.specs.Runs.{Hints, NoHint, Runs}
 pub use Rattle.lite_base.specs.StreamLaws.{RunLaws, StreamLaws}

@@ -18,6 +18,13 @@ Fits (Ready (Some x) ∷ l) (y ∷ xs) = (x ≡ y) × Fits l xs
 unfoldable pub Lists : {S A : Type 0} → Runs (Answer A) S → S → List A → Type 0
 Lists {S} {A} run s xs = (l : List (Answer A)) (t : S) → run s l t → Fits l xs
 
+-- What one poll leaves of a list of items, if it returned `a` and left `y`: `Pending` leaves the list, an item is its
+-- first one and leaves the others, and an end comes only if the list is empty. `Left y rest` says that `rest` is left.
+abbrev pub ItemsAfter : {S A : Type 0} → (S → List A → Type 0) → Answer A → S → List A → Type 0
+ItemsAfter Left Pending y xs = Left y xs
+ItemsAfter Left (Ready None) y xs = xs ≡ []
+ItemsAfter {A = A} Left (Ready (Some x)) y xs = (rest : List A) × (xs ≡ x ∷ rest) × Left y rest
+
 -- Each result is `Pending` or the item `x`, so the stream does not end.
 abbrev pub EachIs : {A : Type 0} → A → List (Answer A) → Type 0
 EachIs x [] = ⊤

@@ -1,9 +1,10 @@
 -- Laws of a stream that is specified by a step.
 use Rattle.std.specs.Prelude.{◌≤◌, ℕ, List, [], ◌∷◌, Some, None}
-use Rattle.lite_theorems.specs.Uses.{FoldsTo, arith, refl, sym, Ready, Pending, Answer, before_end, Below-one, Lowers-at_most, at_most_one, folds_follow}
-use Rattle.lite_theorems.specs.Uses.{same_hint, Lowers, Counting, number_ranks, RunLaws, StreamLaws, laws_of, NoHint}
+use Rattle.lite_theorems.specs.Uses.{FoldsTo, ap, arith, inl, inr, refl, subst, sym, Ready, Pending, Answer, before_end, Below-one, Lowers-at_most, at_most_one}
+use Rattle.lite_theorems.specs.Uses.{folds_follow, same_hint, AtMost, Lowers, Counting, Ranks, number_ranks, RunLaws, StreamLaws, items, laws_of, NoHint}
 use Rattle.lite_base.specs.Laws.Ranks.{number_counting}
-use Rattle.lite_theorems.specs.Streams.{HintsAt, ItemsLower}
+use Rattle.lite_stream.specs.Laws.Lower.{at_most_below, lowers_at_most}
+use Rattle.lite_theorems.specs.Streams.{HintsAt, ItemsLower, RankLowers}
 
 -- `step` says what one poll may return, and which value it leaves.
 module _ {S A : Type 0} (step : S → Answer A → S → Type 0) where
@@ -39,3 +40,40 @@ module _ {S A : Type 0} {step : S → Answer A → S → Type 0} {number : S →
   stream_hinting low =
       laws_of (folds_runs step)
       (λ x y hint l e h. same_hint hint (number x, Some (number x)) l e (fewer_left low x y l h))
+
+module _ {A : Type 0} (l : List (Answer A)) (xs ys zs : List ℕ) (h : Lowers l xs ys) where
+  lowers_then : (a : Answer A) → Lowers (a ∷ []) ys zs → Lowers (a ∷ l) xs zs
+  lowers_then (Ready (Some a)) k = at_most_below xs ys zs (Lowers-at_most l xs ys h) k
+  lowers_then Pending k = lowers_at_most l xs ys zs h k
+  lowers_then (Ready None) k = lowers_at_most l xs ys zs h k
+
+module _ {S A : Type 0} {step : S → Answer A → S → Type 0} {r : Ranks S} (low : RankLowers step r) where
+  counted_from : (x y : S) (l : List (Answer A)) → r.counts x → FoldsTo step x l y → r.counts y
+  counted_from x y [] c h = subst r.counts h c
+  counted_from x y (a ∷ l) c h = counted_from h.0 y l (low.counts_on x h.0 a c h.1) h.2
+
+  firm_from : (x y : S) (l : List (Answer A)) → r.firm x → FoldsTo step x l y → r.firm y
+  firm_from x y [] c h = subst r.firm h c
+  firm_from x y (a ∷ l) c h = firm_from h.0 y l (low.firm_on x h.0 a c h.1) h.2
+
+  items_lower : (x y : S) (l : List A) → r.counts x → FoldsTo step x (items l) y → AtMost (r.rank y) (r.rank x)
+  items_lower x y [] c h = inl (ap r.rank (sym h))
+  items_lower x y (a ∷ l) c h =
+      inr (at_most_below _ _ _ (items_lower h.0 y l (low.counts_on x h.0 _ c h.1) h.2) (low.falls x h.0 a c h.1))
+
+  ranks_lower : (x y : S) (l : List (Answer A)) → r.firm x → FoldsTo step x l y → Lowers l (r.rank y) (r.rank x)
+  ranks_lower x y [] c h = inl (ap r.rank (sym h))
+  ranks_lower x y (a ∷ l) c h =
+      lowers_then l _ _ _ (ranks_lower h.0 y l (low.firm_on x h.0 a c h.1) h.2) a (low.lowers x h.0 a c h.1)
+
+  -- It is enough that each step keeps and lowers the rank.
+  pub stream_ranking : Counting (FoldsTo step) r
+  stream_ranking =
+      record {
+        sized = low.sized;
+        counts_on = counted_from;
+        firm_on = firm_from;
+        falls = λ x y a more c h.
+            at_most_below _ _ _ (items_lower h.0 y more (low.counts_on x h.0 _ c h.1) h.2) (low.falls x h.0 a c h.1);
+        lowers = ranks_lower;
+      }

@@ -1,7 +1,8 @@
 -- What streams and futures yield that are specified by a step.
 use Rattle.std.specs.Prelude.{◌≡◌, List, [], ◌∷◌, Some, None, refl, Ok, Err}
-use Rattle.lite_views.specs.Uses.{subst, sym, FoldsTo, Poll, Ready, Pending, Answer, Gives, UpToValue, end, item}
-use Rattle.lite_views.specs.Views.{Fits, Lists, Seen, ValueHolds, Waited}
+use Rattle.lite_views.specs.Uses.{ap, subst, sym, FoldsTo, Poll, Ready, Pending, Answer, Gives, UpToValue, end, item}
+use Rattle.lite_views.specs.Uses.{Runs, Hints, StreamLaws}
+use Rattle.lite_views.specs.Views.{Fits, ItemsAfter, Lists, ListsAs, Seen, ValueHolds, Waited}
 
 -- A future: `P` of the future and its value holds at the result with the value, and before each `Pending`.
 module _ {F A : Type 0} (step : F → Poll A → F → Type 0) (P : F → A → Type 0)
@@ -32,3 +33,39 @@ module _ {S A : Type 0} (step : S → Answer A → S → Type 0) (left : S → L
   pub lists_by_steps : (x : S) → Lists (FoldsTo step) x (left x)
   unfolding Lists
   lists_by_steps x l y = fits_from x y l
+
+-- A stream whose items are no function of its value: `Left x xs` says that `xs` are to come.
+module _ {S A : Type 0} (step : S → Answer A → S → Type 0) (Left : S → List A → Type 0)
+    (moves : (x y : S) (a : Answer A) (xs : List A) → Left x xs → step x a y → ItemsAfter Left a y xs) where
+  related_from : (x y : S) (l : List (Answer A)) (xs : List A) → Left x xs → FoldsTo step x l y → Fits l xs
+  related_from x y [] xs left h = tt
+  related_from x y (Pending ∷ l) xs left h = related_from h.0 y l xs (moves x h.0 Pending xs left h.1) h.2
+  related_from x y (Ready None ∷ l) xs left h = moves x h.0 end xs left h.1
+  related_from x y (Ready (Some a) ∷ l) xs left h =
+      let moved = moves x h.0 (item a) xs left h.1 in
+      subst (Fits (item a ∷ l)) (sym moved.1) (refl, related_from h.0 y l moved.0 moved.2 h.2)
+
+  pub lists_by_relation : (x : S) (xs : List A) → Left x xs → Lists (FoldsTo step) x xs
+  unfolding Lists
+  lists_by_relation x xs left l y = related_from x y l xs left
+
+-- What one poll of any stream leaves of its items.
+module _ {S A : Type 0} {run : Runs (Answer A) S} {hints : Hints S} (laws : StreamLaws run hints) (x y : S) where
+  after_front : (a : Answer A) (xs : List A) → ((l : List (Answer A)) (t : S) → run y l t → Fits (a ∷ l) xs)
+      → ItemsAfter (Lists run) a y xs
+  unfolding Lists
+  after_front Pending xs fits = fits
+  after_front (Ready None) xs fits = fits [] y (laws.rests y)
+  after_front (Ready (Some a)) [] fits = absurd (fits [] y (laws.rests y))
+  after_front (Ready (Some a)) (b ∷ xs) fits =
+      (xs, ap (λ c. c ∷ xs) (sym (fits [] y (laws.rests y)).0), λ l t ran. (fits l t ran).1)
+
+  pub lists_after : (a : Answer A) (xs : List A) → Lists run x xs → run x (a ∷ []) y → ItemsAfter (Lists run) a y xs
+  unfolding Lists
+  lists_after a xs known ran =
+      after_front a xs (λ l t h. known (a ∷ l) t (laws.follows x y t (a ∷ []) l ran h))
+
+-- In the form that contracts of nests have.
+pub lists_as : {S A : Type 0} (run : Runs (Answer A) S) (s : S) (xs : List A) → Lists run s xs → ListsAs run s xs
+unfolding Seen
+lists_as run s xs known = (refl, tt, known)
