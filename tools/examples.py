@@ -16,8 +16,9 @@ from vocabulary import snake
 # The crate that the tests are compiled in, and its line for crates.txt.
 NAME = "examples"
 LINE = f"{NAME} tests_may=Threads+Wait: futures_lite futures rand_core rand_pcg"
-# The crates in crates.txt that have the functions with clauses, one a module: they are proved side by side.
-PROVED = {it: f"proved_examples_{it}" for it in MODULES}
+# The crates in crates.txt that have the functions with clauses: one a module, and one for the methods of `StreamExt`. They are proved side by side.
+EXTENSION = "StreamExt"
+PROVED = {it: f"proved_examples_{snake(it)}" for it in (*MODULES, EXTENSION)}
 # What an example may name with no import of its own: the words of a clause, and what a function that waits takes.
 GHOST = {
     "Rattle.std.specs.Prelude": (
@@ -99,17 +100,20 @@ def merged(uses):
 @functools.cache
 def proofs():
     """Returns the files of the crates of proofs, by their paths below crates/, as `rt fmt` lays them out."""
-    files = {}
-    for module, crate in PROVED.items():
-        functions, uses = [], []
+    functions, uses = {it: [] for it in PROVED}, {it: [] for it in PROVED}
+    for module in MODULES:
         for item, number, block in blocks(module):
             found = proved_in(block)
-            uses += USE.findall(block) if found else []
+            part = EXTENSION if item.owner and item.owner.name == EXTENSION else module
+            uses[part] += USE.findall(block) if found else []
             # (two examples may have functions of one name)
-            functions += [re.sub(r"^fn (\w+)", rf"pub fn {name_of(item, number)}_\1", it, flags=re.M) for it in found]
-        if functions:
-            text, there = "\n".join(functions), merged(uses)
-            head = f"//! The functions with clauses in the examples of `futures_lite::{module}`.\n#![tactic(auto)]\n"
+            functions[part] += [re.sub(r"^fn (\w+)", rf"pub fn {name_of(item, number)}_\1", it, flags=re.M) for it in found]
+    files = {}
+    for part, crate in PROVED.items():
+        if functions[part]:
+            text, there = "\n".join(functions[part]), merged(uses[part])
+            told = f"in the examples of the methods of `futures_lite::{part}`" if part == EXTENSION else f"in the examples of `futures_lite::{part}`"
+            head = f"//! The functions with clauses {told}.\n#![tactic(auto)]\n"
             files[f"{crate}/src/lib.rt"] = laid_out(f"{head}{imports(text, there)}{there}\n{text}")
     return files
 

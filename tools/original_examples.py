@@ -22,7 +22,7 @@ This page has a line for each example in the documentation of futures-lite 2.6.1
 comment of its item, and in the item's entry in [docs/api](api/).
 
 - Proved: a function of the example has a clause that says what the original asserts, if it asserts anything. The gate
-  proves it with no proof file, in a crate `proved_examples_MODULE`. The tests also call it, if it returns.
+  proves it with no proof file, in one of the crates `proved_examples_*`. The tests also call it, if it returns.
 - Proved in part: there is such a function, and the line says which of the assertions its clause leaves out.
 - Tested: the tests run the example. The line says why no clause is proved of it.
 - Not here: the line says why.

@@ -1,2 +1,1 @@
-pub mod Either
 pub mod Tasks

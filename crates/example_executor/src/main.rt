@@ -1,14 +1,13 @@
 //! A small executor: futures of several types, each polled when it is new or woken.
 #![tactic(auto)]
 
-mod either;
 mod executor;
 mod fault;
 mod task;
 
-use either::Either;
 use executor::run;
-use futures_lite::{StreamExt, future, stream};
+use futures_lite::future::{self, Either, Exhausted};
+use futures_lite::{FutureExt, StreamExt, stream};
 use std::io;
 use task::Task;
 
@@ -18,15 +17,18 @@ fn main(rt: HostRuntime) -> io::Result<()> {
     let sum = numbers
         .with_budget(1)
         .fold(0u8, |sum: u8, x: u8| sum.wrapping_add(x));
+    // It is pending at each poll, and wakes its own task.
+    let endless = future::poll_fn(|cx| cx.yield_now::<u8>());
     let mut tasks = vec![in rt.alloc();
-        Task::new(Either::Other(Either::Other(future::pending::<u8>()))),
-        Task::new(Either::Other(Either::One(sum))),
-        Task::new(Either::One(future::ready(7u8))),
+        Task::new(Either::Right(Either::Right(endless.with_budget(10)))),
+        Task::new(Either::Right(Either::Left(sum.with_budget(10)))),
+        Task::new(Either::Left(future::ready(7u8).with_budget(10))),
     ]?;
-    run(&rt, &mut tasks, 2)?;
+    run(&rt, &mut tasks, 3)?;
     for task in tasks {
         match task.into_value() {
-            Some(value) => println!(rt; "{value}")?,
+            Some(Ok(value)) => println!(rt; "{value}")?,
+            Some(Err(Exhausted)) => println!(rt; "its budget ended")?,
             None => println!(rt; "it was not woken")?,
         }
     }

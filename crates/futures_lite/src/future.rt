@@ -9,7 +9,8 @@ pub use lite_base::future::block_on::BlockOn;
 use lite_base::future::make;
 pub use lite_base::future::make::{fuse, poll_once, yield_now, zip};
 pub use lite_base::future::{
-    Fuse, Or, Pending, PollFn, PollOnce, Race, Ready, TryZip, YieldNow, Zip,
+    Budgeted, Either, Exhausted, Fuse, Or, Pending, PollFn, PollOnce, Race, Ready, TryZip,
+    YieldNow, Zip,
 };
 use lite_base::{Context, Poll};
 use rand_core::{Rng, SeedableRng};
@@ -416,6 +417,32 @@ pub trait FutureExt: Future {
         ensures picked { PickedValue Self.run self F.run other ⟦<Or<Self, F> as Future>⟧.run result }
     {
         or(self, other)
+    }
+
+    /// Returns a future that polls this one at most `polls` times. Its value is `Ok` with the value of this one.
+    /// If the last of these polls is pending, the value is `Err(Exhausted)`. If `polls` is 0, it is so at the
+    /// first poll, and this future is not polled.
+    ///
+    /// Do not poll the future after its value. A future that nothing wakes is polled once by `block_on`, so it
+    /// does not come to the end of a larger budget.
+    ///
+    /// # Examples
+    ///
+    /// ```
+    /// use futures_lite::future::{self, Exhausted};
+    /// use futures_lite::FutureExt;
+    ///
+    /// let soon = future::yield_now().with_budget(2);
+    /// assert_eq!(rt; future::block_on(&rt, soon)?, Ok(()));
+    /// let late = future::yield_now().with_budget(1);
+    /// assert_eq!(rt; future::block_on(&rt, late)?, Err(Exhausted));
+    /// ```
+    final fn with_budget(self, polls: usize) -> Budgeted<Self>
+    where
+        Self: Sized,
+        ensures { result ≡ record { inner = self; left = polls } }
+    {
+        make::with_budget(self, polls)
     }
 
     /// Returns a future that resolves to the value of the future that is ready first. If both are, `rng`

@@ -1,5 +1,7 @@
 pub mod AtEachOk
+pub mod Budgeted
 pub mod Calls
+pub mod Either
 pub mod Finishes
 pub mod Fuse
 pub mod Half

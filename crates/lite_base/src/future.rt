@@ -8,7 +8,9 @@ ghost use Rattle.lite_base.specs.Registered.{Registered};
 use futures::task::{Context, Poll};
 
 pub mod block_on;
+mod budgeted;
 mod calm;
+mod either;
 mod fuse;
 mod half;
 pub mod make;
@@ -24,7 +26,9 @@ mod try_zip;
 mod yield_now;
 mod zip;
 
+pub use budgeted::{Budgeted, Exhausted};
 pub use calm::CalmFuture;
+pub use either::Either;
 pub use fuse::Fuse;
 pub use or::Or;
 pub use pending::Pending;

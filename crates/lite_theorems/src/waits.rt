@@ -15,8 +15,9 @@ use std::sync::Wait;
 
 /// Blocks this thread, by `on`, until one read into `buf` is done, and returns its value.
 ///
-/// The value is that of [`read`]. The reader produced the events of that value, and pendings. The call may
-/// wait for ever. The outer result is always `Ok`.
+/// The value is that of [`read`]. The reader produced the events of that value, and pendings. If its rank
+/// counted before, it counts after the call, by the lemma `told_counts`. The call may wait for ever. The
+/// outer result is always `Ok`.
 ///
 /// # Examples
 ///
@@ -49,8 +50,8 @@ pub fn wait_read<R: Wait, T: AsyncRead>(
 /// Blocks this thread, by `on`, until `buf` is full, and returns the value.
 ///
 /// The value is that of [`read_exact`]. If it is `Ok`, the reader produced exactly the bytes of the buffer.
-/// Otherwise it produced fewer, and then an end of file or the error. The call may wait for ever. The outer
-/// result is always `Ok`.
+/// Otherwise it produced fewer, and then an end of file or the error. If its rank counted before, it counts
+/// after the call, by the lemma `told_counts`. The call may wait for ever. The outer result is always `Ok`.
 ///
 /// # Examples
 ///

@@ -2,9 +2,12 @@
 ghost use Rattle.std.specs.Prelude.{◌⊎◌, Some, false, true};
 ghost use Rattle.lite_base.specs.Alike.{Alike};
 ghost use Rattle.lite_base.specs.Future.Calls.{NeverPends, Polled};
+ghost use Rattle.lite_base.specs.declared.future.either.Either.TheVariants.{Left, Right};
 ghost use Rattle.lite_base.specs.declared.future.half.Half.TheVariants.{Asked};
 
-use lite_base::future::{Fuse, Or, Pending, PollFn, PollOnce, Race, Ready, TryZip, YieldNow, Zip};
+use lite_base::future::{
+    Budgeted, Either, Fuse, Or, Pending, PollFn, PollOnce, Race, Ready, TryZip, YieldNow, Zip,
+};
 use lite_base::{CalmFuture, CalmStream, Context, Future, Poll, SteadyFuture, SteadyStream};
 use rand_core::Rng;
 
@@ -51,6 +54,22 @@ where
     ensures try_zip { ⟦<TryZip<C, T, D, T> as CalmFuture>⟧.is_calm (record { first = Asked c.now; second = Asked d.now }) }
     ensures yield_now { ⟦<YieldNow as CalmFuture>⟧.is_calm (record { yielded = true }) }
     ensures zip { ⟦<Zip<A, B> as CalmFuture>⟧.is_calm (record { first = Asked a.now; second = Asked b.now }) }
+{}
+
+/// One of two futures has the marks of that one. A future with a budget is calm if it is calm without.
+pub fn either_has_marks<A, B>(x: &A, y: &A, v: &B, w: &B, left: usize)
+where
+    A: SteadyFuture + CalmFuture,
+    B: SteadyFuture<Output = A::Output> + CalmFuture,
+    requires first { A.alike x.now y.now }
+    requires second { B.alike v.now w.now }
+    requires calm_first { A.is_calm x.now }
+    requires calm_second { B.is_calm v.now }
+    ensures first { ⟦<Either<A, B> as SteadyFuture>⟧.alike (Left x.now) (Left y.now) }
+    ensures second { ⟦<Either<A, B> as SteadyFuture>⟧.alike (Right v.now) (Right w.now) }
+    ensures calm_first { ⟦<Either<A, B> as CalmFuture>⟧.is_calm (Left x.now) }
+    ensures calm_second { ⟦<Either<A, B> as CalmFuture>⟧.is_calm (Right v.now) }
+    ensures budget { ⟦<Budgeted<A> as CalmFuture>⟧.is_calm (record { inner = x.now; left = left }) }
 {}
 
 /// What is lent has the marks of what lends it.

@@ -1,7 +1,10 @@
 ghost use Rattle.lite_base.specs.Calm.{CalmLaws};
 ghost use Rattle.lite_base.specs.Future.Calls.{NeverPends};
+ghost use Rattle.lite_base.specs.Future.Either.{OfEither};
 ghost use Rattle.lite_base.specs.Future.Half.{IfAsked};
+ghost use Rattle.lite_base.specs.Laws.Future.Budgeted.{budgets_calm};
 ghost use Rattle.lite_base.specs.Laws.Future.Calls.{polled_calm};
+ghost use Rattle.lite_base.specs.Laws.Future.Either.{either_calm};
 ghost use Rattle.lite_base.specs.Laws.Future.Or.{ors_calm};
 ghost use Rattle.lite_base.specs.Laws.Future.PollOnce.{tells_calm};
 ghost use Rattle.lite_base.specs.Laws.Future.Race.{races_calm};
@@ -11,7 +14,7 @@ ghost use Rattle.lite_base.specs.Laws.Future.YieldNow.{yields_calm};
 ghost use Rattle.lite_base.specs.Laws.Future.Zip.{zips_calm};
 ghost use Rattle.std.specs.Prelude.{true, ⊤, ◌≡◌, ◌⊎◌};
 
-use super::{Future, Or, PollFn, PollOnce, Race, Ready, TryZip, YieldNow, Zip};
+use super::{Budgeted, Either, Future, Or, PollFn, PollOnce, Race, Ready, TryZip, YieldNow, Zip};
 use crate::{Context, Poll};
 use rand_core::Rng;
 
@@ -24,6 +27,19 @@ pub trait CalmFuture: Future {
     fn is_calm_future(&self) {}
 
     ghost calm: { CalmLaws Self.run is_calm };
+}
+
+impl<F: CalmFuture> CalmFuture for Budgeted<F> {
+    ghost is_calm = { λ x. F.is_calm x.inner };
+
+    ghost calm = { budgets_calm F.calm };
+}
+
+// Of the two the one that it is.
+impl<A: CalmFuture, B: CalmFuture<Output = A::Output>> CalmFuture for Either<A, B> {
+    ghost is_calm = { OfEither A.is_calm B.is_calm };
+
+    ghost calm = { either_calm A.calm B.calm };
 }
 
 // One of the two that is never pending is enough.

@@ -3,7 +3,9 @@ ghost use Rattle.std.specs.Prelude.{◌≡◌, None, Result, Some, false};
 ghost use Rattle.lite_base.specs.declared.future.half.Half.TheVariants.{Asked};
 
 use super::half::Half;
-use super::{Fuse, Future, Or, Pending, PollFn, PollOnce, Race, Ready, TryZip, YieldNow, Zip};
+use super::{
+    Budgeted, Fuse, Future, Or, Pending, PollFn, PollOnce, Race, Ready, TryZip, YieldNow, Zip,
+};
 use crate::{Context, Poll};
 use rand_core::{Rng, SeedableRng};
 use rand_pcg::Pcg32;
@@ -213,5 +215,16 @@ pub fn fuse<F: Future>(future: F) -> Fuse<F>
 {
     Fuse {
         inner: Some(future),
+    }
+}
+
+/// Returns a future that polls `future` at most `polls` times. Its value is `Ok` with that of `future`. If the
+/// last of these polls is pending, the value is `Err(Exhausted)`, and it is so at once if `polls` is 0.
+pub fn with_budget<F>(future: F, polls: usize) -> Budgeted<F>
+    ensures { result ≡ record { inner = future; left = polls } }
+{
+    Budgeted {
+        inner: future,
+        left: polls,
     }
 }

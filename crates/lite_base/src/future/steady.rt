@@ -3,12 +3,15 @@ ghost use Rattle.lite_base.specs.Uses.{Poll};
 ghost use Rattle.lite_base.specs.Alike.{Alike, OptionBy, Pairwise, Sameness};
 ghost use Rattle.lite_base.specs.Answers.{Waiting};
 ghost use Rattle.lite_base.specs.Future.Calls.{Polled};
+ghost use Rattle.lite_base.specs.Alike.{Either as SameEither};
+ghost use Rattle.lite_base.specs.Future.Either.{BothEither, EitherRuns};
 ghost use Rattle.lite_base.specs.Future.Fuse.{FutureFuses};
 ghost use Rattle.lite_base.specs.Future.Half.{HalvesBy};
 ghost use Rattle.lite_base.specs.Future.Ready.{GivesHeld};
 ghost use Rattle.lite_base.specs.Future.YieldNow.{YieldsOnce};
 ghost use Rattle.lite_base.specs.Future.Zip.{FutureZips};
 ghost use Rattle.lite_base.specs.Laws.Future.Calls.{polled_steady};
+ghost use Rattle.lite_base.specs.Laws.Future.Either.{either_steady};
 ghost use Rattle.lite_base.specs.Laws.Future.Fuse.{fuses_steady};
 ghost use Rattle.lite_base.specs.Laws.Future.Pending.{waits_steady};
 ghost use Rattle.lite_base.specs.Laws.Future.Ready.{held_steady};
@@ -17,7 +20,7 @@ ghost use Rattle.lite_base.specs.Laws.Future.Zip.{zips_steady};
 ghost use Rattle.lite_base.specs.Steady.{FutureSteadyLawsBy};
 ghost use Rattle.lite_base.specs.Runs.{Runs};
 
-use super::{Fuse, Future, Pending, PollFn, Ready, YieldNow, Zip};
+use super::{Either, Fuse, Future, Pending, PollFn, Ready, YieldNow, Zip};
 use crate::{Context, Poll};
 
 /// A future whose value does not depend on when it was pending, unless memory was refused.
@@ -38,6 +41,18 @@ pub trait SteadyFuture: Future {
     fn is_steady_future(&self) {}
 
     ghost steady: { FutureSteadyLawsBy same Self.run ample needs_none alike };
+}
+
+impl<A: SteadyFuture, B: SteadyFuture<Output = A::Output>> SteadyFuture for Either<A, B> {
+    ghost ample = { EitherRuns A.ample B.ample };
+
+    ghost needs_none = { A.needs_none × B.needs_none };
+
+    ghost same = { SameEither A.same B.same };
+
+    ghost alike = { BothEither A.alike B.alike };
+
+    ghost steady = { either_steady A.steady B.steady };
 }
 
 impl<F: SteadyFuture + Drop> SteadyFuture for Fuse<F> {
