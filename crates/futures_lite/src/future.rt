@@ -9,7 +9,7 @@ pub use lite_base::future::block_on::BlockOn;
 use lite_base::future::make;
 pub use lite_base::future::make::{fuse, poll_once, yield_now, zip};
 pub use lite_base::future::{
-    Fuse, Or, Pending, PollFn, PollOnce, Race, Ready, TryZip, YieldNow, Zip,
+    Fuse, Or, Pending, PollFn, PollOnce, Race, Ready, TryZip, Waits, YieldNow, Zip,
 };
 use lite_base::{Context, Poll};
 use rand_core::{Rng, SeedableRng};
