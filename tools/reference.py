@@ -23,7 +23,7 @@ TRAITS = "Traits"
 # The groups of a page, with where the code of their items stands; the longest path decides.
 GROUPS = {
     "future": {
-        "Waiting on this thread": ("lite_base/src/future/block_on.rt",),
+        "Waiting on this thread": ("lite_base/src/future/block_on.rt", "lite_base/src/future/waits.rt"),
         "Making a future": ("lite_base/src/future",),
         "Combining futures": tuple(f"lite_base/src/future/{it}.rt" for it in ("or", "race", "zip", "try_zip")),
     },

@@ -1,9 +1,14 @@
 //! Readers and writers. A case of a reader reads `n` bytes, one of a writer makes `n` writes.
 
 use crate::fault::Fault;
-use futures_lite::io::{AsyncBufRead, AsyncRead, AsyncReadExt, AsyncWrite, BufReader, Cursor};
-use futures_lite::{Context, Poll, Stream};
-use std::alloc::{AllocError, Global};
+use futures_lite::io::{
+    AsyncBufRead, AsyncRead, AsyncReadExt, AsyncWrite, BlockOn, BufReader, Cursor,
+};
+use futures_lite::{Context, Poll, Stream, future};
+use std::alloc::{AllocError, AllocGlobal, Global};
+use std::io::Read;
+use std::random::RandomSource;
+use std::sync::Wait;
 
 /// How many bytes one write of `cursor_overwrite` and `cursor_extend` offers.
 pub(crate) const BLOCK: u64 = 16;
@@ -145,6 +150,46 @@ pub(crate) fn bytes(alloc: Global, cx: &mut Context<'_>, n: u64) -> Result<u64, 
             break;
         };
         sum = sum.wrapping_add(byte as u64);
+    }
+    Ok(sum)
+}
+
+/// As `cursor_read`, with a wait for each byte.
+#[inline(never)]
+pub(crate) fn blocking_read<R>(rt: R, n: u64) -> Result<u64, Fault>
+where
+    R: Wait + RandomSource + AllocGlobal + Copy,
+{
+    let bytes = noise(rt.alloc(), n)?;
+    let mut reader = BlockOn::new(rt, Cursor::new(bytes.as_slice()));
+    let mut sum = 0u64;
+    let mut room = [0u8; 1];
+    for _ in 0..n {
+        let Ok(1) = reader.read(&mut room) else {
+            break;
+        };
+        sum = sum.wrapping_add(room[0] as u64);
+    }
+    Ok(sum)
+}
+
+/// As `blocking_read`, with one context for all waits.
+#[inline(never)]
+pub(crate) fn waits_read<R>(rt: &R, n: u64) -> Result<u64, Fault>
+where
+    R: Wait + RandomSource + AllocGlobal,
+{
+    let bytes = noise(rt.alloc(), n)?;
+    let mut reader = Cursor::new(bytes.as_slice());
+    let mut on = future::BlockOn::new(rt)?;
+    let mut waits = on.waits();
+    let mut sum = 0u64;
+    let mut room = [0u8; 1];
+    for _ in 0..n {
+        let Ok(1) = waits.wait_for(rt, &mut reader.read(&mut room)) else {
+            break;
+        };
+        sum = sum.wrapping_add(room[0] as u64);
     }
     Ok(sum)
 }

@@ -10,7 +10,7 @@ use std::random::RandomSource;
 use std::sync::Wait;
 
 /// Cases of streams, their sizes, and the items that they fold.
-const FOLDS: [(&str, u64, &[u64]); 27] = [
+const FOLDS: [(&str, u64, &[u64]); 29] = [
     ("iter", 4, &[0, 1, 2, 3]),
     ("map", 4, &[0, 3, 6, 9]),
     ("filter", 6, &[1, 2, 3, 5]),
@@ -30,6 +30,8 @@ const FOLDS: [(&str, u64, &[u64]); 27] = [
     ("nest_of_eight", 8, &[15, 11, 23, 19]),
     ("joined", 12, &[6, 10, 14, 18, 22]),
     ("next", 4, &[5, 4, 7, 6]),
+    ("blocking_next", 4, &[5, 4, 7, 6]),
+    ("waits_next", 4, &[5, 4, 7, 6]),
     ("fold", 4, &[0, 1, 2, 3]),
     ("collect", 4, &[0, 1, 2, 3]),
     ("zip_streams", 4, &[5, 7, 9, 11]),
@@ -43,7 +45,7 @@ const FOLDS: [(&str, u64, &[u64]); 27] = [
 
 /// Cases, their sizes, and their numbers: of texts all bytes that are read, of writers all that are written, of futures
 /// all values.
-const NUMBERS: [(&str, u64, u64); 33] = [
+const NUMBERS: [(&str, u64, u64); 35] = [
     ("made_noise", 600, 600),
     ("made_text", 6, 96),
     ("made_lines_8", 6, 48),
@@ -61,6 +63,8 @@ const NUMBERS: [(&str, u64, u64); 33] = [
     ("zip_of_eight", 3, 18),
     ("split", 6, 90),
     ("read_until", 6, 96),
+    ("read_line", 6, 96),
+    ("read_line_growing", 6, 96),
     ("read_exact", 6, 288),
     ("read_to_end", 600, 600),
     ("cursor_overwrite", 6, 96),
@@ -81,7 +85,7 @@ const NUMBERS: [(&str, u64, u64); 33] = [
 ];
 
 /// Cases of readers, which read each byte of a noise once.
-const READERS: [&str; 8] = [
+const READERS: [&str; 10] = [
     "bytes",
     "cursor_read",
     "buf_reader",
@@ -90,6 +94,8 @@ const READERS: [&str; 8] = [
     "take_fill",
     "chain_fill",
     "half",
+    "blocking_read",
+    "waits_read",
 ];
 
 /// Whether each case gives the number that it has to: `Wrong` names the first that doesn't.

@@ -2,8 +2,11 @@
 
 use crate::fault::Fault;
 use crate::polled::with_item;
+use futures_lite::future::BlockOn;
 use futures_lite::{Context, Future, Poll, StreamExt, stream};
-use std::alloc::Global;
+use std::alloc::{AllocError, AllocGlobal, Global};
+use std::random::RandomSource;
+use std::sync::Wait;
 
 #[inline(never)]
 pub(crate) fn next(cx: &mut Context<'_>, n: u64, polls: u64) -> u64 {
@@ -16,6 +19,42 @@ pub(crate) fn next(cx: &mut Context<'_>, n: u64, polls: u64) -> u64 {
         sum = with_item(sum, x);
     }
     sum
+}
+
+/// As `next`, with a wait for each item.
+#[inline(never)]
+pub(crate) fn blocking_next<R>(rt: R, n: u64, waits: u64) -> Result<u64, AllocError>
+where
+    R: Wait + RandomSource + AllocGlobal + Copy,
+{
+    let mut numbers = stream::block_on(rt, stream::iter(0..n).map(|x: u64| x ^ 5));
+    let mut sum = 0u64;
+    for _ in 0..waits {
+        let Some(x) = numbers.next()? else {
+            break;
+        };
+        sum = with_item(sum, x);
+    }
+    Ok(sum)
+}
+
+/// As `blocking_next`, with one context for all waits.
+#[inline(never)]
+pub(crate) fn waits_next<R>(rt: &R, n: u64, waits: u64) -> Result<u64, AllocError>
+where
+    R: Wait + RandomSource + AllocGlobal,
+{
+    let mut numbers = stream::iter(0..n).map(|x: u64| x ^ 5);
+    let mut on = BlockOn::new(rt)?;
+    let mut waiting = on.waits();
+    let mut sum = 0u64;
+    for _ in 0..waits {
+        let Some(x) = waiting.wait_for(rt, &mut numbers.next()) else {
+            break;
+        };
+        sum = with_item(sum, x);
+    }
+    Ok(sum)
 }
 
 #[inline(never)]

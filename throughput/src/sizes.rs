@@ -13,8 +13,10 @@ pub(crate) fn size_of_nest(alloc: Global, number: u64) -> Result<u64, Fault> {
         Ok(of_streams(number) as u64)
     } else if number < 18 {
         Ok(of_futures(alloc, number) as u64)
-    } else {
+    } else if number < 27 {
         of_readers(alloc, number)
+    } else {
+        of_calls(alloc, number)
     }
 }
 
@@ -72,6 +74,21 @@ fn of_readers(alloc: Global, number: u64) -> Result<u64, Fault> {
             Ok(writer) => size_of_val(&writer),
             Err(_) => return Err(Fault::Memory),
         },
+        _ => 0,
+    };
+    Ok(size as u64)
+}
+
+fn of_calls(alloc: Global, number: u64) -> Result<u64, Fault> {
+    let mut reader = buffered(alloc, b"")?;
+    let mut text = String::new(alloc);
+    let mut block = [0u8; 16];
+    let size = match number {
+        27 => size_of_val(&stream::unfold(0u64, |s: u64| future::ready(Some((s, s ^ 1))))),
+        28 => size_of_val(&reader.fill_buf()),
+        29 => size_of_val(&reader.read_exact(&mut block)),
+        30 => size_of_val(&reader.read_line(&mut text)),
+        31 => size_of_val(&reader.read_to_string(&mut text)),
         _ => 0,
     };
     Ok(size as u64)

@@ -123,6 +123,39 @@ pub(crate) fn read_until(alloc: Global, cx: &mut Context<'_>, n: u64) -> Result<
     Ok(sum)
 }
 
+/// So many lines into one text, which is emptied before each.
+#[inline(never)]
+pub(crate) fn read_line(alloc: Global, cx: &mut Context<'_>, n: u64) -> Result<u64, Fault> {
+    let bytes = text(alloc, n)?;
+    let mut reader = buffered(alloc, &bytes)?;
+    let mut line = String::new(alloc);
+    let mut sum = 0u64;
+    for _ in 0..n {
+        line.clear();
+        let Poll::Ready(Ok(read)) = reader.read_line(&mut line).poll(cx) else {
+            break;
+        };
+        sum = sum.wrapping_add(read as u64);
+    }
+    Ok(sum)
+}
+
+/// So many lines, one after another, into one text.
+#[inline(never)]
+pub(crate) fn read_line_growing(alloc: Global, cx: &mut Context<'_>, n: u64) -> Result<u64, Fault> {
+    let bytes = text(alloc, n)?;
+    let mut reader = buffered(alloc, &bytes)?;
+    let mut lines = String::new(alloc);
+    let mut sum = 0u64;
+    for _ in 0..n {
+        let Poll::Ready(Ok(read)) = reader.read_line(&mut lines).poll(cx) else {
+            break;
+        };
+        sum = sum.wrapping_add(read as u64);
+    }
+    Ok(sum)
+}
+
 /// So many reads that fill 16 bytes.
 #[inline(never)]
 pub(crate) fn read_exact(alloc: Global, cx: &mut Context<'_>, n: u64) -> Result<u64, Fault> {

@@ -9,7 +9,7 @@ pub use lite_base::future::block_on::BlockOn;
 use lite_base::future::make;
 pub use lite_base::future::make::{fuse, poll_once, yield_now, zip};
 pub use lite_base::future::{
-    Budgeted, Either, Exhausted, Fuse, Or, Pending, PollFn, PollOnce, Race, Ready, TryZip,
+    Budgeted, Either, Exhausted, Fuse, Or, Pending, PollFn, PollOnce, Race, Ready, TryZip, Waits,
     YieldNow, Zip,
 };
 use lite_base::{Context, Poll};

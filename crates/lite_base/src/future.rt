@@ -23,6 +23,7 @@ mod race;
 mod ready;
 mod steady;
 mod try_zip;
+mod waits;
 mod yield_now;
 mod zip;
 
@@ -38,6 +39,7 @@ pub use race::Race;
 pub use ready::Ready;
 pub use steady::SteadyFuture;
 pub use try_zip::TryZip;
+pub use waits::Waits;
 pub use yield_now::YieldNow;
 pub use zip::Zip;
 

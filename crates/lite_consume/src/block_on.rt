@@ -32,6 +32,9 @@ use std::sync::Wait;
 /// The first method that is called allocates what a wait needs. If that fails, the method returns `Err`, and
 /// the stream was not polled. No later call allocates, so no later call returns `Err`. Unlike that of
 /// futures-lite, the type is no `Iterator`, because the first call may fail.
+///
+/// Each call makes a context of its own. A loop that waits for one item after another is faster with
+/// `future::Waits`, whose waits share a context.
 #[derive(Drop)]
 pub struct BlockOn<R, S> {
     pub(crate) rt: R,

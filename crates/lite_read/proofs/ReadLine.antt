@@ -1,16 +1,18 @@
 -- The steps of `read_line`.
-use Rattle.std.specs.Prelude.{◌≡◌, ◌<◌, ◌+◌, ℕ, List, [], ◌++◌, Some, None, Result, Ok, Err, length, take, string_bytes}
-use Rattle.lite_read.specs.Uses.{refl, sym, subst, arith, error_kind, FoldsTo, Error, OutOfMemory, IsFirstByte, is_byte, Ready, ReadMark, bytes, filled}
-use Rattle.lite_read.specs.Uses.{MarkLaws, Runs}
+use Rattle.std.specs.Prelude.{◌≡◌, ◌<◌, ◌+◌, ℕ, List, [], ◌++◌, Some, None, Result, Ok, Err, length, take, IfErr, IfOk, IsUtf8, string_bytes, true}
+use Rattle.lite_read.specs.Uses.{◌∙◌, inl, refl, sym, subst, arith, append-nil, length-take-le, error_kind, FoldsTo, Error, OutOfMemory, IsFirstByte, is_byte}
+use Rattle.lite_read.specs.Uses.{Ready, ReadMark, bytes, filled, MarkLaws, Runs}
 use Rattle.lite_read.specs.ReadFold.{AnswerMarks}
 use Rattle.lite_read.proofs.Cutting.{fill_then, found_at, found_none, takes_all}
 use Rattle.lite_read.specs.ReadUntil.{CountsPiece}
-use Rattle.lite_read.specs.Holding.{TextStays}
-use Rattle.lite_read.specs.ReadLine.{LineHolds, line_over, read_line_fold}
-use Rattle.lite_read.specs.Texts.{FinishesText}
-use Rattle.lite_read.specs.TextSteps.{AnswersText, TakesTextIn}
+use Rattle.lite_read.proofs.Lacking.{lacks_through, through_found}
+use Rattle.lite_read.specs.Holding.{TextStays, room_for}
+use Rattle.lite_read.specs.ReadLine.{LineHolds, LineLacksMemory, line_over, read_line_fold}
+use Rattle.lite_read.specs.Texts.{AppendsText, FinishesText, ValueOf}
+use Rattle.lite_read.specs.TextSteps.{AnswersText, AnswersTextByRoom, TakesTextIn}
 use Rattle.lite_read.specs.declared.read_line.ReadLineFuture.{ReadLineFuture}
-use Rattle.lite_read.proofs.TextSteps.{text_finished}
+use Rattle.lite_read.proofs.Texts.{all_utf8}
+use Rattle.lite_read.proofs.TextSteps.{text_finished, text_given, text_value}
 use Rattle.lite_read.proofs.Until.{cut_off, refused}
 
 -- the future whose reader was filled
@@ -70,3 +72,41 @@ module _ {R A : Type 0} (m : List ℕ → Type 0) {reads : Runs ReadMark R} (law
           folds = subst (λ l. FoldsTo (read_line_fold m).takes x.bytes.items shown l) (sym more) all;
           stays = (from, text, holds, grows);
         }
+
+-- a line that is whole in the buffer goes into the text at once
+module _ {R A : Type 0} (lent : R → List ℕ) {reads : Runs ReadMark R} (laws : MarkLaws reads) (x y : ReadLineFuture R A)
+    (mid : R) (stays : TextStays line_over (after_fill x mid) y) (fills : reads x.reader.now (filled (lent mid)) mid)
+    (none : x.bytes.items ≡ []) (left : y.bytes.items ≡ []) (holds : LineHolds y) (k : ℕ)
+    (first : IsFirstByte (is_byte 10) (lent mid) (Some k)) where
+  abbrev line : List ℕ
+  line = take (k + 1) (lent mid)
+
+  given : (marks : List ReadMark) (v r : Result ℕ Error) (all : List ℕ)
+      → AnswerMarks (read_line_fold (LineLacksMemory lent x y)) x.bytes.items marks (Ready v) all → ValueOf all v r
+      → AppendsText all (string_bytes x.text.now) (string_bytes y.text.now) → reads mid marks y.reader.now
+      → AnswersTextByRoom line_over read_line_fold (LineLacksMemory lent) reads x (Ready r) y
+  given marks v r all h value gains took =
+      let some : 0 < length (lent mid) = omega (arith, (found_at 10 (lent mid) k first).0) in
+      text_value line_over read_line_fold (LineLacksMemory lent) x y r (
+        text_given line_over (read_line_fold (LineLacksMemory lent x y)) reads x y
+            (record { reader = stays.reader; text = stays.text }) marks v r all h value gains left
+            (fill_then laws (lent mid) some fills took),
+        holds,
+      )
+
+  pub line_direct : (r : Result ℕ Error) → IsUtf8 line → IfOk r (λ n. n ≡ k + 1)
+      → IfOk r (λ n. string_bytes y.text.now ≡ string_bytes x.text.now ++ line)
+      → IfOk r (λ n. reads mid (bytes line) y.reader.now)
+      → IfErr r (λ e. error_kind e ≡ OutOfMemory) → IfErr r (λ e. room_for x.text.now x.bytes < k + 1)
+      → IfErr r (λ e. y.reader.now ≡ mid) → IfErr r (λ e. string_bytes y.text.now ≡ string_bytes x.text.now)
+      → AnswersTextByRoom line_over read_line_fold (LineLacksMemory lent) reads x (Ready r) y
+  line_direct (Ok n) utf8 count grown took refusal full unread same =
+      let long : n ≡ length line =
+      omega (arith, count, (found_at 10 (lent mid) k first).0, length-take-le (k + 1) (lent mid)) in
+      let h = cut_off 10 x.bytes.items (lent mid) line k n first (rw none refl) long in
+      given (bytes line) (Ok n) (Ok n) line h (utf8, refl) (inl (utf8, grown)) took
+  line_direct (Err e) utf8 count grown took refusal full unread same =
+      let lacks = lacks_through 10 lent unread none (through_found 10 (lent mid) k first) (omega (arith, full)) in
+      let h = refused 10 x.bytes.items [] e refusal lacks (sym none) in
+      given [] (Err e) (Err e) [] h refl (inl (all_utf8 [] true refl refl, same ∙ sym (append-nil _)))
+      (rw unread (laws.rests mid))

@@ -39,6 +39,37 @@ pub(crate) fn take_in<R: AsyncBufRead, A: Allocator + Copy>(
     Ok(())
 }
 
+/// Appends the first `amount` bytes of the buffer of `reader` to the text, and consumes them. It returns `Err`
+/// if memory is refused. Nothing but the capacity of the text changes then.
+pub(crate) fn take_text<R: AsyncBufRead, A: Allocator>(
+    reader: &mut R,
+    amount: usize,
+    text: &mut String<A>,
+) -> io::Result<()>
+    requires within { amount ≤ length (R.lent reader.old) }
+    requires utf8 { IsUtf8 (take amount (R.lent reader.old)) }
+    ensures ok { IfOk result (λ u. string_bytes text.new ≡ string_bytes text.old ++ take amount (R.lent reader.old)) }
+    ensures taken { IfOk result (λ u. R.reads reader.old (read_bytes (take amount (R.lent reader.old))) reader.new) }
+    ensures refused { IfErr result (λ e. error_kind e ≡ OutOfMemory) }
+    ensures full { IfErr result (λ e. string_capacity text.old < string_len text.old + amount) }
+    ensures unread { IfErr result (λ e. reader.new ≡ reader.old) }
+    ensures unchanged { IfErr result (λ e. string_bytes text.new ≡ string_bytes text.old) }
+{
+    append_text(text, &reader.buffer()[..amount])?;
+    reader.consume(amount);
+    Ok(())
+}
+
+/// Returns whether the first `amount` bytes of the buffer of `reader` are UTF-8. If `known` says that they
+/// are, it does not check them.
+pub(crate) fn lends_text<R: AsyncBufRead>(reader: &R, amount: usize, known: bool) -> bool
+    requires within { amount ≤ length (R.lent reader.now) }
+    requires known { known ≡ true → IsUtf8 (take amount (R.lent reader.now)) }
+    ensures { result ≡ true → IsUtf8 (take amount (R.lent reader.now)) }
+{
+    known || is_utf8(&reader.buffer()[..amount])
+}
+
 // Adds a piece. `Err` says that memory was refused; the bytes stay then.
 fn hold<A: Allocator + Copy>(
     text: &mut String<A>,
@@ -155,18 +186,20 @@ fn add_text<A: Allocator + Copy>(text: &mut String<A>, bytes: &mut Vec<u8, A>, k
         let alloc = *text.allocator();
         *text = unsafe { String::from_utf8_unchecked(mem::replace(bytes, Vec::new(alloc))) };
     } else {
-        append_text(text, bytes);
+        let appended = append_text(text, bytes);
+        prove!(appended.is_ok());
     }
     true
 }
 
-fn append_text<A: Allocator>(text: &mut String<A>, bytes: &[u8])
-    requires has_room { string_len text.old + length bytes.now ≤ string_capacity text.old }
-    requires utf8 { IsUtf8 bytes.now }
-    ensures { string_bytes text.new ≡ string_bytes text.old ++ bytes.now }
+// Adds bytes that are UTF-8. `Err` says that memory was refused; the text stays then.
+fn append_text<A: Allocator>(text: &mut String<A>, bytes: &[u8]) -> Result<(), AllocError>
+    requires { IsUtf8 bytes.now }
+    ensures ok { OnOk result (string_bytes text.new ≡ string_bytes text.old ++ bytes.now) }
+    ensures err { OnErr result (string_bytes text.new ≡ string_bytes text.old) }
+    ensures full { OnErr result (string_capacity text.old < string_len text.old + length bytes.now) }
 {
-    let appended = text.push_str(unsafe { str::from_utf8_unchecked(bytes) });
-    prove!(appended.is_ok());
+    text.push_str(unsafe { str::from_utf8_unchecked(bytes) })
 }
 
 fn is_utf8(bytes: &[u8]) -> bool

@@ -1,4 +1,4 @@
-ghost use Rattle.std.specs.Prelude.{⊤, ◌≡◌, ◌≤◌, ◌<◌, ◌++◌, ◌+◌, Ok, length, take, IfErr, IfOk, string_bytes};
+ghost use Rattle.std.specs.Prelude.{⊤, ◌≡◌, ◌≤◌, ◌<◌, [], ◌++◌, ◌+◌, Ok, true, length, take, IfErr, IfOk, IsUtf8, string_bytes, vec_capacity};
 ghost use Rattle.lite_read.specs.Uses.{is_ascii, error_kind, list_all, OutOfMemory, OneStep, Terminates-map, bytes};
 ghost use Rattle.lite_read.specs.Laws.PollSteps.{takes_given};
 ghost use Rattle.lite_read.specs.Holding.{TextStays, room_for};
@@ -8,7 +8,7 @@ ghost use Rattle.lite_read.specs.Texts.{FinishesText};
 ghost use Rattle.lite_read.specs.TextSteps.{AnswersTextByRoom, TakesTextIn};
 
 use crate::find::find_line;
-use crate::held::{finish, take_in};
+use crate::held::{finish, lends_text, take_in, take_text};
 use lite_base::{Context, Future, Poll, PollSteps, drive};
 use lite_io_base::{AsyncBufRead, CountedRead};
 use std::alloc::{Allocator, Global};
@@ -25,8 +25,9 @@ use std::io;
 /// these two, the bytes read so far are appended if they are UTF-8, and dropped if not. Bytes refused for
 /// lack of memory are not read.
 ///
-/// The bytes are read into the memory of the text if that is empty, or into more memory, which the text takes
-/// over. So a text that is cleared before each line allocates only for a longer line.
+/// A line that is whole in the buffer of the reader is appended to the text at once. The pieces of any other
+/// line are read into the memory of the text if that is empty, or into more memory, which the text takes over.
+/// So a text that is cleared before each line allocates only for a longer line.
 #[derive(Debug, Drop)]
 pub struct ReadLineFuture<'a, R, A: Allocator = Global> {
     pub(crate) reader: &'a mut R,
@@ -63,6 +64,40 @@ impl<R: AsyncBufRead, A: Allocator + Copy> ReadLineFuture<'_, R, A> {
         take_in(self.reader, amount, self.text, &mut self.bytes)?;
         self.ascii &= ascii;
         Ok(())
+    }
+
+    // Returns whether a line in the first `amount` bytes of the buffer can be appended to the text at once: no
+    // part of it was read before, and it is UTF-8.
+    fn is_direct(&self, amount: usize, ascii: bool) -> bool
+        requires within { amount ≤ length (R.lent self.now.reader.now) }
+        requires ascii { ascii ≡ list_all is_ascii (take amount (R.lent self.now.reader.now)) }
+        ensures none { result ≡ true → vec_capacity self.now.bytes ≡ 0 }
+        ensures utf8 { result ≡ true → IsUtf8 (take amount (R.lent self.now.reader.now)) }
+    {
+        self.bytes.capacity() == 0 && lends_text(self.reader, amount, ascii)
+    }
+
+    // Appends the line in the first `amount` bytes of the buffer to the text at once, and returns the value.
+    fn append_line(&mut self, amount: usize) -> io::Result<usize>
+        requires held { LineHolds self.old }
+        requires none { vec_capacity self.old.bytes ≡ 0 }
+        requires within { amount ≤ length (R.lent self.old.reader.now) }
+        requires utf8 { IsUtf8 (take amount (R.lent self.old.reader.now)) }
+        ensures held { LineHolds self.new }
+        ensures stays { TextStays line_over self.old self.new }
+        ensures none { (self.old.bytes.items ≡ []) × (self.new.bytes.items ≡ []) }
+        ensures value { IfOk result (λ n. n ≡ amount) }
+        ensures ok { IfOk result (λ n. string_bytes self.new.text.now
+            ≡ string_bytes self.old.text.now ++ take amount (R.lent self.old.reader.now)) }
+        ensures taken { IfOk result (λ n. R.reads self.old.reader.now
+            (bytes (take amount (R.lent self.old.reader.now))) self.new.reader.now) }
+        ensures refused { IfErr result (λ e. error_kind e ≡ OutOfMemory) }
+        ensures full { IfErr result (λ e. room_for self.old.text.now self.old.bytes < amount) }
+        ensures unread { IfErr result (λ e. self.new.reader.now ≡ self.old.reader.now) }
+        ensures unchanged { IfErr result (λ e. string_bytes self.new.text.now ≡ string_bytes self.old.text.now) }
+    {
+        take_text(self.reader, amount, self.text)?;
+        Ok(amount)
     }
 
     // The value of a line that was read whole.
@@ -109,10 +144,15 @@ impl<R: AsyncBufRead + CountedRead, A: Allocator + Copy> PollSteps for ReadLineF
 
     fn poll_step(&mut self, cx: &mut Context<'_>) -> Option<Poll<io::Result<usize>>> {
         match find_line(self.reader, cx) {
-            Poll::Ready(Ok((Some(at), ascii))) => match self.take_in(at + 1, ascii) {
-                Ok(()) => Some(Poll::Ready(self.whole())),
-                Err(e) => Some(Poll::Ready(self.finish(Err(e)))),
-            },
+            Poll::Ready(Ok((Some(at), ascii))) => {
+                if self.is_direct(at + 1, ascii) {
+                    return Some(Poll::Ready(self.append_line(at + 1)));
+                }
+                match self.take_in(at + 1, ascii) {
+                    Ok(()) => Some(Poll::Ready(self.whole())),
+                    Err(e) => Some(Poll::Ready(self.finish(Err(e)))),
+                }
+            }
             Poll::Ready(Ok((None, ascii))) => {
                 let amount = lent_by(self.reader);
                 if amount == 0 {

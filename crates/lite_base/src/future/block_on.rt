@@ -4,7 +4,7 @@ ghost use Rattle.lite_base.specs.Uses.{Poll};
 ghost use Rattle.lite_base.specs.Answers.{Gives};
 ghost use Rattle.lite_base.specs.Future.Finishes.{Finishes};
 
-use super::Future;
+use super::{Future, Waits};
 use crate::Poll;
 use futures::task::{Doorbell, Queue, Source, Waker};
 use std::alloc::{AllocError, AllocGlobal};
@@ -154,6 +154,30 @@ impl BlockOn {
             }
         }
         unreachable!()
+    }
+
+    /// Begins waits that follow one another.
+    ///
+    /// Each [`wait_for`](BlockOn::wait_for) makes a context, and ends it. The waits of a [`Waits`] share one,
+    /// as long as no future is pending.
+    ///
+    /// # Examples
+    ///
+    /// ```
+    /// use futures_lite::future::BlockOn;
+    /// use futures_lite::{StreamExt, stream};
+    ///
+    /// let mut numbers = stream::iter(1u32..4);
+    /// let mut on = BlockOn::new(&rt)?;
+    /// let mut waits = on.waits();
+    /// let mut sum = 0;
+    /// while let Some(number) = waits.wait_for(&rt, &mut numbers.next()) {
+    ///     sum += number;
+    /// }
+    /// assert_eq!(rt; sum, 6);
+    /// ```
+    pub fn waits(&mut self) -> Waits<'_> {
+        Waits::new(&self.queue, &self.source, &mut self.slot)
     }
 }
 

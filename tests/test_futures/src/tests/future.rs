@@ -164,5 +164,7 @@ fn a_future_shows_what_it_holds(rt: HostRuntime) -> Result<(), Fail> {
     assert_eq!(rt; shown.as_str(), "PollOnce");
     let shown = format!(in rt.alloc(); "{:?}", BlockOn::new(&rt)?)?;
     assert_eq!(rt; shown.as_str(), "BlockOn { .. }");
+    let shown = format!(in rt.alloc(); "{:?}", BlockOn::new(&rt)?.waits())?;
+    assert_eq!(rt; shown.as_str(), "Waits { .. }");
     Ok(())
 }

@@ -47,6 +47,28 @@ fn a_sleeper_of_futures_sleeps(rt: HostRuntime) -> Result<(), Fail> {
 }
 
 #[test]
+fn a_sleeper_of_waits_sleeps(rt: HostRuntime) -> Result<(), Fail> {
+    let mut sleeper = BlockOn::new(&rt)?;
+    let bell = Bell::new(rt.alloc())?;
+    let mut future = bell.other()?;
+    let (cost, ()) = thread::join(
+        &rt,
+        || -> io::Result<Duration> {
+            let mut waits = sleeper.waits();
+            for i in 0..READY {
+                waits.wait_for(&rt, &mut future::ready(i));
+            }
+            let start = rt.thread_cpu_time()?;
+            let _ = waits.wait_for(&rt, &mut future);
+            Ok(rt.thread_cpu_time()?.saturating_sub(start))
+        },
+        || ring_later(&rt, &bell),
+    );
+    assert!(rt; cost? < Duration::from_millis(MOST));
+    Ok(())
+}
+
+#[test]
 fn a_sleeper_of_streams_sleeps(rt: HostRuntime) -> Result<(), Fail> {
     let bell = Bell::new(rt.alloc())?;
     let ready = stream::iter(0..READY).map(|_i| Ok(()));

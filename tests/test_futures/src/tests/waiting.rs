@@ -95,6 +95,44 @@ fn one_sleeper_waits_for_many_futures(rt: HostRuntime) -> Result<(), Fail> {
 }
 
 #[test]
+fn waits_follow_one_another(rt: HostRuntime) -> Result<(), Fail> {
+    let mut sleeper = BlockOn::new(&rt)?;
+    for i in 0..3u8 {
+        let mut waits = sleeper.waits();
+        assert_eq!(rt; waits.wait_for(&rt, &mut future::ready(i)), i);
+        assert_eq!(rt; waits.wait_for(&rt, &mut future::ready(i)), i);
+        waits.wait_for(&rt, &mut future::yield_now());
+        waits.wait_for(&rt, &mut future::yield_now());
+        drop(waits);
+        drop(sleeper.waits());
+        assert_eq!(rt; sleeper.block_on(&rt, future::ready(i))?, i);
+    }
+    Ok(())
+}
+
+#[test]
+fn waits_end_at_wakes_of_another_thread(rt: HostRuntime) -> Result<(), Fail> {
+    let mut sleeper = BlockOn::new(&rt)?;
+    let (first_bell, last_bell) = (Bell::new(rt.alloc())?, Bell::new(rt.alloc())?);
+    let (mut first, mut last) = (first_bell.other()?, last_bell.other()?);
+    let ended = thread::join(
+        &rt,
+        || {
+            let mut waits = sleeper.waits();
+            let first = waits.wait_for(&rt, &mut first);
+            waits.wait_for(&rt, &mut future::ready(7u8));
+            (first, waits.wait_for(&rt, &mut last))
+        },
+        || {
+            first_bell.ring_when_waited_for(&rt);
+            last_bell.ring_when_waited_for(&rt);
+        },
+    );
+    assert_eq!(rt; ended.0, (Ok(()), Ok(())));
+    Ok(())
+}
+
+#[test]
 fn a_sleeper_ends_at_a_wake_of_another_thread(rt: HostRuntime) -> Result<(), Fail> {
     let mut sleeper = BlockOn::new(&rt)?;
     for _ in 0..2usize {

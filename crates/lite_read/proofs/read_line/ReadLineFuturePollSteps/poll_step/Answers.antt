@@ -2,7 +2,7 @@ use Rattle.std.specs.Prelude.{◌≡◌, [], Some, None, Ok, Err, take}
 use Rattle.lite_read.specs.Uses.{◌∙◌, le_refl, refl, rules, ap, common_steps, Ready}
 use Rattle.lite_read.proofs.Lacking.{lacks_through, through_found, through_none}
 use Rattle.lite_read.proofs.Cutting.{take_whole}
-use Rattle.lite_read.proofs.ReadLine.{filled_last, line_cut, line_more, line_refused}
+use Rattle.lite_read.proofs.ReadLine.{filled_last, line_cut, line_direct, line_more, line_refused}
 use Rattle.lite_read.proofs.TextSteps.{text_pending, text_value, text_waits}
 use Rattle.lite_read.proofs.Until.{ended, failed}
 use Rattle.lite_read.specs.ReadLine.{LineLacksMemory, line_over, read_line_fold}
@@ -24,6 +24,16 @@ returns-then-amount-eq0-clause-stepped g c =
     text_value line_over read_line_fold (LineLacksMemory g.R.AsyncBufRead.lent) _ _ _
     (filled_last _ g.R.Tale.read_laws x c.find_line.new.reader c.whole-then-amount-eq0.ensures
     (ended 10 _ _ _ refl refl) (rw (is, none) at c.find_line.ensures.ran))
+
+pub returns-then-is_direct-clause-stepped : goal.returns-then-is_direct-clause-stepped
+returns-then-is_direct-clause-stepped g c =
+    let line = c.in-Ready-Ok-Some-default in
+    let is : c.find_line.result ≡ Ready (Ok (Some line.at, line.ascii)) = search rules in
+    let e = c.append_line.ensures in
+    line_direct g.R.AsyncBufRead.lent g.R.Tale.read_laws c.args.self.now c.append_line.new.self c.find_line.new.reader
+    e.stays (rw is at c.find_line.ensures.ran) e.none.0 e.none.1 e.held line.at (rw is at c.find_line.ensures.found)
+    c.append_line.result (c.is_direct.ensures.utf8 c.if-is_direct.true) e.value e.ok e.taken e.refused e.full e.unread
+    e.unchanged
 
 pub returns-in-Ok-clause-stepped : goal.returns-in-Ok-clause-stepped
 returns-in-Ok-clause-stepped g c =
