@@ -8,14 +8,14 @@ use Rattle.lite_base.specs.declared.future.budgeted.Exhausted.{Exhausted}
 -- What a budget of so many polls makes of the results of the inner future, and how many polls are left then. Nothing
 -- comes of nothing (`nothing`). A `Pending` is handed on while a poll is left after it (`waits`). The last one becomes an
 -- error (`last`), and so does a poll for which none is left (`over`). A value is handed on (`value`).
-pub data Spent {A : Type 0} : ℕ → List (Poll A) → List (Poll (Result A Exhausted)) → ℕ → Type 0 where
-  nothing : (n : ℕ) → Spent n [] [] n
-  waits : (n m : ℕ) (ins : List (Poll A)) (out : List (Poll (Result A Exhausted))) → Spent (suc n) ins out m
-      → Spent (suc (suc n)) (Pending ∷ ins) (Pending ∷ out) m
-  last : (e : Exhausted) → Spent 1 (Pending ∷ []) (Ready (Err e) ∷ []) 0
-  over : (e : Exhausted) → Spent 0 [] (Ready (Err e) ∷ []) 0
-  value : (n : ℕ) (v : A) → Spent (suc n) (Ready v ∷ []) (Ready (Ok v) ∷ []) (suc n)
+pub data SpendsPolls {A : Type 0} : ℕ → List (Poll A) → List (Poll (Result A Exhausted)) → ℕ → Type 0 where
+  nothing : (n : ℕ) → SpendsPolls n [] [] n
+  waits : (n m : ℕ) (ins : List (Poll A)) (out : List (Poll (Result A Exhausted))) → SpendsPolls (suc n) ins out m
+      → SpendsPolls (suc (suc n)) (Pending ∷ ins) (Pending ∷ out) m
+  last : (e : Exhausted) → SpendsPolls 1 (Pending ∷ []) (Ready (Err e) ∷ []) 0
+  over : (e : Exhausted) → SpendsPolls 0 [] (Ready (Err e) ∷ []) 0
+  value : (n : ℕ) (v : A) → SpendsPolls (suc n) (Ready v ∷ []) (Ready (Ok v) ∷ []) (suc n)
 
 -- The inner future had a run, of whose results the budget made those of the future.
-abbrev pub Budgets : {F A : Type 0} → Runs (Poll A) F → Runs (Poll (Result A Exhausted)) (Budgeted F)
-Budgets {F} {A} run x out y = (ins : List (Poll A)) × run x.inner ins y.inner × Spent x.left ins out y.left
+abbrev pub BudgetsPolls : {F A : Type 0} → Runs (Poll A) F → Runs (Poll (Result A Exhausted)) (Budgeted F)
+BudgetsPolls {F} {A} run x out y = (ins : List (Poll A)) × run x.inner ins y.inner × SpendsPolls x.left ins out y.left

@@ -1,6 +1,6 @@
 //! A future that is polled a limited number of times.
 ghost use Rattle.std.specs.Prelude.{◌<◌, ⊤};
-ghost use Rattle.lite_base.specs.Future.Budgeted.{Budgets};
+ghost use Rattle.lite_base.specs.Future.Budgeted.{BudgetsPolls};
 ghost use Rattle.lite_base.specs.Laws.Future.Budgeted.{budgets_laws};
 
 use super::Future;
@@ -35,7 +35,7 @@ impl<F: Future> Future for Budgeted<F> {
 
     ghost can_poll = { λ x. 0 < x.left → F.can_poll x.inner };
 
-    ghost run = { Budgets F.run };
+    ghost run = { BudgetsPolls F.run };
 
     ghost registers = { λ x. F.registers x.inner };
 

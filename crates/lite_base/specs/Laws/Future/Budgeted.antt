@@ -3,55 +3,55 @@ use Rattle.std.specs.Prelude.{◌≡◌, ◌≤◌, ◌<◌, ◌-◌, ℕ, zero,
 use Rattle.lite_base.specs.Uses.{arith, Pending, Poll, Ready}
 use Rattle.lite_base.specs.Answers.{Waiting, strip}
 use Rattle.lite_base.specs.Calm.{CalmLaws, NoPending}
-use Rattle.lite_base.specs.Future.Budgeted.{Budgets, Spent}
+use Rattle.lite_base.specs.Future.Budgeted.{BudgetsPolls, SpendsPolls}
 use Rattle.lite_base.specs.FutureLaws.{FutureLaws}
 use Rattle.lite_base.specs.Runs.{Runs}
 use Rattle.lite_base.specs.declared.future.budgeted.Budgeted.{Budgeted}
 use Rattle.lite_base.specs.declared.future.budgeted.Exhausted.{Exhausted}
 
 module _ {A : Type 0} where
-  nothing_spent : {n m : ℕ} {ins : List (Poll A)} {out : List (Poll (Result A Exhausted))} → Spent n ins out m
+  nothing_spent : {n m : ℕ} {ins : List (Poll A)} {out : List (Poll (Result A Exhausted))} → SpendsPolls n ins out m
       → out ≡ [] → (ins ≡ []) × (m ≡ n)
-  nothing_spent (Spent.nothing n) e = (refl, refl)
-  nothing_spent (Spent.waits n m ins out h) e = cc e
-  nothing_spent (Spent.last x) e = cc e
-  nothing_spent (Spent.over x) e = cc e
-  nothing_spent (Spent.value n v) e = cc e
+  nothing_spent (SpendsPolls.nothing n) e = (refl, refl)
+  nothing_spent (SpendsPolls.waits n m ins out h) e = cc e
+  nothing_spent (SpendsPolls.last x) e = cc e
+  nothing_spent (SpendsPolls.over x) e = cc e
+  nothing_spent (SpendsPolls.value n v) e = cc e
 
-  waiting_in : {n m : ℕ} {ins : List (Poll A)} {out : List (Poll (Result A Exhausted))} → Spent n ins out m
+  waiting_in : {n m : ℕ} {ins : List (Poll A)} {out : List (Poll (Result A Exhausted))} → SpendsPolls n ins out m
       → Waiting out → Waiting ins
-  waiting_in (Spent.nothing n) w = tt
-  waiting_in (Spent.waits n m ins out h) w = waiting_in h w
-  waiting_in (Spent.last x) w = absurd w
-  waiting_in (Spent.over x) w = absurd w
-  waiting_in (Spent.value n v) w = absurd w
+  waiting_in (SpendsPolls.nothing n) w = tt
+  waiting_in (SpendsPolls.waits n m ins out h) w = waiting_in h w
+  waiting_in (SpendsPolls.last x) w = absurd w
+  waiting_in (SpendsPolls.over x) w = absurd w
+  waiting_in (SpendsPolls.value n v) w = absurd w
 
-  spent_both : {n m k : ℕ} {ins more : List (Poll A)} {out rest : List (Poll (Result A Exhausted))} → Spent n ins out m
-      → Waiting out → Spent m more rest k → Spent n (ins ++ more) (out ++ rest) k
-  spent_both (Spent.nothing n) w later = later
-  spent_both (Spent.waits n m ins out h) w later = Spent.waits n _ _ _ (spent_both h w later)
-  spent_both (Spent.last x) w later = absurd w
-  spent_both (Spent.over x) w later = absurd w
-  spent_both (Spent.value n v) w later = absurd w
+  spent_both : {n m k : ℕ} {ins more : List (Poll A)} {out rest : List (Poll (Result A Exhausted))} → SpendsPolls n ins out m
+      → Waiting out → SpendsPolls m more rest k → SpendsPolls n (ins ++ more) (out ++ rest) k
+  spent_both (SpendsPolls.nothing n) w later = later
+  spent_both (SpendsPolls.waits n m ins out h) w later = SpendsPolls.waits n _ _ _ (spent_both h w later)
+  spent_both (SpendsPolls.last x) w later = absurd w
+  spent_both (SpendsPolls.over x) w later = absurd w
+  spent_both (SpendsPolls.value n v) w later = absurd w
 
-  spent_once : {n m : ℕ} {ins : List (Poll A)} {out : List (Poll (Result A Exhausted))} → Spent n ins out m
+  spent_once : {n m : ℕ} {ins : List (Poll A)} {out : List (Poll (Result A Exhausted))} → SpendsPolls n ins out m
       → length (strip out) ≤ 1
-  spent_once (Spent.nothing n) = omega arith
-  spent_once (Spent.waits n m ins out h) = spent_once h
-  spent_once (Spent.last x) = omega arith
-  spent_once (Spent.over x) = omega arith
-  spent_once (Spent.value n v) = omega arith
+  spent_once (SpendsPolls.nothing n) = omega arith
+  spent_once (SpendsPolls.waits n m ins out h) = spent_once h
+  spent_once (SpendsPolls.last x) = omega arith
+  spent_once (SpendsPolls.over x) = omega arith
+  spent_once (SpendsPolls.value n v) = omega arith
 
-  spent_calm : {n m : ℕ} {ins : List (Poll A)} {out : List (Poll (Result A Exhausted))} → Spent n ins out m
+  spent_calm : {n m : ℕ} {ins : List (Poll A)} {out : List (Poll (Result A Exhausted))} → SpendsPolls n ins out m
       → NoPending ins → NoPending out
-  spent_calm (Spent.nothing n) w = tt
-  spent_calm (Spent.waits n m ins out h) w = absurd w
-  spent_calm (Spent.last x) w = absurd w
-  spent_calm (Spent.over x) w = tt
-  spent_calm (Spent.value n v) w = tt
+  spent_calm (SpendsPolls.nothing n) w = tt
+  spent_calm (SpendsPolls.waits n m ins out h) w = absurd w
+  spent_calm (SpendsPolls.last x) w = absurd w
+  spent_calm (SpendsPolls.over x) w = tt
+  spent_calm (SpendsPolls.value n v) w = tt
 
 module _ {F A : Type 0} {run : Runs (Poll A) F} where
-  pub budgets_calm : {is_calm : F → Type 0} → CalmLaws run is_calm → CalmLaws (Budgets run) (λ x. is_calm x.inner)
+  pub budgets_calm : {is_calm : F → Type 0} → CalmLaws run is_calm → CalmLaws (BudgetsPolls run) (λ x. is_calm x.inner)
   budgets_calm c =
       record {
         no_pending = λ x y l k h. spent_calm h.2 (c.no_pending x.inner y.inner h.0 k h.1);
@@ -59,16 +59,16 @@ module _ {F A : Type 0} {run : Runs (Poll A) F} where
       }
 
 module _ {F A : Type 0} {run : Runs (Poll A) F} (laws : FutureLaws run) where
-  budget_stays : (x y : Budgeted F) → Budgets run x [] y → y ≡ x
+  budget_stays : (x y : Budgeted F) → BudgetsPolls run x [] y → y ≡ x
   budget_stays x y h =
       let none = nothing_spent h.2 refl in
       let inner = laws.stays x.inner y.inner (rw none.0 at h.1) in
       rw (inner, none.1) refl
 
-  pub budgets_laws : FutureLaws (Budgets run)
+  pub budgets_laws : FutureLaws (BudgetsPolls run)
   budgets_laws =
       record {
-        rests = λ x. ([], laws.rests x.inner, Spent.nothing x.left);
+        rests = λ x. ([], laws.rests x.inner, SpendsPolls.nothing x.left);
         stays = budget_stays;
         follows = λ x y z l m w h k. (
           h.0 ++ k.0,
@@ -80,21 +80,21 @@ module _ {F A : Type 0} {run : Runs (Poll A) F} (laws : FutureLaws run) where
 
 -- What one poll makes.
 module _ {A : Type 0} where
-  pub poll_over : (n : ℕ) (e : Exhausted) → n ≡ 0 → Spent {A = A} n [] (Ready (Err e) ∷ []) n
-  poll_over n e none = rw none (Spent.over e)
+  pub poll_over : (n : ℕ) (e : Exhausted) → n ≡ 0 → SpendsPolls {A = A} n [] (Ready (Err e) ∷ []) n
+  poll_over n e none = rw none (SpendsPolls.over e)
 
-  pub poll_value : (n : ℕ) (v : A) → 0 < n → Spent n (Ready v ∷ []) (Ready (Ok v) ∷ []) n
-  poll_value (suc n) v some = Spent.value n v
+  pub poll_value : (n : ℕ) (v : A) → 0 < n → SpendsPolls n (Ready v ∷ []) (Ready (Ok v) ∷ []) n
+  poll_value (suc n) v some = SpendsPolls.value n v
   poll_value zero v some = absurd (omega (arith, some))
 
   pub poll_last : (n m : ℕ) (e : Exhausted) → 0 < n → m ≡ n - 1 → m ≡ 0
-      → Spent {A = A} n (Pending ∷ []) (Ready (Err e) ∷ []) m
+      → SpendsPolls {A = A} n (Pending ∷ []) (Ready (Err e) ∷ []) m
   poll_last n m e some less none =
       let one : n ≡ 1 = omega (arith, some, less, none) in
-      rw (one, none) (Spent.last e)
+      rw (one, none) (SpendsPolls.last e)
 
-  pub poll_waits : (n m : ℕ) → m ≡ n - 1 → 0 < m → Spent {A = A} n (Pending ∷ []) (Pending ∷ []) m
+  pub poll_waits : (n m : ℕ) → m ≡ n - 1 → 0 < m → SpendsPolls {A = A} n (Pending ∷ []) (Pending ∷ []) m
   poll_waits n (suc m) less more =
       let all : n ≡ suc (suc m) = omega (arith, less) in
-      rw all (Spent.waits m (suc m) [] [] (Spent.nothing (suc m)))
+      rw all (SpendsPolls.waits m (suc m) [] [] (SpendsPolls.nothing (suc m)))
   poll_waits n zero less more = absurd (omega (arith, more))
