@@ -23,7 +23,7 @@ FAULTS = f"{TOP}/tools/faults.c"
 REPLAY, THROUGHPUT = "replay", "throughput"
 BESIDE = {
     REPLAY: "replay: futures_lite lite_mock futures itoa rand_core",
-    THROUGHPUT: "throughput may_wait=10: futures_lite futures",
+    THROUGHPUT: "throughput may_wait=15: futures_lite futures",
 }
 # A program that no tool ran for so many seconds is removed.
 KEPT_FOR = 3 * 24 * 3600
