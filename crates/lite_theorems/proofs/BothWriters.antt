@@ -19,7 +19,7 @@ fails_by : (b m l : List WriteMark) (e : Error) → NoFailure b → NoFailure m 
 fails_by b m l e p q (inl h) = inl (later b m _ l h)
 fails_by b m l e p q (inr h) = inr (later b m _ l h.0, h.1)
 
-fails_later : (b l : List WriteMark) (e : Error) → NoFailure b → FailsWith l e → FailsWith (b ++ l) e
+pub fails_later : (b l : List WriteMark) (e : Error) → NoFailure b → FailsWith l e → FailsWith (b ++ l) e
 fails_later b l e p h =
     record {
       before = b ++ h.before;

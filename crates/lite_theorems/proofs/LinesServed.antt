@@ -3,7 +3,7 @@ use Rattle.std.specs.Prelude.{◌≡◌, ℕ, Bool, true, false, List, [], ◌�
 use Rattle.lite_theorems.specs.Uses.{◌∙◌, inl, inr, ap, append-nil, append_assoc, refl, sym, ne_eqb, flat_map-append, byte_lines, last_piece, pieces_from}
 use Rattle.lite_theorems.specs.Uses.{without_return, ReadMark, bytes}
 use Rattle.lite_theorems.specs.Told.{EndsAtFirst, Without}
-use Rattle.lite_theorems.specs.Serving.{PieceIn, Replying, replies}
+use Rattle.lite_theorems.specs.Serving.{PieceIn}
 
 pieces_whole : (before held rest : List ℕ) → Without 10 before
     → pieces_from 10 without_return held (before ++ 10 ∷ rest)
@@ -38,37 +38,29 @@ ended_whole xs e rest =
     let more = pieces_whole e.before [] rest e.without in
     rw e.whole (ap byte_lines (append_assoc e.before (10 ∷ []) rest) ∙ more ∙ ap (λ l. l ++ byte_lines rest) (sym one))
 
-pub replies_both : (reply : Replying) (xs ys : List ℕ) → Ended xs
-    → replies reply (xs ++ ys) ≡ replies reply xs ++ replies reply ys
-replies_both reply xs ys h = ap (flat_map reply) (h ys) ∙ flat_map-append reply (byte_lines xs) (byte_lines ys)
-
 -- what was read of one line, of which the newline was taken off
-module _ (reply : Replying) (xs after : List ℕ) (told : List ReadMark) (whole : Bool) (piece : PieceIn xs told (Ok tt))
+module _ (xs after : List ℕ) (told : List ReadMark) (whole : Bool) (piece : PieceIn xs told (Ok tt))
     (is_whole : (before : List ℕ) → xs ≡ before ++ 10 ∷ [] → (whole ≡ true) × (after ≡ without_return before))
     (is_last : Without 10 xs → (whole ≡ false) × (after ≡ xs)) where
-  pub whole_line : whole ≡ true → EndsAtFirst 10 xs × (told ≡ bytes xs) × (reply after ≡ replies reply xs)
+  pub whole_line : whole ≡ true → EndsAtFirst 10 xs × (told ≡ bytes xs) × (byte_lines xs ≡ after ∷ [])
   whole_line is_true = by_piece piece
     where
-      by_piece : PieceIn xs told (Ok tt) → EndsAtFirst 10 xs × (told ≡ bytes xs) × (reply after ≡ replies reply xs)
+      by_piece : PieceIn xs told (Ok tt) → EndsAtFirst 10 xs × (told ≡ bytes xs) × (byte_lines xs ≡ after ∷ [])
       by_piece (inl (e, t)) =
           let lines : byte_lines xs ≡ without_return e.before ∷ [] =
           ap byte_lines e.whole ∙ pieces_whole e.before [] [] e.without in
           let text = (is_whole e.before e.whole).1 in
-          (e, t, ap reply text ∙ sym (ap (flat_map reply) lines ∙ append-nil (reply (without_return e.before))))
+          (e, t, lines ∙ ap (λ l. l ∷ []) (sym text))
       by_piece (inr (w, t)) = absurd (cc ((is_last w).0, is_true))
 
-  pub last_line : whole ≡ false → (told ≡ bytes xs ++ ReadMark.end ∷ [])
-      × (flat_map reply (last_piece after) ≡ replies reply xs)
+  pub last_line : whole ≡ false → (told ≡ bytes xs ++ ReadMark.end ∷ []) × (byte_lines xs ≡ last_piece after)
   last_line is_false = by_piece piece
     where
-      by_piece : PieceIn xs told (Ok tt)
-          → (told ≡ bytes xs ++ ReadMark.end ∷ []) × (flat_map reply (last_piece after) ≡ replies reply xs)
+      by_piece : PieceIn xs told (Ok tt) → (told ≡ bytes xs ++ ReadMark.end ∷ []) × (byte_lines xs ≡ last_piece after)
       by_piece (inl (e, t)) = absurd (cc ((is_whole e.before e.whole).0, is_false))
-      by_piece (inr (w, t)) =
-          let text = (is_last w).1 in
-          (t, ap (λ l. flat_map reply (last_piece l)) text ∙ sym (ap (flat_map reply) (pieces_last xs [] w)))
+      by_piece (inr (w, t)) = (t, pieces_last xs [] w ∙ ap last_piece (sym (is_last w).1))
 
 -- something before an end is one line
-pub last_reply : (reply : Replying) (xs : List ℕ) → (xs ≡ [] → ⊥) → flat_map reply (last_piece xs) ≡ reply xs
-last_reply reply [] some = absurd (some refl)
-last_reply reply (b ∷ xs) some = append-nil (reply (b ∷ xs))
+pub last_one : (xs : List ℕ) → (xs ≡ [] → ⊥) → last_piece xs ≡ xs ∷ []
+last_one [] some = absurd (some refl)
+last_one (b ∷ xs) some = refl

@@ -1,135 +1,262 @@
--- What was told and written so far, and what comes behind it.
-use Rattle.std.specs.Prelude.{◌≡◌, ◌⊎◌, ℕ, Bool, true, false, List, [], ◌∷◌, ◌++◌, Result, Ok, Err, IfOk, flat_map}
-use Rattle.lite_theorems.specs.Uses.{◌∙◌, ap, refl, sym, subst, append-nil, append_assoc, map-append, ReadMark, bytes, WriteMark, bytes_taken, Runs, MarkLaws}
-use Rattle.lite_theorems.specs.Uses.{StandsFirst, last_piece, without_return, EndsFlushed}
+-- What was told and written so far, how the service went on, and what comes behind it.
+use Rattle.std.specs.Prelude.{◌≡◌, ◌⊎◌, ℕ, Bool, true, false, List, [], ◌∷◌, ◌++◌, Option, Some, None, Result, Ok, Err}
+use Rattle.lite_theorems.specs.Uses.{◌∙◌, ap, refl, sym, subst, append-nil, append_assoc, inl, inr, map-append, ReadMark, bytes, WriteMark, bytes_taken, byte_lines}
+use Rattle.lite_theorems.specs.Uses.{concat, EndsFlushed, Error, last_piece, MarkLaws, no_failure_both, NoFailure, Runs, StandsFirst, without_return}
 use Rattle.lite_theorems.specs.Laws.Taken.{taken_both}
 use Rattle.lite_theorems.specs.Laws.Told.{told_follow, told_none}
 use Rattle.lite_theorems.specs.Told.{EndsAtFirst, ToldStripped, Without}
-use Rattle.lite_theorems.specs.BothWriters.{TakesFront}
-use Rattle.lite_theorems.specs.Serving.{LineEnds, OfOutput, PieceIn, Replied, Replying, ServingEnds}
-use Rattle.lite_theorems.specs.Serving.{StopsServing, replies}
+use Rattle.lite_theorems.specs.BothWriters.{FailsWith}
+use Rattle.lite_theorems.specs.Serving.{AllEnd, AllWritten, AtHand, Ending, LineEnds, PieceIn, Refused, Replies, Served, Serving}
+use Rattle.lite_theorems.specs.Serving.{ServingEnds, Stopped, WrittenAt, Wrote}
 use Rattle.lite_theorems.specs.declared.serve_error.ServeError.{ServeError}
 use Rattle.lite_theorems.specs.declared.serve_error.ServeError.TheVariants.{Input, Memory, Output}
-use Rattle.lite_theorems.proofs.LinesServed.{Ended, ended_both, ended_none, ended_whole, last_line}
-use Rattle.lite_theorems.proofs.LinesServed.{replies_both, whole_line}
-
-pub stops_output : (rest : List ReadMark) (e : ServeError) → (rest ≡ []) ⊎ (rest ≡ ReadMark.end ∷ []) → OfOutput e
-    → StopsServing rest e
-stops_output rest (Input e) at h = absurd h
-stops_output rest (Output e) at h = at
-stops_output rest Memory at h = at
-
--- where a front of these replies was written, and they are those to what was read
-pub replied : {R : Type 0} (reply : Replying) (told : List ReadMark) (took : List WriteMark)
-    (Ends : Replying → List ℕ → List ReadMark → List WriteMark → R → Type 0) (value : R) (xs given : List ℕ)
-    (rest : List ReadMark) → told ≡ bytes xs ++ rest → given ≡ replies reply xs → StandsFirst (bytes_taken took) given
-    → Ends reply xs rest took value → Replied reply told took Ends value
-replied reply told took Ends value xs given rest cut same front ends =
-    record { read = xs; rest = rest; cut = cut; front = (front.0, sym same ∙ front.1); ends = ends }
-
--- a line that was read, of which the newline was taken off, and a front of whose reply was written
-module _ {R : Type 0} (reply : Replying) {xs after : List ℕ} {told : List ReadMark} {whole : Bool}
-    (piece : PieceIn xs told (Ok tt))
-    (is_whole : (before : List ℕ) → xs ≡ before ++ 10 ∷ [] → (whole ≡ true) × (after ≡ without_return before))
-    (is_last : Without 10 xs → (whole ≡ false) × (after ≡ xs)) (took : List WriteMark)
-    (Ends : Replying → List ℕ → List ReadMark → List WriteMark → R → Type 0) (value : R) where
-  pub whole_replied : whole ≡ true → StandsFirst (bytes_taken took) (reply after)
-      → (EndsAtFirst 10 xs → reply after ≡ replies reply xs → Ends reply xs [] took value)
-      → Replied reply told took Ends value
-  whole_replied is front ends =
-      let w = whole_line reply xs after told whole piece is_whole is_last is in
-      replied reply told took Ends value xs (reply after) [] (w.1 ∙ sym (append-nil (bytes xs))) w.2 front
-      (ends w.0 w.2)
-
-  pub last_replied : whole ≡ false → StandsFirst (bytes_taken took) (flat_map reply (last_piece after))
-      → (flat_map reply (last_piece after) ≡ replies reply xs → Ends reply xs (ReadMark.end ∷ []) took value)
-      → Replied reply told took Ends value
-  last_replied is front ends =
-      let w = last_line reply xs after told whole piece is_whole is_last is in
-      replied reply told took Ends value xs (flat_map reply (last_piece after)) (ReadMark.end ∷ []) w.0 w.1 front
-      (ends w.1)
+use Rattle.lite_theorems.proofs.BothWriters.{fails_later}
+use Rattle.lite_theorems.proofs.LinesServed.{Ended, ended_both, ended_none, ended_whole, last_line, whole_line}
 
 ends_later : (l m : List WriteMark) → EndsFlushed m → EndsFlushed (l ++ m)
 ends_later l m h = (l ++ h.0, ap (λ k. l ++ k) h.1 ∙ sym (append_assoc l h.0 (WriteMark.flushed ∷ [])))
 
--- a flush behind other marks
-pub flush_behind : {E : Type 0} (l m : List WriteMark) (r : Result (Unit {0}) E) → IfOk r (λ _. EndsFlushed m)
-    → IfOk r (λ _. EndsFlushed (l ++ m))
-flush_behind l m (Ok u) h = ends_later l m h
-flush_behind l m (Err e) h = tt
+concat_both : (r s : List (List ℕ)) → concat (r ++ s) ≡ concat r ++ concat s
+concat_both [] s = refl
+concat_both (x ∷ r) s = ap (λ l. x ++ l) (concat_both r s) ∙ sym (append_assoc x (concat r) (concat s))
 
-module _ {W : Type 0} {writes : Runs WriteMark W} (laws : MarkLaws writes) (x y z : W) (p : List ℕ)
-    (l m : List WriteMark) (before : TakesFront writes x p l y) (all : bytes_taken l ≡ p) (more : writes y m z)
-    (none : bytes_taken m ≡ []) where
-  still_all : bytes_taken (l ++ m) ≡ p
-  still_all = taken_both l m ∙ ap (λ k. bytes_taken l ++ k) none ∙ append-nil (bytes_taken l) ∙ all
+-- bytes, and then others or a flush
+pub wrote_both : (xs : List ℕ) (flushes : Bool) (l m : List WriteMark) (r : Result (Unit {0}) ServeError) → NoFailure l
+    → bytes_taken l ≡ xs → Wrote [] flushes m r → Wrote xs flushes (l ++ m) r
+wrote_both xs flushes l m (Ok u) fine all h = (
+  no_failure_both l m fine h.0,
+  taken_both l m ∙ ap (λ k. bytes_taken l ++ k) h.1 ∙ append-nil (bytes_taken l) ∙ all,
+  λ now. ends_later l m (h.2 now),
+)
+wrote_both xs flushes l m (Err (Output e)) fine all h =
+    let none : bytes_taken m ≡ [] = nothing_before (bytes_taken m) h.0.0 h.0.1 in (
+      ([], sym (append-nil _ ∙ taken_both l m ∙ ap (λ k. bytes_taken l ++ k) none ∙ append-nil (bytes_taken l) ∙ all)),
+      fails_later l m e fine h.1,
+    )
+  where
+    nothing_before : (p q : List ℕ) → [] ≡ p ++ q → p ≡ []
+    nothing_before [] q e = refl
+    nothing_before (b ∷ p) q e = cc e
+wrote_both xs flushes l m (Err (Input e)) fine all h = absurd h
+wrote_both xs flushes l m (Err Memory) fine all h = absurd h
 
-  -- marks without a byte behind all bytes
-  pub none_behind : TakesFront writes x p (l ++ m) z × (bytes_taken (l ++ m) ≡ p)
-  none_behind = ((laws.follows x y z l m before.0 more, ([], sym (append-nil _ ∙ still_all))), still_all)
+module _ {L : Type 0} (serves : Serving L) where
+  -- one line with its reply
+  pub at_one : (x y : L) (line reply : List ℕ) (flushes : Bool) (took : List WriteMark) (r : Result (Unit {0}) ServeError)
+      → serves x line (Some reply) y → Wrote reply flushes took r → AtHand serves x (line ∷ []) flushes took y r
+  at_one x y line reply flushes took (Ok u) h w =
+      (reply ∷ [], (y, h, refl), (w.0, w.1 ∙ sym (append-nil reply)), w.2)
+  at_one x y line reply flushes took (Err (Output e)) h w =
+      (reply ∷ [], (y, h, refl), (w.0.0, append-nil reply ∙ w.0.1), w.1)
+  at_one x y line reply flushes took (Err (Input e)) h w = absurd w
+  at_one x y line reply flushes took (Err Memory) h w = absurd w
+
+  -- no line
+  pub at_none : (x : L) (flushes : Bool) (took : List WriteMark) (r : Result (Unit {0}) ServeError)
+      → Wrote [] flushes took r → AtHand serves x [] flushes took x r
+  at_none x flushes took (Ok u) w = ([], refl, (w.0, w.1), w.2)
+  at_none x flushes took (Err (Output e)) w = ([], refl, w.0, w.1)
+  at_none x flushes took (Err (Input e)) w = absurd w
+  at_none x flushes took (Err Memory) w = absurd w
+
+  -- a line that could not be read
+  pub not_read : (x : L) (xs : List ℕ) (told : List ReadMark) (e : ServeError) → PieceIn xs told (Err e)
+      → Served serves (LineEnds serves) x told [] x (Err e)
+  not_read x xs told (Input e) h =
+      record {
+        read = [];
+        rest = told;
+        replies = [];
+        state = x;
+        cut = refl;
+        replied = refl;
+        front = ([], refl);
+        ends = ((refl, xs, h.0, h.1), (tt, refl));
+      }
+  not_read x xs told (Output e) h = absurd h
+  not_read x xs told Memory h = absurd h
+
+  -- a whole line that was served
+  module _ (x y : L) (xs after : List ℕ) (told : List ReadMark) (whole : Bool) (piece : PieceIn xs told (Ok tt))
+      (is_whole : (before : List ℕ) → xs ≡ before ++ 10 ∷ [] → (whole ≡ true) × (after ≡ without_return before))
+      (is_last : Without 10 xs → (whole ≡ false) × (after ≡ xs)) (took : List WriteMark) where
+    pub whole_served : (flushes : Bool) → whole ≡ true → AtHand serves x (after ∷ []) flushes took y (Ok tt)
+        → Served serves (LineEnds serves) x told took y (Ok true)
+    whole_served flushes is h =
+        let w = whole_line xs after told whole piece is_whole is_last is in
+        record {
+          read = xs;
+          rest = [];
+          replies = h.0;
+          state = y;
+          cut = w.1 ∙ sym (append-nil (bytes xs));
+          replied = subst (λ l. Replies serves x l h.0 y) (sym w.2) h.1;
+          front = ([], sym (append-nil _ ∙ h.2.1));
+          ends = (refl, w.0, h.2, refl);
+        }
+
+    pub whole_stopped : (flushes : Bool) (e : ServeError) → whole ≡ true → AtHand serves x (after ∷ []) flushes took y (Err e)
+        → Served serves (LineEnds serves) x told took y (Err e)
+    whole_stopped flushes (Output e) is h =
+        let w = whole_line xs after told whole piece is_whole is_last is in
+        record {
+          read = xs;
+          rest = [];
+          replies = h.0;
+          state = y;
+          cut = w.1 ∙ sym (append-nil (bytes xs));
+          replied = subst (λ l. Replies serves x l h.0 y) (sym w.2) h.1;
+          front = h.2;
+          ends = ((refl, inl refl), h.3);
+        }
+    whole_stopped flushes Memory is h =
+        let w = whole_line xs after told whole piece is_whole is_last is in
+        let same : after ≡ h.0 = cc h.1 in
+        record {
+          read = [];
+          rest = told;
+          replies = [];
+          state = x;
+          cut = refl;
+          replied = refl;
+          front = ([], sym (append-nil _ ∙ h.3.1));
+          ends = (record { read = xs; line = h.0; is_line = w.2 ∙ h.1; told = inl w.1; refused = h.2 }, h.3);
+        }
+    whole_stopped flushes (Input e) is h = absurd h
+
+    -- what comes before an end, and was served
+    pub last_served : whole ≡ false → AtHand serves x (last_piece after) true took y (Ok tt)
+        → Served serves (LineEnds serves) x told took y (Ok false)
+    last_served is h =
+        let w = last_line xs after told whole piece is_whole is_last is in
+        record {
+          read = xs;
+          rest = ReadMark.end ∷ [];
+          replies = h.0;
+          state = y;
+          cut = w.0;
+          replied = subst (λ l. Replies serves x l h.0 y) (sym w.1) h.1;
+          front = ([], sym (append-nil _ ∙ h.2.1));
+          ends = (refl, h.2, h.3 refl, refl);
+        }
+
+    pub last_stopped : (e : ServeError) → whole ≡ false → AtHand serves x (last_piece after) true took y (Err e)
+        → Served serves (LineEnds serves) x told took y (Err e)
+    last_stopped (Output e) is h =
+        let w = last_line xs after told whole piece is_whole is_last is in
+        record {
+          read = xs;
+          rest = ReadMark.end ∷ [];
+          replies = h.0;
+          state = y;
+          cut = w.0;
+          replied = subst (λ l. Replies serves x l h.0 y) (sym w.1) h.1;
+          front = h.2;
+          ends = ((refl, inr refl), h.3);
+        }
+    last_stopped Memory is h =
+        let w = last_line xs after told whole piece is_whole is_last is in
+        record {
+          read = [];
+          rest = told;
+          replies = [];
+          state = x;
+          cut = refl;
+          replied = refl;
+          front = ([], sym (append-nil _ ∙ h.3.1));
+          ends = (record { read = xs; line = h.0; is_line = w.1 ∙ h.1; told = inr w.0; refused = h.2 }, h.3);
+        }
+    last_stopped (Input e) is h = absurd h
+
+  replies_both : (x y z : L) (l m r s : List (List ℕ)) → Replies serves x l r y → Replies serves y m s z
+      → Replies serves x (l ++ m) (r ++ s) z
+  replies_both x y z [] m [] s h k = rw (← h) k
+  replies_both x y z (line ∷ l) m (reply ∷ r) s h k = (h.0, h.1, replies_both h.0 y z l m r s h.2 k)
+  replies_both x y z [] m (reply ∷ r) s h k = absurd h
+  replies_both x y z (line ∷ l) m [] s h k = absurd h
 
 -- all that was told so far was answered
-pub record SoFar {S W : Type 0} (reply : Replying) (reads : Runs ReadMark S) (writes : Runs WriteMark W)
-    (x : S) (y : W) (x' : S) (y' : W) : Type 0 where
+pub record SoFar {S W L : Type 0} (serves : Serving L) (reads : Runs ReadMark S) (writes : Runs WriteMark W)
+    (x : S) (y : W) (s : L) (x' : S) (y' : W) (s' : L) : Type 0 where
   pub read : List ℕ
+  pub replies : List (List ℕ)
   pub took : List WriteMark
   pub told : ToldStripped reads x (bytes read) x'
   pub wrote : writes y took y'
-  pub all : bytes_taken took ≡ replies reply read
+  pub replied : Replies serves s (byte_lines read) replies s'
+  pub all : AllWritten took replies
   pub ended : Ended read
 
-module _ {S W : Type 0} {reply : Replying} {reads : Runs ReadMark S} {writes : Runs WriteMark W}
-    (in_laws : MarkLaws reads)
-    (out_laws : MarkLaws writes) where
-  pub so_far_none : (x : S) (y : W) → SoFar reply reads writes x y x y
-  so_far_none x y =
+module _ {S W L : Type 0} {serves : Serving L} {reads : Runs ReadMark S} {writes : Runs WriteMark W}
+    (in_laws : MarkLaws reads) (out_laws : MarkLaws writes) where
+  pub so_far_none : (x : S) (y : W) (s : L) → SoFar serves reads writes x y s x y s
+  so_far_none x y s =
       record {
         read = [];
+        replies = [];
         took = [];
         told = told_none in_laws x;
         wrote = out_laws.rests y;
-        all = refl;
+        replied = refl;
+        all = (tt, refl);
         ended = ended_none;
       }
 
-  module _ (x x' x'' : S) (y y' y'' : W) (h : SoFar reply reads writes x y x' y')
-      (l : List ReadMark) (t : List WriteMark)
-      (told : ToldStripped reads x' l x'') (wrote : writes y' t y'') where
-    all_both : (xs : List ℕ) → bytes_taken t ≡ replies reply xs
-        → bytes_taken (h.took ++ t) ≡ replies reply (h.read ++ xs)
-    all_both xs e = rw (taken_both h.took t, h.all, e) (sym (replies_both reply h.read xs h.ended))
-
-    front_both : (xs : List ℕ) → StandsFirst (bytes_taken t) (replies reply xs)
-        → StandsFirst (bytes_taken (h.took ++ t)) (replies reply (h.read ++ xs))
-    front_both xs f = (
-      f.0,
-      replies_both reply h.read xs h.ended ∙ ap (λ k. replies reply h.read ++ k) f.1
-          ∙ sym (append_assoc (replies reply h.read) (bytes_taken t) f.0)
-          ∙ ap (λ k. k ++ f.0) (sym (taken_both h.took t ∙ ap (λ k. k ++ bytes_taken t) h.all)),
+  module _ (x x' x'' : S) (y y' y'' : W) (s s' s'' : L) (h : SoFar serves reads writes x y s x' y' s')
+      (l : List ReadMark) (t : List WriteMark) (told : ToldStripped reads x' l x'') (wrote : writes y' t y'') where
+    all_both : (replies : List (List ℕ)) → AllWritten t replies → AllWritten (h.took ++ t) (h.replies ++ replies)
+    all_both replies a = (
+      no_failure_both h.took t h.all.0 a.0,
+      rw (taken_both h.took t, h.all.1, a.1) (sym (concat_both h.replies replies)),
     )
 
+    front_both : (replies : List (List ℕ)) → StandsFirst (bytes_taken t) (concat replies)
+        → StandsFirst (bytes_taken (h.took ++ t)) (concat (h.replies ++ replies))
+    front_both replies f = (
+      f.0,
+      concat_both h.replies replies ∙ ap (λ k. concat h.replies ++ k) f.1
+          ∙ sym (append_assoc (concat h.replies) (bytes_taken t) f.0)
+          ∙ ap (λ k. k ++ f.0) (sym (taken_both h.took t ∙ ap (λ k. k ++ bytes_taken t) h.all.1)),
+    )
+
+    written_both : (replies : List (List ℕ)) (e : ServeError) → WrittenAt t replies e
+        → WrittenAt (h.took ++ t) (h.replies ++ replies) e
+    written_both replies (Input e) w = all_both replies w
+    written_both replies (Output e) w = fails_later h.took t e h.all.0 w
+    written_both replies Memory w = all_both replies w
+
+    more_replied : (read : List ℕ) (replies : List (List ℕ)) (state : L) → Replies serves s' (byte_lines read) replies state
+        → Replies serves s (byte_lines (h.read ++ read)) (h.replies ++ replies) state
+    more_replied read replies state k =
+        rw (h.ended read) (replies_both serves s s' state _ _ _ _ h.replied k)
+
     -- a whole line more
-    pub so_far_on : Replied reply l t LineEnds (Ok true) → SoFar reply reads writes x y x'' y''
+    pub so_far_on : Served serves (LineEnds serves) s' l t s'' (Ok true) → SoFar serves reads writes x y s x'' y'' s''
     so_far_on r =
         let all_bytes : bytes h.read ++ l ≡ bytes (h.read ++ r.read) = ap (λ k. bytes h.read ++ k)
         (r.cut ∙ ap (λ k. bytes r.read ++ k) r.ends.0 ∙ append-nil (bytes r.read))
         ∙ sym (map-append ReadMark.byte h.read r.read) in
         record {
           read = h.read ++ r.read;
+          replies = h.replies ++ r.replies;
           took = h.took ++ t;
           told = subst (λ k. ToldStripped reads x k x'') all_bytes
               (told_follow in_laws x x' x'' (bytes h.read) l h.told told);
           wrote = out_laws.follows y y' y'' h.took t h.wrote wrote;
-          all = all_both r.read r.ends.2;
+          replied = rw r.ends.3 (more_replied r.read r.replies r.state r.replied);
+          all = all_both r.replies r.ends.2;
           ended = ended_both h.read r.read h.ended (ended_whole r.read r.ends.1);
         }
 
     -- what is said of all, where no more lines come
-    pub served : (line : Result (Unit {0}) ServeError)
-        → Replied reply l t ServingEnds line
-        → (l : List ReadMark) × (took : List WriteMark) × ToldStripped reads x l x'' × writes y took y''
-        × Replied reply l took ServingEnds line
-    served line r = (
+    abbrev pub AllTold : Result (Unit {0}) ServeError → Type 0
+    AllTold v = (l : List ReadMark) × (took : List WriteMark) × ToldStripped reads x l x'' × writes y took y''
+        × Served serves (AllEnd serves) s l took s'' v
+
+    all_told : {R : Type 0} {Ends : Ending serves R} {v : R} (w : Result (Unit {0}) ServeError)
+        (r : Served serves Ends s' l t s'' v)
+        → AllEnd serves (h.read ++ r.read) r.rest (h.replies ++ r.replies) (h.took ++ t) r.state s'' w → AllTold w
+    all_told w r ends = (
       bytes h.read ++ l,
       h.took ++ t,
       told_follow in_laws x x' x'' (bytes h.read) l h.told told,
@@ -137,14 +264,78 @@ module _ {S W : Type 0} {reply : Replying} {reads : Runs ReadMark S} {writes : R
       record {
         read = h.read ++ r.read;
         rest = r.rest;
+        replies = h.replies ++ r.replies;
+        state = r.state;
         cut = ap (λ k. bytes h.read ++ k) r.cut ∙ sym (append_assoc (bytes h.read) (bytes r.read) r.rest)
             ∙ ap (λ k. k ++ r.rest) (sym (map-append ReadMark.byte h.read r.read));
-        front = front_both r.read r.front;
-        ends = ends_both line r.rest r.read r.ends;
+        replied = more_replied r.read r.replies r.state r.replied;
+        front = front_both r.replies r.front;
+        ends = ends;
       },
     )
-      where
-        ends_both : (line : Result (Unit {0}) ServeError) (rest : List ReadMark) (xs : List ℕ)
-            → ServingEnds reply xs rest t line → ServingEnds reply (h.read ++ xs) rest (h.took ++ t) line
-        ends_both (Ok u) rest xs e = (e.0, (all_both xs e.1.0, ends_later h.took t e.1.1))
-        ends_both (Err e) rest xs s = s
+
+    pub all_served : Served serves (LineEnds serves) s' l t s'' (Ok false) → AllTold (Ok tt)
+    all_served r =
+        all_told (Ok tt) r (r.ends.0, all_both r.replies r.ends.1, ends_later h.took t r.ends.2, r.ends.3)
+
+    pub all_stopped : (e : ServeError) → Served serves (LineEnds serves) s' l t s'' (Err e) → AllTold (Err e)
+    all_stopped e r = all_told (Err e) r (r.ends.0, written_both r.replies e r.ends.1)
+
+still_all : (took m : List WriteMark) (replies : List (List ℕ)) → AllWritten took replies → bytes_taken m ≡ []
+    → bytes_taken (took ++ m) ≡ concat replies
+still_all took m replies a none =
+    taken_both took m ∙ ap (λ k. bytes_taken took ++ k) none ∙ append-nil (bytes_taken took) ∙ a.1
+
+-- behind a last flush
+module _ {L : Type 0} (serves : Serving L) {x y : L} {told : List ReadMark} {took : List WriteMark} where
+  -- all of what was served but how it ended
+  with_ends : {R T : Type 0} {Ends : Ending serves R} {Others : Ending serves T} {v : R} (w : T) (more : List WriteMark)
+      (r : Served serves Ends x told took y v) → StandsFirst (bytes_taken more) (concat r.replies)
+      → Others r.read r.rest r.replies more r.state y w → Served serves Others x told more y w
+  with_ends w more r front ends =
+      record {
+        read = r.read;
+        rest = r.rest;
+        replies = r.replies;
+        state = r.state;
+        cut = r.cut;
+        replied = r.replied;
+        front = front;
+        ends = ends;
+      }
+
+  pub ends_served : Served serves (AllEnd serves) x told took y (Ok tt)
+      → Served serves (ServingEnds serves) x told took y (Ok tt)
+  ends_served r = with_ends (Ok tt) took r r.front r.ends
+
+  pub ends_output : (e : Error) → Served serves (AllEnd serves) x told took y (Err (Output e))
+      → Served serves (ServingEnds serves) x told took y (Err (Output e))
+  ends_output e r = with_ends (Err (Output e)) took r r.front (Output e, r.ends.0, r.ends.1)
+
+  module _ (m : List WriteMark) where
+    flushed_at : (e : ServeError) (r : Served serves (AllEnd serves) x told took y (Err e)) → AllWritten took r.replies
+        → Wrote [] true m (Ok tt) → AllWritten (took ++ m) r.replies × EndsFlushed (took ++ m)
+    flushed_at e r a w =
+        ((no_failure_both took m a.0 w.0, still_all took m r.replies a w.1), ends_later took m (w.2 refl))
+
+    pub flush_input : (e : Error) → Served serves (AllEnd serves) x told took y (Err (Input e)) → Wrote [] true m (Ok tt)
+        → Served serves (ServingEnds serves) x told (took ++ m) y (Err (Input e))
+    flush_input e r w =
+        let f = flushed_at (Input e) r r.ends.1 w in
+        with_ends (Err (Input e)) (took ++ m) r ([], sym (append-nil _ ∙ f.0.1)) (r.ends.0, f.0, f.1)
+
+    pub flush_memory : Served serves (AllEnd serves) x told took y (Err Memory) → Wrote [] true m (Ok tt)
+        → Served serves (ServingEnds serves) x told (took ++ m) y (Err Memory)
+    flush_memory r w =
+        let f = flushed_at Memory r r.ends.1 w in
+        with_ends (Err Memory) (took ++ m) r ([], sym (append-nil _ ∙ f.0.1)) (r.ends.0, f.0, f.1)
+
+    -- where the flush failed
+    pub flush_failed : (e f : ServeError) (r : Served serves (AllEnd serves) x told took y (Err e))
+        → AllWritten took r.replies → Wrote [] true m (Err f)
+        → Served serves (ServingEnds serves) x told (took ++ m) y (Err f)
+    flush_failed e (Output f) r a w =
+        let both = wrote_both (concat r.replies) true took m (Err (Output f)) a.0 a.1 w in
+        with_ends (Err (Output f)) (took ++ m) r both.0 (e, r.ends.0, both.1)
+    flush_failed e (Input f) r a w = absurd w
+    flush_failed e Memory r a w = absurd w

@@ -119,3 +119,4 @@ pub use Rattle.lite_codec.specs.declared.values.Values.{Values}
 pub use Rattle.lite_consume.specs.Next.{nexts}
 pub use Rattle.lite_consume.specs.declared.next.Next.{Next}
 pub use Rattle.std.specs.Option.{option_transpose}
+pub use Rattle.std.specs.List.{concat}

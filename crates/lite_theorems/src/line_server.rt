@@ -1,8 +1,7 @@
 //! A server that answers each line of a reader with a reply to a writer.
-ghost use Rattle.std.specs.Prelude.{◌≡◌, ◌++◌, ◌∷◌, [], List, Ok, IfErr, IfOk, false, flat_map, true};
-ghost use Rattle.lite_theorems.specs.Uses.{ReadMark, EndsFlushed, WriteMark, bytes_taken, last_piece, without_return};
-ghost use Rattle.lite_theorems.specs.BothWriters.{TakesFront};
-ghost use Rattle.lite_theorems.specs.Serving.{LineEnds, OfOutput, PieceIn, Replied, Replying, ServingEnds};
+ghost use Rattle.std.specs.Prelude.{◌≡◌, ◌++◌, ◌∷◌, [], List, false, true};
+ghost use Rattle.lite_theorems.specs.Uses.{ReadMark, WriteMark, last_piece, without_return};
+ghost use Rattle.lite_theorems.specs.Serving.{AllEnd, AtHand, LineEnds, PieceIn, Served, Serving, ServingEnds, Wrote, reply_in};
 ghost use Rattle.lite_theorems.specs.Told.{ToldStripped, Without};
 
 use crate::serve_error::ServeError;
@@ -10,14 +9,17 @@ use crate::waits::{wait_flush, wait_read_until, wait_write_all};
 use lite_base::future::block_on::BlockOn;
 use lite_io_base::{AsyncBufRead, AsyncWrite, CountedRead};
 use std::alloc::{AllocError, AllocGlobal};
-use std::io;
 use std::sync::Wait;
 
-/// The replies that [`serve_lines`] writes: one for each line.
+/// A service that replies to lines, for [`serve_lines`]. It may have a state, such as a map or a counter.
 pub trait LineService {
-    /// The reply to a line. The line comes without its newline and without one carriage return before that. A
-    /// last line that has no newline keeps its carriage return.
-    ghost reply: { Replying };
+    /// A step from a state and a line to the reply and a state. The line comes without its newline and without
+    /// one carriage return before that. A last line that has no newline keeps its carriage return.
+    ///
+    /// A service whose reply depends on the line alone has `RepliesBy` of a function. One with a state has
+    /// `StepsBy` of what the state holds, and of a function from that and the line to the reply and what is
+    /// held then.
+    ghost serves: { Serving Self };
 
     /// Replaces a line with the reply to it. `Err` means that memory for the reply was refused; the line may
     /// be anything then.
@@ -33,8 +35,9 @@ pub trait LineService {
     ///
     /// impl LineService for Echo {
     ///     ghost use Rattle.std.specs.Prelude.{◌++◌, ◌∷◌, []};
+    ///     ghost use Rattle.futures_lite.specs.Lines.{RepliesBy};
     ///
-    ///     ghost reply = { λ line. line ++ 33 ∷ 10 ∷ [] };
+    ///     ghost serves = { RepliesBy (λ line. line ++ 33 ∷ 10 ∷ []) };
     ///
     ///     fn answer(&mut self, line: &mut Vec<u8>) -> Result<(), AllocError> {
     ///         line.extend_from_slice(b"!\n")
@@ -46,7 +49,7 @@ pub trait LineService {
     /// assert_eq!(rt; line.as_slice(), b"hello!\n".as_slice());
     /// ```
     fn answer(&mut self, line: &mut Vec<u8>) -> Result<(), AllocError>
-        ensures { IfOk result (λ _. line.new.items ≡ reply line.old.items) };
+        ensures { serves self.old line.old.items (reply_in result line.new.items) self.new };
 }
 
 /// Answers each line of `requests` with a reply to `replies`, in order, up to the first end of file.
@@ -58,21 +61,24 @@ pub trait LineService {
 /// allocated from `rt`.
 ///
 /// If it returns `Ok`, it has written the replies to all lines, none lost and none twice, and has flushed
-/// them. The call also flushes `replies` after each reply, if the reader has no more bytes buffered.
+/// them. The call also flushes `replies` after each reply, if the reader has no more bytes buffered. The
+/// service went from state to state by its steps, one for each line.
 ///
 /// The caller guarantees that `ranks.counts` holds for the reader `requests`: it cannot give bytes and errors
 /// for ever without end of file or `Pending`.
 ///
 /// # Errors
 ///
-/// After an error the call has written a prefix of the replies, which may end within a reply. What it wrote
-/// since the last flush is not flushed. The [`ServeError`] says why it stopped:
+/// The [`ServeError`] says why the call stopped:
 ///
 /// - `ServeError::Input`: the reader failed, or memory for a line was refused. All lines before that have
-///   their whole replies. The bytes of the line that was not finished are lost. They are consumed from
-///   `requests`, and so is the error.
-/// - `ServeError::Output`: the writer failed, at a reply or at a flush. The line of that reply was read.
-/// - `ServeError::Memory`: the service returned `Err`, for lack of memory. Nothing of its reply was written.
+///   their whole replies, and these are flushed. The bytes of the line that was not finished are lost. They
+///   are consumed from `requests`, and so is the error.
+/// - `ServeError::Output`: the writer failed, at a reply or at a flush. It took a prefix of the replies, which
+///   may end within a reply. The line of that reply was read. It may be the flush after another error, which
+///   is lost then.
+/// - `ServeError::Memory`: the service returned `Err`, for lack of memory. All lines before that have their
+///   whole replies, and these are flushed. Nothing of the refused reply was written.
 ///
 /// # Examples
 ///
@@ -86,8 +92,9 @@ pub trait LineService {
 ///
 /// impl LineService for Echo {
 ///     ghost use Rattle.std.specs.Prelude.{◌++◌, ◌∷◌, []};
+///     ghost use Rattle.futures_lite.specs.Lines.{RepliesBy};
 ///
-///     ghost reply = { λ line. line ++ 33 ∷ 10 ∷ [] };
+///     ghost serves = { RepliesBy (λ line. line ++ 33 ∷ 10 ∷ []) };
 ///
 ///     fn answer(&mut self, line: &mut Vec<u8>) -> Result<(), AllocError> {
 ///         line.extend_from_slice(b"!\n")
@@ -115,7 +122,39 @@ where
     L: LineService,
     requires { I.ranks.counts requests.old }
     ensures { (l : List ReadMark) × (took : List WriteMark) × ToldStripped I.reads requests.old l requests.new
-        × O.writes replies.old took replies.new × Replied L.reply l took ServingEnds result }
+        × O.writes replies.old took replies.new × Served L.serves (ServingEnds L.serves) service.old l took service.new result }
+{
+    match serve_all(on, rt, requests, replies, service) {
+        Ok(()) => Ok(()),
+        Err(ServeError::Output(e)) => Err(ServeError::Output(e)),
+        // What was replied before is to arrive.
+        Err(ServeError::Input(e)) => {
+            flush_if(on, rt, replies, true)?;
+            Err(ServeError::Input(e))
+        }
+        Err(ServeError::Memory) => {
+            flush_if(on, rt, replies, true)?;
+            Err(ServeError::Memory)
+        }
+    }
+}
+
+/// Answers lines until the end of file, or until it cannot go on.
+fn serve_all<R, I, O, L>(
+    on: &mut BlockOn,
+    rt: &R,
+    requests: &mut I,
+    replies: &mut O,
+    service: &mut L,
+) -> Result<(), ServeError>
+where
+    R: Wait + AllocGlobal,
+    I: AsyncBufRead + CountedRead,
+    O: AsyncWrite,
+    L: LineService,
+    requires { I.ranks.counts requests.old }
+    ensures { (l : List ReadMark) × (took : List WriteMark) × ToldStripped I.reads requests.old l requests.new
+        × O.writes replies.old took replies.new × Served L.serves (AllEnd L.serves) service.old l took service.new result }
 {
     let mut line = Vec::new(rt.alloc());
     for _ in rt.forever() {
@@ -142,7 +181,7 @@ where
     L: LineService,
     requires { I.ranks.counts requests.old }
     ensures answered { (l : List ReadMark) × (took : List WriteMark) × ToldStripped I.reads requests.old l requests.new
-        × O.writes replies.old took replies.new × Replied L.reply l took LineEnds result }
+        × O.writes replies.old took replies.new × Served L.serves (LineEnds L.serves) service.old l took service.new result }
     ensures again { I.ranks.counts requests.new }
 {
     line.clear();
@@ -172,7 +211,7 @@ fn read_line<R: Wait, I: AsyncBufRead + CountedRead>(
     match wait_read_until(on, rt, requests, b'\n', line) {
         Ok(Ok(_)) => Ok(()),
         Ok(Err(e)) => Err(ServeError::Input(e)),
-        Err(_) => Err(ServeError::Memory),
+        Err(_) => unreachable!(),
     }
 }
 
@@ -184,10 +223,8 @@ fn answer_last<R: Wait, O: AsyncWrite, L: LineService>(
     service: &mut L,
     line: &mut Vec<u8>,
 ) -> Result<(), ServeError>
-    ensures { (took : List WriteMark)
-        × TakesFront O.writes replies.old (flat_map L.reply (last_piece line.old.items)) took replies.new
-        × IfOk result (λ _. bytes_taken took ≡ flat_map L.reply (last_piece line.old.items))
-        × IfOk result (λ _. EndsFlushed took) × IfErr result OfOutput }
+    ensures { (took : List WriteMark) × O.writes replies.old took replies.new
+        × AtHand L.serves service.old (last_piece line.old.items) true took service.new result }
 {
     if line.is_empty() {
         return flush_if(on, rt, replies, true);
@@ -204,25 +241,29 @@ fn answer<R: Wait, O: AsyncWrite, L: LineService>(
     line: &mut Vec<u8>,
     flush_now: bool,
 ) -> Result<(), ServeError>
-    ensures { (took : List WriteMark) × TakesFront O.writes replies.old (L.reply line.old.items) took replies.new
-        × IfOk result (λ _. bytes_taken took ≡ L.reply line.old.items)
-        × (flush_now ≡ true → IfOk result (λ _. EndsFlushed took)) × IfErr result OfOutput }
+    ensures { (took : List WriteMark) × O.writes replies.old took replies.new
+        × AtHand L.serves service.old (line.old.items ∷ []) flush_now took service.new result }
 {
     let Ok(()) = service.answer(line) else {
         return Err(ServeError::Memory);
     };
-    of_output(wait_write_all(on, rt, replies, line))?;
-    flush_if(on, rt, replies, flush_now)
+    write_reply(on, rt, replies, line, flush_now)
 }
 
-/// Returns the error of a wait for a call of the output.
-fn of_output(waited: Result<io::Result<()>, AllocError>) -> Result<(), ServeError>
-    ensures { IfOk result (λ _. waited ≡ Ok (Ok tt)) × IfErr result OfOutput }
+/// Writes a reply, and flushes if `flush_now`.
+fn write_reply<R: Wait, O: AsyncWrite>(
+    on: &mut BlockOn,
+    rt: &R,
+    replies: &mut O,
+    reply: &[u8],
+    flush_now: bool,
+) -> Result<(), ServeError>
+    ensures { (took : List WriteMark) × O.writes replies.old took replies.new × Wrote reply.now flush_now took result }
 {
-    match waited {
-        Ok(Ok(())) => Ok(()),
+    match wait_write_all(on, rt, replies, reply) {
+        Ok(Ok(())) => flush_if(on, rt, replies, flush_now),
         Ok(Err(e)) => Err(ServeError::Output(e)),
-        Err(_) => Err(ServeError::Memory),
+        Err(_) => unreachable!(),
     }
 }
 
@@ -233,13 +274,16 @@ fn flush_if<R: Wait, O: AsyncWrite>(
     replies: &mut O,
     now: bool,
 ) -> Result<(), ServeError>
-    ensures { (took : List WriteMark) × O.writes replies.old took replies.new × (bytes_taken took ≡ [])
-        × (now ≡ true → IfOk result (λ _. EndsFlushed took)) × IfErr result OfOutput }
+    ensures { (took : List WriteMark) × O.writes replies.old took replies.new × Wrote [] now took result }
 {
     if !now {
         return Ok(());
     }
-    of_output(wait_flush(on, rt, replies))
+    match wait_flush(on, rt, replies) {
+        Ok(Ok(())) => Ok(()),
+        Ok(Err(e)) => Err(ServeError::Output(e)),
+        Err(_) => unreachable!(),
+    }
 }
 
 /// Removes the newline, and one carriage return before it. Returns whether there was a newline.

@@ -1,37 +1,45 @@
-use Rattle.std.specs.Prelude.{◌≡◌, Err, Ok, false, true}
-use Rattle.lite_theorems.specs.Uses.{rules, subst}
-use Rattle.lite_theorems.specs.Serving.{LineEnds, Replied}
-use Rattle.lite_theorems.proofs.Serving.{served, so_far_none, so_far_on}
+use Rattle.std.specs.Prelude.{◌≡◌, ◌++◌, Err, Ok}
+use Rattle.lite_theorems.specs.Uses.{rules}
+use Rattle.lite_theorems.specs.declared.serve_error.ServeError.TheVariants.{Input, Memory}
+use Rattle.lite_theorems.proofs.Serving.{flush_failed, flush_input, flush_memory}
 use Rattle.lite_theorems.proofs.line_server.serve_lines.Goals as goal
 
-pub loop-init : goal.loop-init
-loop-init g c = (so_far_none g.I.Tale.read_laws g.O.Takings.write_laws _ _, c.requires)
+pub returns-in_err-flush_if-in-Err-Input : goal.returns-in_err-flush_if-in-Err-Input
+returns-in_err-flush_if-in-Err-Input g c =
+    let e = Input c.in-Err-Input.e in
+    let f = c.in_err-flush_if-in-Err-Input.field-0.0 in
+    let stopped : c.serve_all.result ≡ Err e = search rules in
+    let is : c.from_residual.result ≡ Err f = search rules in
+    let t = rw stopped at c.serve_all.ensures in
+    let w = c.in_err-flush_if-in-Err-Input.ensures in
+    let writes = g.O.Takings.write_laws.follows _ _ _ t.1 w.0 t.3 w.1 in
+    rw is (t.0, t.1 ++ w.0, t.2, writes, flush_failed g.L.LineService.serves w.0 e f t.4 t.4.ends.1 w.2)
 
-pub returns-in_err-answer_next : goal.returns-in_err-answer_next
-returns-in_err-answer_next g c =
-    let h = c.loop.invariant.0 in
-    let t = c.in_err-answer_next.ensures.answered in
-    let r = t.4 in
-    let is : c.from_residual.result ≡ Err c.in_err-answer_next.field-0.0 = search rules in
-    rw is (served g.I.Tale.read_laws g.O.Takings.write_laws _ _ _ _ _ _ h t.0 t.1 t.2 t.3
-    (Err c.in_err-answer_next.field-0.0)
-    (record { read = r.read; rest = r.rest; cut = r.cut; front = r.front; ends = r.ends }))
+pub returns-in_err-flush_if-in-Err-Memory : goal.returns-in_err-flush_if-in-Err-Memory
+returns-in_err-flush_if-in-Err-Memory g c =
+    let f = c.in_err-flush_if-in-Err-Memory.field-0.0 in
+    let stopped : c.serve_all.result ≡ Err Memory = search rules in
+    let is : c.from_residual-in_err-flush_if-in-Err-Memory.result ≡ Err f = search rules in
+    let t = rw stopped at c.serve_all.ensures in
+    let w = c.in_err-flush_if-in-Err-Memory.ensures in
+    let writes = g.O.Takings.write_laws.follows _ _ _ t.1 w.0 t.3 w.1 in
+    rw is (t.0, t.1 ++ w.0, t.2, writes, flush_failed g.L.LineService.serves w.0 Memory f t.4 t.4.ends.1 w.2)
 
-pub returns-then-not-branch : goal.returns-then-not-branch
-returns-then-not-branch g c =
-    let h = c.loop.invariant.0 in
-    let t = c.in_ok-answer_next.ensures.answered in
-    let over : c.in_ok-answer_next.field-0 ≡ false = search rules in
-    let r = subst (λ b. Replied g.L.LineService.reply t.0 t.1 LineEnds (Ok b)) over t.4 in
-    served g.I.Tale.read_laws g.O.Takings.write_laws _ _ _ _ _ _ h t.0 t.1 t.2 t.3 (Ok tt)
-    (record { read = r.read; rest = r.rest; cut = r.cut; front = r.front; ends = r.ends })
+pub returns-in_ok-flush_if-in-Err-Input : goal.returns-in_ok-flush_if-in-Err-Input
+returns-in_ok-flush_if-in-Err-Input g c =
+    let e = c.in-Err-Input.e in
+    let stopped : c.serve_all.result ≡ Err (Input e) = search rules in
+    let flushed : c.flush_if.result ≡ Ok tt = search rules in
+    let t = rw stopped at c.serve_all.ensures in
+    let w = rw flushed at c.flush_if.ensures in
+    let writes = g.O.Takings.write_laws.follows _ _ _ t.1 w.0 t.3 w.1 in
+    (t.0, t.1 ++ w.0, t.2, writes, flush_input g.L.LineService.serves w.0 e t.4 w.2)
 
-pub loop-preserved : goal.loop-preserved
-loop-preserved g c =
-    let h = c.loop.invariant.0 in
-    let t = c.in_ok-answer_next.ensures.answered in
-    let more : c.in_ok-answer_next.field-0 ≡ true = search rules in
-    let r = subst (λ b. Replied g.L.LineService.reply t.0 t.1 LineEnds (Ok b)) more t.4 in (
-      so_far_on g.I.Tale.read_laws g.O.Takings.write_laws _ _ _ _ _ _ h t.0 t.1 t.2 t.3 r,
-      c.in_ok-answer_next.ensures.again,
-    )
+pub returns-in_ok-flush_if-in-Err-Memory : goal.returns-in_ok-flush_if-in-Err-Memory
+returns-in_ok-flush_if-in-Err-Memory g c =
+    let stopped : c.serve_all.result ≡ Err Memory = search rules in
+    let flushed : c.flush_if-in-Err-Memory.result ≡ Ok tt = search rules in
+    let t = rw stopped at c.serve_all.ensures in
+    let w = rw flushed at c.flush_if-in-Err-Memory.ensures in
+    let writes = g.O.Takings.write_laws.follows _ _ _ t.1 w.0 t.3 w.1 in
+    (t.0, t.1 ++ w.0, t.2, writes, flush_memory g.L.LineService.serves w.0 t.4 w.2)
