@@ -11,12 +11,12 @@ use futures_lite::Future;
 
 /// Returns a future that makes an attempt, and another one after each attempt that fails, up to `retries` more.
 ///
-/// `make` is called with the number of the attempt, from 0 on, and returns its future. The value is the `Ok` of the first
-/// attempt that succeeds. If none does, it is the `Err` of the last attempt, with the number `retries`.
+/// `make` is called with the number of the attempt, from 0 on, and returns its future. The value is the `Ok` of the
+/// first attempt that succeeds. If none does, it is the `Err` of the last attempt, with the number `retries`.
 ///
 /// The caller guarantees that `make` may always be called, and returns futures that may be polled (`MakesAlways`). The
-/// contract says what the attempts returned (`outcome`). If `make` acts as a function, and the values of its futures are
-/// known, it says which value comes (`value`).
+/// contract says what the attempts returned (`outcome`). If `make` acts as a function, and the values of its futures
+/// are known, it says which value comes (`value`).
 ///
 /// # Examples
 ///
