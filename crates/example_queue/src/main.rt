@@ -1,0 +1,27 @@
+//! A bounded queue between two tasks of one thread.
+#![tactic(auto)]
+
+mod callers;
+mod make;
+mod queue;
+mod receiver;
+mod send_error;
+mod sender;
+mod transfer;
+
+use callers::{evens, tripled};
+use queue::Queue;
+use std::io;
+
+fn main(rt: HostRuntime) -> io::Result<()> {
+    let numbers = vec![in rt.alloc(); 1u32, 2, 3, 4, 5]?;
+    println!(rt; "{:?}", tripled(&rt, numbers, 2)?)?;
+    let mut queue = Queue::new(rt.alloc(), 3);
+    for number in 1..5u32 {
+        if let Err(refused) = queue.send(number) {
+            println!(rt; "{refused:?}")?;
+        }
+    }
+    queue.close();
+    println!(rt; "{:?}", evens(&rt, queue)?)
+}
