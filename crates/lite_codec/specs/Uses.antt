@@ -45,3 +45,16 @@ pub use Rattle.std.specs.declared.io.ErrorKind.{ErrorKind}
 pub use Rattle.std.specs.declared.vec.Vec.{Vec}
 pub use Rattle.std.specs.Int.{from_be_bytes, to_be_bytes, w32}
 pub use Rattle.std.proofs.lemmas.Nat.{be_bytes_4, from_be_bytes-to_be_bytes_4}
+pub use Rattle.std.specs.List.{AllByRecursion}
+pub use Rattle.lite_base.specs.Laws.All.{all_append, all_split}
+pub use Rattle.std.specs.Int.{w64}
+pub use Rattle.std.specs.Int.RustNames.{FitsSigned}
+pub use Rattle.std.proofs.lemmas.Fmt.{decimal_digit, decimal_is_IsNumeral, length-decimal-le, length_signed_le, signed_decimal_injective, decimal_injective}
+pub use Rattle.std.proofs.lemmas.Str.Parse.{digit_from_value}
+pub use Rattle.std.specs.Str.Parse.{AllDigits}
+pub use Rattle.std.specs.Int.Signed.{mag}
+pub use Rattle.std.proofs.lemmas.List.{append_cancel_right}
+pub use Rattle.std.proofs.lemmas.Bool.{eq-eqb}
+pub use Rattle.std.proofs.Math.Seq.{take-add}
+pub use Rattle.std.proofs.lemmas.List.{length-replicate, length-take}
+pub use Rattle.std.proofs.lemmas.List.{take-take}
