@@ -8,7 +8,7 @@ use Rattle.lite_codec.specs.declared.resp.Resp.{Resp}
 use Rattle.lite_codec.specs.declared.resp.RespValue.{RespValue}
 use Rattle.lite_codec.specs.declared.resp.RespValue.TheVariants.{Bulk, Error, Integer, Null, Simple}
 
--- What a value is, by lists.
+-- A value of the Redis protocol, with lists of bytes.
 pub data Reply : Type 0 where
   simple : List ℕ → Reply
   error : List ℕ → Reply
@@ -16,6 +16,7 @@ pub data Reply : Type 0 where
   bulk : List ℕ → Reply
   null : Reply
 
+-- The kind of a value, and its contents.
 abbrev pub reply_of : RespValue → Reply
 reply_of (Simple text) = Reply.simple text.items
 reply_of (Error text) = Reply.error text.items
@@ -31,7 +32,7 @@ first_line (Reply.integer n) = codes ":" ++ signed_decimal n ++ codes "\r"
 first_line (Reply.bulk bytes) = codes "$" ++ decimal (length bytes) ++ codes "\r"
 first_line Reply.null = codes "$-1\r"
 
--- What a value has behind its first line.
+-- The bytes of a value behind its first line and the line feed.
 abbrev pub behind_line : Reply → List ℕ
 behind_line (Reply.bulk bytes) = bytes ++ codes "\r\n"
 behind_line reply = []
@@ -44,13 +45,13 @@ reply_bytes reply = first_line reply ++ 10 ∷ behind_line reply
 abbrev pub IsText : Resp → List ℕ → Type 0
 IsText c text = (length text ≤ c.max) × AllByRecursion (λ b. (b ≢ 13) × (b ≢ 10)) text
 
--- A text is not encoded: it is none, or memory was refused.
+-- Why a text was not encoded: the codec has no such text, or memory was refused.
 abbrev pub RefusesText : Resp → List ℕ → EncodeError → Type 0
 RefusesText c text Unencodable = IsText c text → ⊥
 RefusesText c text Memory = ⊤
 RefusesText c text e = ⊥
 
--- The values that a codec has.
+-- The values that the codec can encode.
 abbrev pub IsReply : Resp → Reply → Type 0
 IsReply c (Reply.simple text) = IsText c text
 IsReply c (Reply.error text) = IsText c text
@@ -70,15 +71,15 @@ IsOneLine = AllByRecursion (λ b. b ≢ 10)
 abbrev pub NoFirstLine : Resp → List ℕ → Type 0
 NoFirstLine c line = (reply : Reply) → IsReply c reply → line ≡ first_line reply → ⊥
 
--- The first line of no value, with its line feed.
+-- A line with its line feed, where no value has this first line.
 abbrev pub WrongLine : Resp → List ℕ → Type 0
 WrongLine c xs = (line : List ℕ) × IsOneLine line × (length line < c.max + 24) × NoFirstLine c line × (xs ≡ line ++ 10 ∷ [])
 
--- So many bytes without a line feed that no first line is as long.
+-- Bytes without a line feed, more than a first line can have.
 abbrev pub LongLine : Resp → List ℕ → Type 0
 LongLine c xs = IsOneLine xs × (length xs ≡ c.max + 24)
 
--- A bulk string, and two bytes in place of its end.
+-- A bulk string, with two other bytes where CR LF should be.
 abbrev pub WrongEnd : Resp → List ℕ → Type 0
 WrongEnd c xs = (bytes last : List ℕ) × IsReply c (Reply.bulk bytes) × (length last ≡ 2) × (last ≢ codes "\r\n")
     × (xs ≡ first_line (Reply.bulk bytes) ++ 10 ∷ (bytes ++ last))

@@ -12,22 +12,65 @@ use itoa::Buffer;
 use memchr::{memchr, memchr2};
 use std::alloc::{AllocError, Global};
 
-/// A value of the Redis protocol (RESP2) that is no array.
+/// A value of the Redis protocol (RESP2), except an array.
+///
+/// # Examples
+///
+/// ```
+/// use futures_lite::codec::{Resp, RespValue, values};
+/// use futures_lite::{StreamExt, future};
+///
+/// let mut reader = b"+OK\r\n:-7\r\n$2\r\nhi\r\n$-1\r\n".as_slice();
+/// let mut read = values(rt.alloc(), &mut reader, Resp { max: 100 });
+/// let first = future::block_on(&rt, read.next())?;
+/// assert!(rt; matches!(first, Some(Ok(RespValue::Simple(_)))));
+/// let second = future::block_on(&rt, read.next())?;
+/// assert!(rt; matches!(second, Some(Ok(RespValue::Integer(-7)))));
+/// let third = future::block_on(&rt, read.next())?;
+/// assert!(rt; matches!(third, Some(Ok(RespValue::Bulk(_)))));
+/// let last = future::block_on(&rt, read.next())?;
+/// assert!(rt; matches!(last, Some(Ok(RespValue::Null))));
+/// ```
 #[derive(Debug, Drop)]
 pub enum RespValue {
-    /// A short text, without carriage return and line feed.
+    /// A text without carriage return and line feed: `+`, the text, and `\r\n`.
     Simple(Vec<u8>),
-    /// An error message, without carriage return and line feed.
+    /// The text of an error, without carriage return and line feed: `-`, the text, and `\r\n`.
     Error(Vec<u8>),
-    /// A number.
+    /// A number: `:`, its decimal digits with `-` before a negative one, and `\r\n`.
     Integer(i64),
-    /// Any bytes.
+    /// Any bytes: `$`, their number, `\r\n`, the bytes, and `\r\n`.
     Bulk(Vec<u8>),
-    /// No value.
+    /// No value: `$-1\r\n`.
     Null,
 }
 
-/// A codec.
+/// A codec for the values of the Redis protocol (RESP2), except arrays.
+///
+/// A text or a bulk string of more than `max` bytes is not encoded, and neither is a text with a carriage
+/// return or a line feed. Only the bytes that `encode` appends are decoded: a number has no leading zero and no
+/// `+`.
+///
+/// Three kinds of bytes are refused. A line that begins no value is refused through its line feed. Without a
+/// line feed, `max + 24` bytes are refused: no value's first line is as long. A bulk string without `\r\n`
+/// behind it is refused, with the two bytes that are in its place.
+///
+/// # Examples
+///
+/// ```
+/// use futures_lite::codec::{Codec, Decoded, Resp, RespValue};
+///
+/// let codec = Resp { max: 100 };
+/// let mut bytes = Vec::new(rt.alloc());
+/// assert!(rt; codec.encode(&RespValue::Integer(-7), &mut bytes).is_ok());
+/// let text = RespValue::Bulk(Vec::from_slice(rt.alloc(), b"hi")?);
+/// assert!(rt; codec.encode(&text, &mut bytes).is_ok());
+/// assert_eq!(rt; bytes.as_slice(), b":-7\r\n$2\r\nhi\r\n".as_slice());
+/// match codec.decode(rt.alloc(), b":007\r\n:7\r\n")? {
+///     Decoded::Malformed(amount) => assert_eq!(rt; amount, 6),
+///     _ => return Err(Fail::from("a number has no leading zero")),
+/// }
+/// ```
 #[derive(Debug, Clone, Copy, PartialEq, Eq)]
 pub struct Resp {
     /// How many bytes a text or a bulk string may have at most.
@@ -71,14 +114,14 @@ impl Resp {
             return Ok(Decoded::Malformed(size));
         };
         match kind {
-            b'+' if self.is_text(text) => Ok(Decoded::Whole(
-                RespValue::Simple(Vec::from_slice(alloc, text)?),
-                size,
-            )),
-            b'-' if self.is_text(text) => Ok(Decoded::Whole(
-                RespValue::Error(Vec::from_slice(alloc, text)?),
-                size,
-            )),
+            b'+' if self.is_text(text) => {
+                let text = Vec::from_slice(alloc, text)?;
+                Ok(Decoded::Whole(RespValue::Simple(text), size))
+            }
+            b'-' if self.is_text(text) => {
+                let text = Vec::from_slice(alloc, text)?;
+                Ok(Decoded::Whole(RespValue::Error(text), size))
+            }
             b':' => match read_number(text) {
                 Some(number) => Ok(Decoded::Whole(RespValue::Integer(number), size)),
                 None => Ok(Decoded::Malformed(size)),
@@ -102,9 +145,7 @@ impl Resp {
             return None;
         };
         match text.parse::<u32>() {
-            Ok(amount) if amount <= self.max && Buffer::new().format(amount) == text => Some(
-                amount as usize,
-            ),
+            Ok(n) if n <= self.max && Buffer::new().format(n) == text => Some(n as usize),
             _ => None,
         }
     }
@@ -145,20 +186,17 @@ impl Codec for Resp {
     ghost codec_laws = { resp_laws };
 
     fn encode(&self, value: &RespValue, out: &mut Vec<u8>) -> Result<(), EncodeError> {
-        let mut digits = Buffer::new();
         match value {
             RespValue::Simple(text) => self.encode_text(b'+', text, out),
             RespValue::Error(text) => self.encode_text(b'-', text, out),
-            RespValue::Integer(number) => Ok(encode_line(
-                b':',
-                digits.format(*number).as_bytes(),
-                out,
-            )?),
+            RespValue::Integer(number) => {
+                Ok(encode_line(b':', Buffer::new().format(*number).as_bytes(), out)?)
+            }
             RespValue::Bulk(bytes) => {
                 if bytes.len() > self.max as usize {
                     return Err(EncodeError::Unencodable);
                 }
-                encode_line(b'$', digits.format(bytes.len()).as_bytes(), out)?;
+                encode_line(b'$', Buffer::new().format(bytes.len()).as_bytes(), out)?;
                 out.extend_from_slice(bytes)?;
                 Ok(out.extend_from_slice(b"\r\n")?)
             }

@@ -7,6 +7,7 @@ use Rattle.lite_codec.specs.Codec.{CodecLaws}
 use Rattle.lite_codec.specs.Laws.LengthDelimited.{nothing_more, same_fronts}
 use Rattle.lite_codec.specs.Resp.{IsOneLine, IsReply, NoFirstLine, Reply, RefusedResp, RespOf, reply_bytes, LongLine, first_line, behind_line, reply_of}
 use Rattle.lite_codec.specs.declared.resp.Resp.{Resp}
+use Rattle.lite_codec.specs.declared.resp.RespValue.{RespValue}
 
 -- Two lines at the beginning of one list are one.
 pub one_line : (l m p q : List ℕ) → IsOneLine l → IsOneLine m → l ++ 10 ∷ p ≡ m ++ 10 ∷ q → (l ≡ m) × (p ≡ q)
@@ -210,3 +211,16 @@ resp_laws c =
       hopeless = λ v xs ys more rest h k e. reply_hopeless c (reply_of v) xs more rest h k.0 (e ∙ ap (λ l. l ++ rest) k.1);
       refused_alone = refused_once c;
     }
+
+-- Two values with one first line and the same bytes behind it are one.
+same_reply : (r s : Reply) → SameLine r s → behind_line r ≡ behind_line s → r ≡ s
+same_reply r _ (SameLine.same _) e = refl
+same_reply _ _ (SameLine.lengths b d _) e = ap Reply.bulk (append_cancel_right b d (13 ∷ 10 ∷ []) e)
+
+-- Two values with the same bytes are of one kind, with equal contents.
+pub resp_one : (c : Resp) (v w : RespValue) (xs : List ℕ) → RespOf c v xs → RespOf c w xs → reply_of v ≡ reply_of w
+resp_one c v w xs h k =
+    let r = reply_of v in
+    let s = reply_of w in
+    let both = begin_one c r s (behind_line r) (behind_line s) h.0 k.0 (sym h.1 ∙ k.1) in
+    same_reply r s both.0 both.1

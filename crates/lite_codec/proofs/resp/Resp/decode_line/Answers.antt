@@ -13,16 +13,16 @@ returns-in_default c =
     line_malformed c.args.self.now c.args.line.now _ c.requires.one c.requires.short
     (no_kind c.args.self.now c.args.line.now (rw c.in_default.is at c.split_line.ensures))
 
-pub returns-in_ok-from_slice-in-43 : goal.returns-in_ok-from_slice-in-43
-returns-in_ok-from_slice-in-43 c =
-    let v = c.in_ok-from_slice-in-43.field-0 in
+pub returns-in_ok-text-in-43 : goal.returns-in_ok-text-in-43
+returns-in_ok-text-in-43 c =
+    let v = c.in_ok-text-in-43.text in
     let line : c.args.line.now ≡ 43 ∷ (v.items ++ 13 ∷ []) = search rules in
     let fits : IsText c.args.self.now v.items = search rules in
     line_whole c.args.self.now (Simple v) c.args.line.now _ fits line refl
 
-pub returns-in_ok-from_slice-in-45 : goal.returns-in_ok-from_slice-in-45
-returns-in_ok-from_slice-in-45 c =
-    let v = c.in_ok-from_slice-in-45.field-0 in
+pub returns-in_ok-text-in-45 : goal.returns-in_ok-text-in-45
+returns-in_ok-text-in-45 c =
+    let v = c.in_ok-text-in-45.text in
     let line : c.args.line.now ≡ 45 ∷ (v.items ++ 13 ∷ []) = search rules in
     let fits : IsText c.args.self.now v.items = search rules in
     line_whole c.args.self.now (Error v) c.args.line.now _ fits line refl
