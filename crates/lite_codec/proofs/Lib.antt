@@ -1,1 +1,2 @@
 mod Decoding
+mod RespLines

@@ -1,3 +1,4 @@
 pub mod Decoding
 pub mod LengthDelimited
+pub mod Resp
 pub mod Values

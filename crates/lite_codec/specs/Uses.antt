@@ -8,6 +8,7 @@ pub use Rattle.lite_base.specs.Answers.{Answer, items}
 pub use Rattle.lite_base.specs.Calm.{CalmLaws}
 pub use Rattle.lite_base.specs.Chain.{OneStep, Reaches}
 pub use Rattle.lite_base.specs.Ends.{Terminates}
+pub use Rattle.lite_base.specs.Laws.All.{all_append, all_split}
 pub use Rattle.lite_base.specs.Laws.Ends.{Terminates-map}
 pub use Rattle.lite_base.specs.Laws.Segments.{segment_alone, segments_one}
 pub use Rattle.lite_base.specs.OkRanks.{OkCounting, all_ok}
@@ -34,14 +35,19 @@ pub use Rattle.lite_read.specs.PieceSteps.{TakesPieceIn}
 pub use Rattle.lite_read.specs.ReadFold.{AnswerMarks, ReadFold}
 pub use Rattle.lite_read.specs.Segments.{Flows, PieceSegments, StreamOver}
 pub use Rattle.std.proofs.Common.{Global, add-one, ap, append-nil, append_assoc, arith, eqb-true, get_or, inl, inr, length-append, length-take-le, refl, rules, subst, sym, zero-le, ◌∙◌, suc, zero}
-pub use Rattle.std.proofs.Math.Seq.{take-append-add, take-length, take-suc}
-pub use Rattle.std.proofs.lemmas.Bool.{cases_lt}
+pub use Rattle.std.proofs.Math.Seq.{take-add, take-append-add, take-length, take-suc}
+pub use Rattle.std.proofs.lemmas.Bool.{cases_lt, eq-eqb}
+pub use Rattle.std.proofs.lemmas.Fmt.{decimal_injective, decimal_is_IsNumeral, length-decimal-le, length_signed_le, signed_decimal_injective}
 pub use Rattle.std.proofs.lemmas.Grind.{common_steps}
-pub use Rattle.std.proofs.lemmas.List.{map-append, take-append-drop, take-append-le}
+pub use Rattle.std.proofs.lemmas.List.{append_cancel_right, length-replicate, length-take, map-append, take-append-drop, take-append-le, take-take}
+pub use Rattle.std.proofs.lemmas.Str.Parse.{digit_from_value}
 pub use Rattle.std.specs.IoError.{error_kind}
-pub use Rattle.std.specs.List.{FoldsTo}
+pub use Rattle.std.specs.List.{AllByRecursion, FoldsTo}
 pub use Rattle.std.specs.declared.io.Error.{Error}
 pub use Rattle.std.specs.declared.io.ErrorKind.{ErrorKind}
 pub use Rattle.std.specs.declared.vec.Vec.{Vec}
-pub use Rattle.std.specs.Int.{from_be_bytes, to_be_bytes, w32}
+pub use Rattle.std.specs.Int.{from_be_bytes, to_be_bytes, w32, w64}
+pub use Rattle.std.specs.Int.RustNames.{FitsSigned}
+pub use Rattle.std.specs.Int.Signed.{mag}
+pub use Rattle.std.specs.Str.Parse.{AllDigits}
 pub use Rattle.std.proofs.lemmas.Nat.{be_bytes_4, from_be_bytes-to_be_bytes_4}

@@ -6,10 +6,12 @@ mod error;
 mod length_delimited;
 pub mod make;
 mod ok_counted;
+mod resp;
 mod steady;
 mod values;
 
 pub use codec::{Codec, Decoded};
 pub use error::{DecodeError, EncodeError};
 pub use length_delimited::LengthDelimited;
+pub use resp::{Resp, RespValue};
 pub use values::Values;

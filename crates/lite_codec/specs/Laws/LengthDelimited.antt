@@ -5,12 +5,12 @@ use Rattle.lite_codec.specs.Codec.{CodecLaws}
 use Rattle.lite_codec.specs.LengthDelimited.{FrameOf, TooLong, length_header}
 use Rattle.lite_codec.specs.declared.length_delimited.LengthDelimited.{LengthDelimited}
 
-nothing_more : (rest : List ℕ) → length rest ≡ 0 → rest ≡ []
+pub nothing_more : (rest : List ℕ) → length rest ≡ 0 → rest ≡ []
 nothing_more [] e = refl
 nothing_more (b ∷ rest) e = absurd (omega (arith, e))
 
 -- Lists with the same beginning of one length.
-same_fronts : (h k p q : List ℕ) → length h ≡ length k → h ++ p ≡ k ++ q → (h ≡ k) × (p ≡ q)
+pub same_fronts : (h k p q : List ℕ) → length h ≡ length k → h ++ p ≡ k ++ q → (h ≡ k) × (p ≡ q)
 same_fronts [] [] p q e c = (refl, c)
 same_fronts [] (b ∷ k) p q e c = absurd (omega (arith, e))
 same_fronts (a ∷ h) [] p q e c = absurd (omega (arith, e))
