@@ -2,6 +2,7 @@
 ghost use Rattle.std.specs.Prelude.{◌≡◌};
 ghost use Rattle.std.specs.Char.{is_ascii_alphabetic};
 ghost use Rattle.std.specs.List.{list_all};
+ghost use Rattle.futures_lite.specs.Lines.{RepliesBy};
 ghost use Rattle.example_line_server.specs.Replies.{reply};
 
 use futures_lite::io::LineService;
@@ -12,7 +13,7 @@ use std::alloc::AllocError;
 pub struct Words;
 
 impl LineService for Words {
-    ghost reply = { reply };
+    ghost serves = { RepliesBy reply };
 
     fn answer(&mut self, line: &mut Vec<u8>) -> Result<(), AllocError> {
         if !is_word(line) {

@@ -17,8 +17,9 @@ use std::io;
 ///
 /// impl LineService for Echo {
 ///     ghost use Rattle.std.specs.Prelude.{◌++◌, ◌∷◌, []};
+///     ghost use Rattle.futures_lite.specs.Lines.{RepliesBy};
 ///
-///     ghost reply = { λ line. line ++ 33 ∷ 10 ∷ [] };
+///     ghost serves = { RepliesBy (λ line. line ++ 33 ∷ 10 ∷ []) };
 ///
 ///     fn answer(&mut self, line: &mut Vec<u8>) -> Result<(), AllocError> {
 ///         line.extend_from_slice(b"!\n")

@@ -1,4 +1,5 @@
 ghost use Rattle.std.specs.Prelude.{◌∷◌, ◌++◌, []};
+ghost use Rattle.futures_lite.specs.Lines.{RepliesBy};
 
 use futures_lite::future::BlockOn;
 use futures_lite::io::{BufReader, BufWriter, LineService, ServeError, serve_lines};
@@ -14,7 +15,7 @@ struct Echo {
 }
 
 impl LineService for Echo {
-    ghost reply = { λ line. line ++ 10 ∷ [] };
+    ghost serves = { RepliesBy (λ line. line ++ 10 ∷ []) };
 
     fn answer(&mut self, line: &mut Vec<u8>) -> Result<(), AllocError> {
         self.lines = self.lines.wrapping_add(1);
@@ -108,5 +109,27 @@ fn a_server_flushes_where_no_input_is_at_hand(rt: HostRuntime) -> Result<(), Fai
         assert_eq!(rt; replies.get_ref().taken(), flushed);
         assert_eq!(rt; replies.buffer().len() + flushed.len(), 4);
     }
+    Ok(())
+}
+
+#[test]
+fn replies_before_an_error_arrive(rt: HostRuntime) -> Result<(), Fail> {
+    let mut on = BlockOn::new(&rt)?;
+    let mut marks = Marks::new(rt.alloc());
+    // More is in the buffer behind the line, so its reply is not flushed at once.
+    marks.chunk(b"one\ntw")?;
+    marks.fault(ErrorKind::Other)?;
+    let Ok(mut requests) = BufReader::with_capacity(rt.alloc(), 8, marks) else {
+        return Err(AllocError.into());
+    };
+    let (mut written, mut echo) = (Vec::new(rt.alloc()), Echo { lines: 0 });
+    {
+        let Ok(mut replies) = BufWriter::new(rt.alloc(), &mut written) else {
+            return Err(AllocError.into());
+        };
+        let stopped = serve_lines(&mut on, &rt, &mut requests, &mut replies, &mut echo);
+        assert_eq!(rt; came(stopped), Err(("input", ErrorKind::Other)));
+    }
+    assert_eq!(rt; written.as_slice(), b"one\n".as_slice());
     Ok(())
 }
