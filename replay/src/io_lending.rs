@@ -6,7 +6,7 @@ use crate::io_words::{byte_of, bytes_of, text_of};
 use crate::lenders::Lender;
 use crate::readers::{BuildReader, Nest};
 use crate::words::{Fault, Words};
-use futures_lite::codec::{self, DecodeError, LengthDelimited};
+use futures_lite::codec::{self, DecodeError, LengthDelimited, Resp, RespValue};
 use futures_lite::io::{AsyncBufRead, AsyncRead, BufReader, CountedRead, ErrorKind};
 use futures_lite::laws::{CollectLinesFuture, collect_buffered_lines, collect_lines};
 use futures_lite::stream::{Stream, TryCollectError};
@@ -28,6 +28,7 @@ pub(crate) fn answered(
         "split" => split(run, words)?,
         "pieces" => pieces(run, words)?,
         "values" => values(run, words)?,
+        "resp" => resp(run, words)?,
         "fill" => fill(run, words)?,
         "mixed" => mixed(run, words)?,
         "lends" => lends(run, words)?,
@@ -153,13 +154,58 @@ fn values(run: &mut Run<'_, '_>, words: &mut Words<'_>) -> Result<(), Fault> {
             Poll::Pending => run.word("P")?,
             Poll::Ready(None) => run.word("E")?,
             Poll::Ready(Some(Ok(value))) => run.bytes(value.as_slice())?,
-            Poll::Ready(Some(Err(DecodeError::Truncated))) => run.word("!Truncated")?,
-            Poll::Ready(Some(Err(DecodeError::Malformed))) => run.word("!Malformed")?,
-            Poll::Ready(Some(Err(DecodeError::Io(e)))) => run.kind(e.kind())?,
-            Poll::Ready(Some(Err(DecodeError::Memory))) => run.kind(ErrorKind::OutOfMemory)?,
+            Poll::Ready(Some(Err(e))) => undecoded(run, e)?,
         }
     }
     Ok(())
+}
+
+/// `resp MOST LENDER`: polls of the stream of values of the Redis protocol, of at most so many bytes.
+fn resp(run: &mut Run<'_, '_>, words: &mut Words<'_>) -> Result<(), Fault> {
+    let max = u32::try_from(words.number()?).map_err(|_| Fault::Words)?;
+    let mut values = codec::values(run.alloc, Lender::build(run.alloc, words)?, Resp { max });
+    while run.has_polls() {
+        match values.poll_next(run.poll()) {
+            Poll::Pending => run.word("P")?,
+            Poll::Ready(None) => run.word("E")?,
+            Poll::Ready(Some(Ok(value))) => resp_value(run, &value)?,
+            Poll::Ready(Some(Err(e))) => undecoded(run, e)?,
+        }
+    }
+    Ok(())
+}
+
+/// A value of the Redis protocol: its first byte, and its contents.
+fn resp_value(run: &mut Run<'_, '_>, value: &RespValue) -> Result<(), Fault> {
+    match value {
+        RespValue::Simple(text) => {
+            run.part("+")?;
+            run.bytes(text.as_slice())
+        }
+        RespValue::Error(text) => {
+            run.part("-")?;
+            run.bytes(text.as_slice())
+        }
+        RespValue::Integer(n) => {
+            run.part(if *n < 0 { ":-" } else { ":" })?;
+            run.number(n.unsigned_abs())
+        }
+        RespValue::Bulk(bytes) => {
+            run.part("$")?;
+            run.bytes(bytes.as_slice())
+        }
+        RespValue::Null => run.word("$-1"),
+    }
+}
+
+/// Why no value was decoded.
+fn undecoded(run: &mut Run<'_, '_>, error: DecodeError) -> Result<(), Fault> {
+    match error {
+        DecodeError::Truncated => run.word("!Truncated"),
+        DecodeError::Malformed => run.word("!Malformed"),
+        DecodeError::Io(e) => run.kind(e.kind()),
+        DecodeError::Memory => run.kind(ErrorKind::OutOfMemory),
+    }
 }
 
 /// `fill MOST LENDER`: polls of a fill, of which at most so many bytes are then taken.

@@ -2,7 +2,7 @@
 pub use Rattle.lite_codec.specs.Codec.{CodecLaws, DecodedAs, EncodedAs, IsOpen, Undecided}
 pub use Rattle.lite_codec.specs.LengthDelimited.{FrameOf, TooLong, framed, length_header}
 pub use Rattle.lite_codec.specs.Laws.LengthDelimited.{frame_here, one_number, refused_here}
-pub use Rattle.lite_codec.specs.Resp.{IsReply, IsText, LongLine, NoFirstLine, RefusedResp, Reply, RespOf, WrongEnd, WrongLine}
+pub use Rattle.lite_codec.specs.Resp.{IsReply, IsShortText, LongLine, NoFirstLine, RefusedResp, Reply, RespOf, WrongEnd, WrongLine}
 pub use Rattle.lite_codec.specs.Resp.{IsOneLine, behind_line, first_line, reply_bytes, reply_of}
 pub use Rattle.lite_codec.specs.Laws.Resp.{begin_one, resp_one}
 pub use Rattle.lite_codec.specs.Values.{AtValue, Decodes, SameValue, YieldsValue, decoding, values_over}

@@ -6,6 +6,6 @@ pub use Rattle.lite_read.specs.LineText.{IsText, without_return}
 pub use Rattle.lite_theorems.specs.Lines.{AtEachValue, CollectsLines, CollectsOf, Line, StandsFor, as_lines, limited}
 pub use Rattle.lite_theorems.specs.Lines.{lines_told}
 -- what a server of lines was told and wrote
-pub use Rattle.lite_theorems.specs.Serving.{AllWritten, Refused, Replies, RepliesBy, Served, Serving, ServingEnds, StepsBy}
+pub use Rattle.lite_theorems.specs.Serving.{AllWritten, RefusedLine, Replies, RepliesBy, ServedLines, Serving, ServingEnds, ServesBy}
 pub use Rattle.lite_theorems.specs.Serving.{Stopped, reply_in}
-pub use Rattle.lite_theorems.specs.Laws.Serving.{replies_by, steps_by, steps_from}
+pub use Rattle.lite_theorems.specs.Laws.Serving.{replies_by, serves_by, steps_from}

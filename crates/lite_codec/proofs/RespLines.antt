@@ -4,15 +4,15 @@ use Rattle.std.specs.Fmt.{signed_decimal}
 use Rattle.lite_codec.specs.Uses.{◌∙◌, ap, arith, inl, inr, length-append, refl, sym, suc, zero, FitsSigned, w64, take-append-add, all_split, length-replicate, take-add, length-take, length-take-le, eq-eqb, take-length, take-take}
 use Rattle.lite_codec.specs.Codec.{DecodedAs, Undecided}
 use Rattle.lite_codec.specs.Laws.Resp.{begin_one, inner, line_on, long_line, no_feed, same_behind, wrong_line}
-use Rattle.lite_codec.specs.Resp.{IsOneLine, IsReply, IsText, NoFirstLine, RefusedResp, Reply, RespOf, behind_line, first_line, reply_bytes, reply_of}
+use Rattle.lite_codec.specs.Resp.{IsOneLine, IsReply, IsShortText, NoFirstLine, RefusedResp, Reply, RespOf, behind_line, first_line, reply_bytes, reply_of}
 use Rattle.lite_codec.specs.declared.codec.Decoded.TheVariants.{Malformed, Whole}
 use Rattle.lite_codec.specs.declared.resp.Resp.{Resp}
 use Rattle.lite_codec.specs.declared.resp.RespValue.{RespValue}
 
 -- What a first line says: its kind, and its text.
 data Says (c : Resp) : ℕ → List ℕ → Type 0 where
-  simple : (text : List ℕ) → IsText c text → Says c 43 text
-  error : (text : List ℕ) → IsText c text → Says c 45 text
+  simple : (text : List ℕ) → IsShortText c text → Says c 43 text
+  error : (text : List ℕ) → IsShortText c text → Says c 45 text
   number : (n : ℤ) → FitsSigned w64 n → Says c 58 (signed_decimal n)
   amount : (n : ℕ) → n ≤ c.max → n < 2 ^ 32 → Says c 36 (decimal n)
   null : Says c 36 (45 ∷ 49 ∷ [])
@@ -31,7 +31,7 @@ module _ (c : Resp) where
       let (k, text, is, _) = says r h in
       none k text (e ∙ is)
 
-  by_text : (kind : ℕ) (text : List ℕ) → kind ≡ 43 ⊎ kind ≡ 45 → (IsText c text → ⊥) → Says c kind text → ⊥
+  by_text : (kind : ℕ) (text : List ℕ) → kind ≡ 43 ⊎ kind ≡ 45 → (IsShortText c text → ⊥) → Says c kind text → ⊥
   by_text _ _ k none (Says.simple text h) = none h
   by_text _ _ k none (Says.error text h) = none h
   by_text _ _ (inl k) none (Says.number n h) = omega (arith, k)
@@ -73,7 +73,7 @@ module _ (c : Resp) where
         none (rw (first, inner k text t (rw first at both)) says)
 
     -- Why a line begins no value, by its kind.
-    pub no_text : kind ≡ 43 ⊎ kind ≡ 45 → (IsText c text → ⊥) → NoFirstLine c line
+    pub no_text : kind ≡ 43 ⊎ kind ≡ 45 → (IsShortText c text → ⊥) → NoFirstLine c line
     no_text k none = said (λ s. absurd (by_text kind text k none s))
 
     pub no_number : kind ≡ 58 → ((n : ℤ) → FitsSigned w64 n → text ≡ signed_decimal n → ⊥) → NoFirstLine c line

@@ -42,19 +42,19 @@ abbrev pub reply_bytes : Reply → List ℕ
 reply_bytes reply = first_line reply ++ 10 ∷ behind_line reply
 
 -- A text without carriage return and line feed, within the limit.
-abbrev pub IsText : Resp → List ℕ → Type 0
-IsText c text = (length text ≤ c.max) × AllByRecursion (λ b. (b ≢ 13) × (b ≢ 10)) text
+abbrev pub IsShortText : Resp → List ℕ → Type 0
+IsShortText c text = (length text ≤ c.max) × AllByRecursion (λ b. (b ≢ 13) × (b ≢ 10)) text
 
 -- Why a text was not encoded: the codec has no such text, or memory was refused.
 abbrev pub RefusesText : Resp → List ℕ → EncodeError → Type 0
-RefusesText c text Unencodable = IsText c text → ⊥
+RefusesText c text Unencodable = IsShortText c text → ⊥
 RefusesText c text Memory = ⊤
 RefusesText c text e = ⊥
 
 -- The values that the codec can encode.
 abbrev pub IsReply : Resp → Reply → Type 0
-IsReply c (Reply.simple text) = IsText c text
-IsReply c (Reply.error text) = IsText c text
+IsReply c (Reply.simple text) = IsShortText c text
+IsReply c (Reply.error text) = IsShortText c text
 IsReply c (Reply.integer n) = FitsSigned w64 n
 IsReply c (Reply.bulk bytes) = (length bytes ≤ c.max) × (length bytes < 2 ^ 32)
 IsReply c Reply.null = ⊤

@@ -3,7 +3,7 @@ ghost use Rattle.std.specs.Prelude.{◌≡◌, ◌≤◌, ◌<◌, ◌+◌, ◌^
 ghost use Rattle.std.specs.Fmt.{signed_decimal};
 ghost use Rattle.lite_codec.specs.Uses.{FitsSigned, w64};
 ghost use Rattle.lite_codec.specs.Codec.{DecodedAs};
-ghost use Rattle.lite_codec.specs.Resp.{IsOneLine, IsText, RefusedResp, RefusesText, RespOf};
+ghost use Rattle.lite_codec.specs.Resp.{IsOneLine, IsShortText, RefusedResp, RefusesText, RespOf};
 ghost use Rattle.lite_codec.specs.Laws.Resp.{resp_laws};
 
 use crate::codec::{Codec, Decoded};
@@ -80,7 +80,7 @@ pub struct Resp {
 impl Resp {
     // Returns whether the codec has this text.
     fn is_text(&self, text: &[u8]) -> bool
-        ensures { IsTrue result ↔ IsText self.now text.now }
+        ensures { IsTrue result ↔ IsShortText self.now text.now }
     {
         text.len() <= self.max as usize && memchr2(b'\r', b'\n', text).is_none()
     }
@@ -88,7 +88,7 @@ impl Resp {
     // Appends a text of this kind.
     fn encode_text(&self, kind: u8, text: &[u8], out: &mut Vec<u8>) -> Result<(), EncodeError>
         ensures { MatchResult result
-            (λ u. IsText self.now text.now × (out.new.items ≡ out.old.items ++ (kind ∷ (text.now ++ codes "\r\n"))))
+            (λ u. IsShortText self.now text.now × (out.new.items ≡ out.old.items ++ (kind ∷ (text.now ++ codes "\r\n"))))
             (RefusesText self.now text.now) }
     {
         if !self.is_text(text) {

@@ -6,7 +6,7 @@ use Rattle.lite_theorems.specs.Laws.Taken.{taken_both}
 use Rattle.lite_theorems.specs.Laws.Told.{told_follow, told_none}
 use Rattle.lite_theorems.specs.Told.{EndsAtFirst, ToldStripped, Without}
 use Rattle.lite_theorems.specs.BothWriters.{FailsWith}
-use Rattle.lite_theorems.specs.Serving.{AllEnd, AllWritten, AtHand, Ending, LineEnds, PieceIn, Refused, Replies, Served, Serving}
+use Rattle.lite_theorems.specs.Serving.{AllEnd, AllWritten, AtHand, Ending, LineEnds, PieceIn, RefusedLine, Replies, ServedLines, Serving}
 use Rattle.lite_theorems.specs.Serving.{ServingEnds, Stopped, WrittenAt, Wrote}
 use Rattle.lite_theorems.specs.declared.serve_error.ServeError.{ServeError}
 use Rattle.lite_theorems.specs.declared.serve_error.ServeError.TheVariants.{Input, Memory, Output}
@@ -61,7 +61,7 @@ module _ {L : Type 0} (serves : Serving L) where
 
   -- a line that could not be read
   pub not_read : (x : L) (xs : List ℕ) (told : List ReadMark) (e : ServeError) → PieceIn xs told (Err e)
-      → Served serves (LineEnds serves) x told [] x (Err e)
+      → ServedLines serves (LineEnds serves) x told [] x (Err e)
   not_read x xs told (Input e) h =
       record {
         read = [];
@@ -81,7 +81,7 @@ module _ {L : Type 0} (serves : Serving L) where
       (is_whole : (before : List ℕ) → xs ≡ before ++ 10 ∷ [] → (whole ≡ true) × (after ≡ without_return before))
       (is_last : Without 10 xs → (whole ≡ false) × (after ≡ xs)) (took : List WriteMark) where
     pub whole_served : (flushes : Bool) → whole ≡ true → AtHand serves x (after ∷ []) flushes took y (Ok tt)
-        → Served serves (LineEnds serves) x told took y (Ok true)
+        → ServedLines serves (LineEnds serves) x told took y (Ok true)
     whole_served flushes is h =
         let w = whole_line xs after told whole piece is_whole is_last is in
         record {
@@ -96,7 +96,7 @@ module _ {L : Type 0} (serves : Serving L) where
         }
 
     pub whole_stopped : (flushes : Bool) (e : ServeError) → whole ≡ true → AtHand serves x (after ∷ []) flushes took y (Err e)
-        → Served serves (LineEnds serves) x told took y (Err e)
+        → ServedLines serves (LineEnds serves) x told took y (Err e)
     whole_stopped flushes (Output e) is h =
         let w = whole_line xs after told whole piece is_whole is_last is in
         record {
@@ -126,7 +126,7 @@ module _ {L : Type 0} (serves : Serving L) where
 
     -- what comes before an end, and was served
     pub last_served : whole ≡ false → AtHand serves x (last_piece after) true took y (Ok tt)
-        → Served serves (LineEnds serves) x told took y (Ok false)
+        → ServedLines serves (LineEnds serves) x told took y (Ok false)
     last_served is h =
         let w = last_line xs after told whole piece is_whole is_last is in
         record {
@@ -141,7 +141,7 @@ module _ {L : Type 0} (serves : Serving L) where
         }
 
     pub last_stopped : (e : ServeError) → whole ≡ false → AtHand serves x (last_piece after) true took y (Err e)
-        → Served serves (LineEnds serves) x told took y (Err e)
+        → ServedLines serves (LineEnds serves) x told took y (Err e)
     last_stopped (Output e) is h =
         let w = last_line xs after told whole piece is_whole is_last is in
         record {
@@ -231,7 +231,7 @@ module _ {S W L : Type 0} {serves : Serving L} {reads : Runs ReadMark S} {writes
         rw (h.ended read) (replies_both serves s s' state _ _ _ _ h.replied k)
 
     -- a whole line more
-    pub so_far_on : Served serves (LineEnds serves) s' l t s'' (Ok true) → SoFar serves reads writes x y s x'' y'' s''
+    pub so_far_on : ServedLines serves (LineEnds serves) s' l t s'' (Ok true) → SoFar serves reads writes x y s x'' y'' s''
     so_far_on r =
         let all_bytes : bytes h.read ++ l ≡ bytes (h.read ++ r.read) = ap (λ k. bytes h.read ++ k)
         (r.cut ∙ ap (λ k. bytes r.read ++ k) r.ends.0 ∙ append-nil (bytes r.read))
@@ -251,10 +251,10 @@ module _ {S W L : Type 0} {serves : Serving L} {reads : Runs ReadMark S} {writes
     -- what is said of all, where no more lines come
     abbrev pub AllTold : Result (Unit {0}) ServeError → Type 0
     AllTold v = (l : List ReadMark) × (took : List WriteMark) × ToldStripped reads x l x'' × writes y took y''
-        × Served serves (AllEnd serves) s l took s'' v
+        × ServedLines serves (AllEnd serves) s l took s'' v
 
     all_told : {R : Type 0} {Ends : Ending serves R} {v : R} (w : Result (Unit {0}) ServeError)
-        (r : Served serves Ends s' l t s'' v)
+        (r : ServedLines serves Ends s' l t s'' v)
         → AllEnd serves (h.read ++ r.read) r.rest (h.replies ++ r.replies) (h.took ++ t) r.state s'' w → AllTold w
     all_told w r ends = (
       bytes h.read ++ l,
@@ -274,11 +274,11 @@ module _ {S W L : Type 0} {serves : Serving L} {reads : Runs ReadMark S} {writes
       },
     )
 
-    pub all_served : Served serves (LineEnds serves) s' l t s'' (Ok false) → AllTold (Ok tt)
+    pub all_served : ServedLines serves (LineEnds serves) s' l t s'' (Ok false) → AllTold (Ok tt)
     all_served r =
         all_told (Ok tt) r (r.ends.0, all_both r.replies r.ends.1, ends_later h.took t r.ends.2, r.ends.3)
 
-    pub all_stopped : (e : ServeError) → Served serves (LineEnds serves) s' l t s'' (Err e) → AllTold (Err e)
+    pub all_stopped : (e : ServeError) → ServedLines serves (LineEnds serves) s' l t s'' (Err e) → AllTold (Err e)
     all_stopped e r = all_told (Err e) r (r.ends.0, written_both r.replies e r.ends.1)
 
 still_all : (took m : List WriteMark) (replies : List (List ℕ)) → AllWritten took replies → bytes_taken m ≡ []
@@ -290,8 +290,8 @@ still_all took m replies a none =
 module _ {L : Type 0} (serves : Serving L) {x y : L} {told : List ReadMark} {took : List WriteMark} where
   -- all of what was served but how it ended
   with_ends : {R T : Type 0} {Ends : Ending serves R} {Others : Ending serves T} {v : R} (w : T) (more : List WriteMark)
-      (r : Served serves Ends x told took y v) → StandsFirst (bytes_taken more) (concat r.replies)
-      → Others r.read r.rest r.replies more r.state y w → Served serves Others x told more y w
+      (r : ServedLines serves Ends x told took y v) → StandsFirst (bytes_taken more) (concat r.replies)
+      → Others r.read r.rest r.replies more r.state y w → ServedLines serves Others x told more y w
   with_ends w more r front ends =
       record {
         read = r.read;
@@ -304,36 +304,36 @@ module _ {L : Type 0} (serves : Serving L) {x y : L} {told : List ReadMark} {too
         ends = ends;
       }
 
-  pub ends_served : Served serves (AllEnd serves) x told took y (Ok tt)
-      → Served serves (ServingEnds serves) x told took y (Ok tt)
+  pub ends_served : ServedLines serves (AllEnd serves) x told took y (Ok tt)
+      → ServedLines serves (ServingEnds serves) x told took y (Ok tt)
   ends_served r = with_ends (Ok tt) took r r.front r.ends
 
-  pub ends_output : (e : Error) → Served serves (AllEnd serves) x told took y (Err (Output e))
-      → Served serves (ServingEnds serves) x told took y (Err (Output e))
+  pub ends_output : (e : Error) → ServedLines serves (AllEnd serves) x told took y (Err (Output e))
+      → ServedLines serves (ServingEnds serves) x told took y (Err (Output e))
   ends_output e r = with_ends (Err (Output e)) took r r.front (Output e, r.ends.0, r.ends.1)
 
   module _ (m : List WriteMark) where
-    flushed_at : (e : ServeError) (r : Served serves (AllEnd serves) x told took y (Err e)) → AllWritten took r.replies
+    flushed_at : (e : ServeError) (r : ServedLines serves (AllEnd serves) x told took y (Err e)) → AllWritten took r.replies
         → Wrote [] true m (Ok tt) → AllWritten (took ++ m) r.replies × EndsFlushed (took ++ m)
     flushed_at e r a w =
         ((no_failure_both took m a.0 w.0, still_all took m r.replies a w.1), ends_later took m (w.2 refl))
 
-    pub flush_input : (e : Error) → Served serves (AllEnd serves) x told took y (Err (Input e)) → Wrote [] true m (Ok tt)
-        → Served serves (ServingEnds serves) x told (took ++ m) y (Err (Input e))
+    pub flush_input : (e : Error) → ServedLines serves (AllEnd serves) x told took y (Err (Input e)) → Wrote [] true m (Ok tt)
+        → ServedLines serves (ServingEnds serves) x told (took ++ m) y (Err (Input e))
     flush_input e r w =
         let f = flushed_at (Input e) r r.ends.1 w in
         with_ends (Err (Input e)) (took ++ m) r ([], sym (append-nil _ ∙ f.0.1)) (r.ends.0, f.0, f.1)
 
-    pub flush_memory : Served serves (AllEnd serves) x told took y (Err Memory) → Wrote [] true m (Ok tt)
-        → Served serves (ServingEnds serves) x told (took ++ m) y (Err Memory)
+    pub flush_memory : ServedLines serves (AllEnd serves) x told took y (Err Memory) → Wrote [] true m (Ok tt)
+        → ServedLines serves (ServingEnds serves) x told (took ++ m) y (Err Memory)
     flush_memory r w =
         let f = flushed_at Memory r r.ends.1 w in
         with_ends (Err Memory) (took ++ m) r ([], sym (append-nil _ ∙ f.0.1)) (r.ends.0, f.0, f.1)
 
     -- where the flush failed
-    pub flush_failed : (e f : ServeError) (r : Served serves (AllEnd serves) x told took y (Err e))
+    pub flush_failed : (e f : ServeError) (r : ServedLines serves (AllEnd serves) x told took y (Err e))
         → AllWritten took r.replies → Wrote [] true m (Err f)
-        → Served serves (ServingEnds serves) x told (took ++ m) y (Err f)
+        → ServedLines serves (ServingEnds serves) x told (took ++ m) y (Err f)
     flush_failed e (Output f) r a w =
         let both = wrote_both (concat r.replies) true took m (Err (Output f)) a.0 a.1 w in
         with_ends (Err (Output f)) (took ++ m) r both.0 (e, r.ends.0, both.1)

@@ -27,9 +27,9 @@ RepliesBy reply x line (Some r) y = r ≡ reply line
 
 -- The service of a function from what a state holds and a line to the reply and to what is held then. A refusal changes
 -- nothing of that.
-abbrev pub StepsBy : {L S : Type 0} → (L → S) → (S → List ℕ → List ℕ × S) → Serving L
-StepsBy holds step x line None y = holds y ≡ holds x
-StepsBy holds step x line (Some r) y = (r, holds y) ≡ step (holds x) line
+abbrev pub ServesBy : {L S : Type 0} → (L → S) → (S → List ℕ → List ℕ × S) → Serving L
+ServesBy holds step x line None y = holds y ≡ holds x
+ServesBy holds step x line (Some r) y = (r, holds y) ≡ step (holds x) line
 
 module _ {L : Type 0} (serves : Serving L) where
   -- The lines were replied to in turn, from the state `x` to the state `z`.
@@ -40,7 +40,7 @@ module _ {L : Type 0} (serves : Serving L) where
   Replies x (line ∷ lines) [] z = ⊥
 
   -- The marks `rest` are a line without a reply: memory for it was refused in the state `x`, which left `y`.
-  pub record Refused (rest : List ReadMark) (x y : L) : Type 0 where
+  pub record RefusedLine (rest : List ReadMark) (x y : L) : Type 0 where
     pub read : List ℕ
     pub line : List ℕ
     pub is_line : byte_lines read ≡ line ∷ []
@@ -53,7 +53,7 @@ module _ {L : Type 0} (serves : Serving L) where
   Stopped rest x y (Input e) = (y ≡ x) × (part : List ℕ) × Without 10 part
       × ((rest ≡ bytes part ++ ReadMark.fault (error_kind e) ∷ []) ⊎ ((rest ≡ bytes part) × (error_kind e ≡ OutOfMemory)))
   Stopped rest x y (Output e) = (y ≡ x) × ((rest ≡ []) ⊎ (rest ≡ ReadMark.end ∷ []))
-  Stopped rest x y Memory = Refused rest x y
+  Stopped rest x y Memory = RefusedLine rest x y
 
 -- What reading one line read: `xs` is the line with its newline, or what comes before the end of file. Or the reader
 -- failed behind `xs`, or memory was refused.
@@ -127,7 +127,7 @@ module _ {L : Type 0} (serves : Serving L) where
   -- The reader's marks, `told`, are the bytes `read` and then `rest`. From the state `x`, the service replied to the lines
   -- of `read`, which left `state`. The writer's marks, `took`, hold these replies, or a prefix of them. `Ends` says of all
   -- these, of the state `y` that is left, and of the value, how it ended.
-  pub record Served {R : Type 0} (Ends : Ending R) (x : L) (told : List ReadMark) (took : List WriteMark) (y : L)
+  pub record ServedLines {R : Type 0} (Ends : Ending R) (x : L) (told : List ReadMark) (took : List WriteMark) (y : L)
       (value : R) : Type 0 where
     pub read : List ℕ
     pub rest : List ReadMark

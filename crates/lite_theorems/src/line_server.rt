@@ -1,7 +1,7 @@
 //! A server that answers each line of a reader with a reply to a writer.
 ghost use Rattle.std.specs.Prelude.{◌≡◌, ◌++◌, ◌∷◌, [], List, false, true};
 ghost use Rattle.lite_theorems.specs.Uses.{ReadMark, WriteMark, last_piece, without_return};
-ghost use Rattle.lite_theorems.specs.Serving.{AllEnd, AtHand, LineEnds, PieceIn, Served, Serving, ServingEnds, Wrote, reply_in};
+ghost use Rattle.lite_theorems.specs.Serving.{AllEnd, AtHand, LineEnds, PieceIn, ServedLines, Serving, ServingEnds, Wrote, reply_in};
 ghost use Rattle.lite_theorems.specs.Told.{ToldStripped, Without};
 
 use crate::serve_error::ServeError;
@@ -17,7 +17,7 @@ pub trait LineService {
     /// one carriage return before that. A last line that has no newline keeps its carriage return.
     ///
     /// A service whose reply depends on the line alone has `RepliesBy` of a function. One with a state has
-    /// `StepsBy` of what the state holds, and of a function from that and the line to the reply and what is
+    /// `ServesBy` of what the state holds, and of a function from that and the line to the reply and what is
     /// held then.
     ghost serves: { Serving Self };
 
@@ -122,7 +122,7 @@ where
     L: LineService,
     requires { I.ranks.counts requests.old }
     ensures { (l : List ReadMark) × (took : List WriteMark) × ToldStripped I.reads requests.old l requests.new
-        × O.writes replies.old took replies.new × Served L.serves (ServingEnds L.serves) service.old l took service.new result }
+        × O.writes replies.old took replies.new × ServedLines L.serves (ServingEnds L.serves) service.old l took service.new result }
 {
     match serve_all(on, rt, requests, replies, service) {
         Ok(()) => Ok(()),
@@ -154,7 +154,7 @@ where
     L: LineService,
     requires { I.ranks.counts requests.old }
     ensures { (l : List ReadMark) × (took : List WriteMark) × ToldStripped I.reads requests.old l requests.new
-        × O.writes replies.old took replies.new × Served L.serves (AllEnd L.serves) service.old l took service.new result }
+        × O.writes replies.old took replies.new × ServedLines L.serves (AllEnd L.serves) service.old l took service.new result }
 {
     let mut line = Vec::new(rt.alloc());
     for _ in rt.forever() {
@@ -181,7 +181,7 @@ where
     L: LineService,
     requires { I.ranks.counts requests.old }
     ensures answered { (l : List ReadMark) × (took : List WriteMark) × ToldStripped I.reads requests.old l requests.new
-        × O.writes replies.old took replies.new × Served L.serves (LineEnds L.serves) service.old l took service.new result }
+        × O.writes replies.old took replies.new × ServedLines L.serves (LineEnds L.serves) service.old l took service.new result }
     ensures again { I.ranks.counts requests.new }
 {
     line.clear();

@@ -1,6 +1,6 @@
 use Rattle.std.specs.Prelude.{◌≡◌, Err, Ok, false, true}
 use Rattle.lite_theorems.specs.Uses.{rules, subst}
-use Rattle.lite_theorems.specs.Serving.{LineEnds, Served}
+use Rattle.lite_theorems.specs.Serving.{LineEnds, ServedLines}
 use Rattle.lite_theorems.proofs.Serving.{all_served, all_stopped, so_far_none, so_far_on}
 use Rattle.lite_theorems.proofs.line_server.serve_all.Goals as goal
 
@@ -19,7 +19,7 @@ returns-then-not-branch g c =
     let h = c.loop.invariant.0 in
     let t = c.in_ok-answer_next.ensures.answered in
     let over : c.in_ok-answer_next.field-0 ≡ false = search rules in
-    let r = subst (λ b. Served g.L.LineService.serves (LineEnds g.L.LineService.serves)
+    let r = subst (λ b. ServedLines g.L.LineService.serves (LineEnds g.L.LineService.serves)
     c.loop.service t.0 t.1 c.answer_next.new.service (Ok b)) over t.4 in
     all_served g.I.Tale.read_laws g.O.Takings.write_laws _ _ _ _ _ _ _ _ _ h t.0 t.1 t.2 t.3 r
 
@@ -28,7 +28,7 @@ loop-preserved g c =
     let h = c.loop.invariant.0 in
     let t = c.in_ok-answer_next.ensures.answered in
     let more : c.in_ok-answer_next.field-0 ≡ true = search rules in
-    let r = subst (λ b. Served g.L.LineService.serves (LineEnds g.L.LineService.serves)
+    let r = subst (λ b. ServedLines g.L.LineService.serves (LineEnds g.L.LineService.serves)
     c.loop.service t.0 t.1 c.answer_next.new.service (Ok b)) more t.4 in (
       so_far_on g.I.Tale.read_laws g.O.Takings.write_laws _ _ _ _ _ _ _ _ _ h t.0 t.1 t.2 t.3 r,
       c.in_ok-answer_next.ensures.again,

@@ -2,7 +2,7 @@ use Rattle.std.proofs.Common.{rules, ◌≡◌, ◌≢◌, ◌∷◌, ◌++◌, 
 use Rattle.std.specs.Fmt.{signed_decimal}
 use Rattle.std.proofs.lemmas.Int.{to_z-of_z}
 use Rattle.lite_codec.specs.Uses.{w64, sym, ap, ◌∙◌}
-use Rattle.lite_codec.specs.Resp.{IsText, NoFirstLine}
+use Rattle.lite_codec.specs.Resp.{IsShortText, NoFirstLine}
 use Rattle.lite_codec.specs.declared.resp.RespValue.TheVariants.{Error, Integer, Simple}
 use Rattle.lite_codec.proofs.RespLines.{line_malformed, line_whole, no_amount, no_kind, no_number, no_text, other_kind}
 use Rattle.lite_codec.proofs.resp.Resp.decode_line.Goals as goal
@@ -17,14 +17,14 @@ pub returns-in_ok-text-in-43 : goal.returns-in_ok-text-in-43
 returns-in_ok-text-in-43 c =
     let v = c.in_ok-text-in-43.text in
     let line : c.args.line.now ≡ 43 ∷ (v.items ++ 13 ∷ []) = search rules in
-    let fits : IsText c.args.self.now v.items = search rules in
+    let fits : IsShortText c.args.self.now v.items = search rules in
     line_whole c.args.self.now (Simple v) c.args.line.now _ fits line refl
 
 pub returns-in_ok-text-in-45 : goal.returns-in_ok-text-in-45
 returns-in_ok-text-in-45 c =
     let v = c.in_ok-text-in-45.text in
     let line : c.args.line.now ≡ 45 ∷ (v.items ++ 13 ∷ []) = search rules in
-    let fits : IsText c.args.self.now v.items = search rules in
+    let fits : IsShortText c.args.self.now v.items = search rules in
     line_whole c.args.self.now (Error v) c.args.line.now _ fits line refl
 
 pub returns-in-Some-read_number : goal.returns-in-Some-read_number
