@@ -73,6 +73,7 @@ def imports(text, uses=""):
     std = {module: [it for it in words if named(it, text) and not named(it, uses)] for module, words in STD.items()}
     lines = [f"ghost use {module}.{{{', '.join(words)}}};" for module, words in ghost.items() if words]
     lines += [f"use std::{module}::{{{', '.join(words)}}};" for module, words in std.items() if words]
+    lines += ["use futures_lite::Poll;"] if named("Poll", text) and not named("Poll", uses) else []
     return "".join(f"{it}\n" for it in lines)
 
 

@@ -87,12 +87,37 @@ fn a_server_stops_at_an_error(rt: HostRuntime) -> Result<(), Fail> {
     Ok(())
 }
 
+/// Serves lines that come in these chunks, to a buffered writer whose first write fails; returns how many were answered.
+fn lines_before_a_write(rt: &HostRuntime, chunks: &[&[u8]]) -> Result<usize, Fail> {
+    let mut on = BlockOn::new(rt)?;
+    let mut marks = Marks::new(rt.alloc());
+    for chunk in chunks {
+        marks.chunk(chunk)?;
+    }
+    let Ok(mut requests) = BufReader::with_capacity(rt.alloc(), 8, marks) else {
+        return Err(AllocError.into());
+    };
+    let mut taken = Takes::new(rt.alloc());
+    taken.order(Order::Fail(ErrorKind::Other))?;
+    let Ok(mut replies) = BufWriter::with_capacity(rt.alloc(), 16, taken) else {
+        return Err(AllocError.into());
+    };
+    let mut echo = Echo { lines: 0 };
+    let stopped = serve_lines(&mut on, rt, &mut requests, &mut replies, &mut echo);
+    assert_eq!(rt; came(stopped), Err(("output", ErrorKind::Other)));
+    Ok(echo.lines)
+}
+
 #[test]
 fn a_server_flushes_where_no_input_is_at_hand(rt: HostRuntime) -> Result<(), Fail> {
-    for (text, flushed) in [
-        (b"one\n".as_slice(), b"one\n".as_slice()),
-        (b"one\ntw", b""),
-    ] {
+    assert_eq!(rt; lines_before_a_write(&rt, &[b"a\n", b"b\n"])?, 1);
+    assert_eq!(rt; lines_before_a_write(&rt, &[b"a\nb\n"])?, 2);
+    Ok(())
+}
+
+#[test]
+fn replies_before_an_error_arrive(rt: HostRuntime) -> Result<(), Fail> {
+    for text in [b"one\n".as_slice(), b"one\ntw"] {
         let mut on = BlockOn::new(&rt)?;
         let mut marks = Marks::new(rt.alloc());
         marks.chunk(text)?;
@@ -106,30 +131,8 @@ fn a_server_flushes_where_no_input_is_at_hand(rt: HostRuntime) -> Result<(), Fai
         let mut echo = Echo { lines: 0 };
         let stopped = serve_lines(&mut on, &rt, &mut requests, &mut replies, &mut echo);
         assert_eq!(rt; came(stopped), Err(("input", ErrorKind::Other)));
-        assert_eq!(rt; replies.get_ref().taken(), flushed);
-        assert_eq!(rt; replies.buffer().len() + flushed.len(), 4);
+        assert_eq!(rt; replies.get_ref().taken(), b"one\n".as_slice());
+        assert!(rt; replies.buffer().is_empty());
     }
-    Ok(())
-}
-
-#[test]
-fn replies_before_an_error_arrive(rt: HostRuntime) -> Result<(), Fail> {
-    let mut on = BlockOn::new(&rt)?;
-    let mut marks = Marks::new(rt.alloc());
-    // More is in the buffer behind the line, so its reply is not flushed at once.
-    marks.chunk(b"one\ntw")?;
-    marks.fault(ErrorKind::Other)?;
-    let Ok(mut requests) = BufReader::with_capacity(rt.alloc(), 8, marks) else {
-        return Err(AllocError.into());
-    };
-    let (mut written, mut echo) = (Vec::new(rt.alloc()), Echo { lines: 0 });
-    {
-        let Ok(mut replies) = BufWriter::new(rt.alloc(), &mut written) else {
-            return Err(AllocError.into());
-        };
-        let stopped = serve_lines(&mut on, &rt, &mut requests, &mut replies, &mut echo);
-        assert_eq!(rt; came(stopped), Err(("input", ErrorKind::Other)));
-    }
-    assert_eq!(rt; written.as_slice(), b"one\n".as_slice());
     Ok(())
 }
