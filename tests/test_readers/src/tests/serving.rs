@@ -87,31 +87,30 @@ fn a_server_stops_at_an_error(rt: HostRuntime) -> Result<(), Fail> {
     Ok(())
 }
 
-/// Serves lines that come in these chunks, to a buffered writer whose first write fails; returns how many were answered.
-fn lines_before_a_write(rt: &HostRuntime, chunks: &[&[u8]]) -> Result<usize, Fail> {
-    let mut on = BlockOn::new(rt)?;
-    let mut marks = Marks::new(rt.alloc());
-    for chunk in chunks {
-        marks.chunk(chunk)?;
-    }
-    let Ok(mut requests) = BufReader::with_capacity(rt.alloc(), 8, marks) else {
-        return Err(AllocError.into());
-    };
-    let mut taken = Takes::new(rt.alloc());
-    taken.order(Order::Fail(ErrorKind::Other))?;
-    let Ok(mut replies) = BufWriter::with_capacity(rt.alloc(), 16, taken) else {
-        return Err(AllocError.into());
-    };
-    let mut echo = Echo { lines: 0 };
-    let stopped = serve_lines(&mut on, rt, &mut requests, &mut replies, &mut echo);
-    assert_eq!(rt; came(stopped), Err(("output", ErrorKind::Other)));
-    Ok(echo.lines)
-}
-
 #[test]
 fn a_server_flushes_where_no_input_is_at_hand(rt: HostRuntime) -> Result<(), Fail> {
-    assert_eq!(rt; lines_before_a_write(&rt, &[b"a\n", b"b\n"])?, 1);
-    assert_eq!(rt; lines_before_a_write(&rt, &[b"a\nb\n"])?, 2);
+    // The first write fails, which is that of the first flush.
+    for (first, second, lines) in [
+        (b"a\n".as_slice(), b"b\n".as_slice(), 1),
+        (b"a\nb\n", b"c\n", 2),
+    ] {
+        let mut on = BlockOn::new(&rt)?;
+        let mut marks = Marks::new(rt.alloc());
+        marks.chunk(first)?;
+        marks.chunk(second)?;
+        let Ok(mut requests) = BufReader::with_capacity(rt.alloc(), 8, marks) else {
+            return Err(AllocError.into());
+        };
+        let mut taken = Takes::new(rt.alloc());
+        taken.order(Order::Fail(ErrorKind::Other))?;
+        let Ok(mut replies) = BufWriter::with_capacity(rt.alloc(), 16, taken) else {
+            return Err(AllocError.into());
+        };
+        let mut echo = Echo { lines: 0 };
+        let stopped = serve_lines(&mut on, &rt, &mut requests, &mut replies, &mut echo);
+        assert_eq!(rt; came(stopped), Err(("output", ErrorKind::Other)));
+        assert_eq!(rt; echo.lines, lines);
+    }
     Ok(())
 }
 
