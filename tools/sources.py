@@ -31,7 +31,7 @@ class Item:
         made = re.search(r"(?:Made|Returned) by \[`(?:\w+::)*(\w+)`\]", self.says)
         self.made_by = made and made[1]
         self.asks, self.gives = ([it for it in clauses(said) if it.startswith(word)] for word in ("requires", "ensures"))
-        # The variants of an enum, with their comments; of a method the head of the impl that it stands in, with its bounds.
+        # The variants of an enum, or the ghost members of a trait, with their comments; of a method the head of the impl that it stands in, with its bounds.
         self.variants, self.impl = [], ""
         # The fields of a struct, with their types.
         self.fields = {}
@@ -111,6 +111,18 @@ def field_in(line):
     return found and found.groups()
 
 
+def ghosts_in(lines):
+    """Returns the lines of the ghost members of a trait, each with its comment."""
+    found, comment = [], []
+    for line in lines:
+        comment = [*comment, line] if line.startswith("    ///") else comment
+        if line.startswith("    ghost ") and not line.startswith("    ghost use "):
+            found += [*comment, line]
+        if not line.startswith("    ///"):
+            comment = []
+    return found
+
+
 def head_of_impl(lines, at):
     """Returns the head of an impl that begins in a line, as one line: its parameters, its type and its bounds."""
     end = next(number for number in range(at, len(lines)) if lines[number].endswith(("{", "{}")))
@@ -150,6 +162,8 @@ def items_in(path, lines):
                 item = Item(path, first + 1, found["kind"], found["name"], comment, said[:clause], said[clause:])
                 if item.kind == "enum":
                     item.variants = lines[at + 1 : lines.index("}", at)]
+                if item.kind == "trait" and lines[at].endswith("{"):
+                    item.variants = ghosts_in(lines[at + 1 : lines.index("}", at)])
                 if item.kind == "struct" and lines[at].endswith("{"):
                     item.fields = dict(filter(None, map(field_in, lines[at + 1 : lines.index("}", at)])))
                 item.impl = impl if inner else ""
