@@ -1,7 +1,7 @@
 -- What is told while the next value of a byte stream is waited for.
 use Rattle.std.specs.Prelude.{◌≡◌, ℕ, List, [], ◌∷◌, ◌++◌, ◌⊎◌, Option, Some, None, Result, Ok, Err, ⊤}
 use Rattle.lite_theorems.specs.Uses.{◌∙◌, Answer, AnswerMarks, AtValue, CodecLaws, Comparable, Consume, Consumes, Decides, Decodes, FoldsTo, Folds, Gives, Lent, MutBor, Next}
-use Rattle.lite_theorems.specs.Uses.{NoPendingRead, Pending, Poll, Ready, ReadMark, Runs, TakesIn, Undecided, UpToValue, Values, YieldsValue, ap, append-nil, append_assoc}
+use Rattle.lite_theorems.specs.Uses.{NoPendingRead, Pending, Poll, Ready, ReadMark, Runs, Undecided, UpToValue, Values, YieldsValue, ap, append-nil, append_assoc}
 use Rattle.lite_theorems.specs.Uses.{bytes, consumes_steps, decoding, inl, inr, map-append, nexts, option_transpose, refl, subst, sym, value_again}
 use Rattle.lite_theorems.specs.Told.{ToldStripped}
 use Rattle.lite_theorems.specs.Values.{ComesBack, ValueTaken, ValueTold, as_item}

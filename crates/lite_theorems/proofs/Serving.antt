@@ -1,13 +1,12 @@
 -- What was told and written so far, how the service went on, and what comes behind it.
-use Rattle.std.specs.Prelude.{◌≡◌, ◌⊎◌, ℕ, Bool, true, false, List, [], ◌∷◌, ◌++◌, Option, Some, None, Result, Ok, Err}
+use Rattle.std.specs.Prelude.{◌≡◌, ℕ, Bool, true, false, List, [], ◌∷◌, ◌++◌, Some, Result, Ok, Err}
 use Rattle.lite_theorems.specs.Uses.{◌∙◌, ap, refl, sym, subst, append-nil, append_assoc, inl, inr, map-append, ReadMark, bytes, WriteMark, bytes_taken, byte_lines}
 use Rattle.lite_theorems.specs.Uses.{concat, EndsFlushed, Error, last_piece, MarkLaws, no_failure_both, NoFailure, Runs, StandsFirst, without_return}
 use Rattle.lite_theorems.specs.Laws.Taken.{taken_both}
 use Rattle.lite_theorems.specs.Laws.Told.{told_follow, told_none}
-use Rattle.lite_theorems.specs.Told.{EndsAtFirst, ToldStripped, Without}
-use Rattle.lite_theorems.specs.BothWriters.{FailsWith}
-use Rattle.lite_theorems.specs.Serving.{AllEnd, AllWritten, AtHand, Ending, LineEnds, PieceIn, RefusedLine, Replies, ServedLines, Serving}
-use Rattle.lite_theorems.specs.Serving.{ServingEnds, Stopped, WrittenAt, Wrote}
+use Rattle.lite_theorems.specs.Told.{ToldStripped, Without}
+use Rattle.lite_theorems.specs.Serving.{AllEnd, AllWritten, AtHand, Ending, LineEnds, PieceIn, Replies, ServedLines, Serving}
+use Rattle.lite_theorems.specs.Serving.{ServingEnds, WrittenAt, Wrote}
 use Rattle.lite_theorems.specs.declared.serve_error.ServeError.{ServeError}
 use Rattle.lite_theorems.specs.declared.serve_error.ServeError.TheVariants.{Input, Memory, Output}
 use Rattle.lite_theorems.proofs.BothWriters.{fails_later}

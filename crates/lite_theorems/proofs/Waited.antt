@@ -40,6 +40,10 @@ read_folds_once fold now p q i (Ready r ∷ l) v h g =
 abbrev pub WaitedFor : {F A E : Type 0} → Runs (Poll A) F → F → Result A E → F → Type 0
 WaitedFor {F} {A} run x r y = IfOk r (λ v. (l : List (Poll A)) × Gives l v × run x l y) × OnErr r (y ≡ x)
 
+-- the value of a wait that cannot fail
+abbrev pub done : {A : Type 0} → A → Result A (Unit {0})
+done v = Ok v
+
 -- what is known of waits by some runs is known of waits by more of them
 pub waited_more : {F A E : Type 0} (some all : Runs (Poll A) F) (x y : F) (r : Result A E)
     → ((l : List (Poll A)) → some x l y → all x l y) → WaitedFor some x r y → WaitedFor all x r y

@@ -5,6 +5,7 @@ ghost use Rattle.lite_theorems.specs.Uses.{Ready, ReadMark, read_marks, WriteMar
 ghost use Rattle.lite_theorems.specs.BothWriters.{FlushedUp, HandedUp, TakesFront};
 ghost use Rattle.lite_theorems.specs.Told.{FillsUp, PieceTold, ToldStripped};
 
+use lite_base::future::Waits;
 use lite_base::future::block_on::BlockOn;
 use lite_io_base::{AsyncBufRead, AsyncRead, AsyncWrite, CountedRead};
 use lite_read::make::{read, read_exact, read_until};
@@ -117,7 +118,23 @@ pub fn wait_read_until<R: Wait, T: AsyncBufRead + CountedRead>(
     ensures again { T.ranks.counts reader.new }
     ensures waited { IsOk result }
 {
-    on.wait_for(rt, &mut read_until(reader, byte, buf))
+    Ok(read_until_by(&mut on.waits(), rt, reader, byte, buf))
+}
+
+// As `wait_read_until`, for waits that share a context.
+pub(crate) fn read_until_by<R: Wait, T: AsyncBufRead + CountedRead>(
+    waits: &mut Waits<'_>,
+    rt: &R,
+    reader: &mut T,
+    byte: u8,
+    buf: &mut Vec<u8>,
+) -> io::Result<usize>
+    requires { T.ranks.counts reader.old }
+    ensures told { (l : List ReadMark) × (xs : List ℕ) × ToldStripped T.reads reader.old l reader.new
+        × (buf.new.items ≡ buf.old.items ++ xs) × PieceTold byte xs l result }
+    ensures again { T.ranks.counts reader.new }
+{
+    waits.wait_for(rt, &mut read_until(reader, byte, buf))
 }
 
 /// Blocks this thread, by `on`, until the writer has accepted all of `bytes`, and returns the value.
@@ -148,7 +165,20 @@ pub fn wait_write_all<R: Wait, T: AsyncWrite>(
         × IfOk result (λ v. HandedUp bytes.now took v) × IfErr result (λ _. took ≡ []) }
     ensures waited { IsOk result }
 {
-    on.wait_for(rt, &mut write_all(writer, bytes))
+    Ok(write_all_by(&mut on.waits(), rt, writer, bytes))
+}
+
+// As `wait_write_all`, for waits that share a context.
+pub(crate) fn write_all_by<R: Wait, T: AsyncWrite>(
+    waits: &mut Waits<'_>,
+    rt: &R,
+    writer: &mut T,
+    bytes: &[u8],
+) -> io::Result<()>
+    ensures { (took : List WriteMark) × TakesFront T.writes writer.old bytes.now took writer.new
+        × HandedUp bytes.now took result }
+{
+    waits.wait_for(rt, &mut write_all(writer, bytes))
 }
 
 /// Blocks this thread, by `on`, until the writer was flushed, and returns the value.
@@ -182,5 +212,16 @@ pub fn wait_flush<R: Wait, T: AsyncWrite>(
         × IfOk result (λ v. FlushedUp took v) × IfErr result (λ _. took ≡ []) }
     ensures waited { IsOk result }
 {
-    on.wait_for(rt, &mut flush(writer))
+    Ok(flush_by(&mut on.waits(), rt, writer))
+}
+
+// As `wait_flush`, for waits that share a context.
+pub(crate) fn flush_by<R: Wait, T: AsyncWrite>(
+    waits: &mut Waits<'_>,
+    rt: &R,
+    writer: &mut T,
+) -> io::Result<()>
+    ensures { (took : List WriteMark) × T.writes writer.old took writer.new × (bytes_taken took ≡ []) × FlushedUp took result }
+{
+    waits.wait_for(rt, &mut flush(writer))
 }

@@ -1,0 +1,11 @@
+use Rattle.lite_theorems.specs.Uses.{rules}
+use Rattle.lite_theorems.proofs.Waited.{done}
+use Rattle.lite_theorems.proofs.BothWriters.{hand_up, writer_lent}
+use Rattle.lite_theorems.proofs.waits.write_all_by.Goals as goal
+
+pub returns : goal.returns
+returns g c =
+    let lent = writer_lent g.T.Takings.writes _ _ _ _ (done c.wait_for.result) c.write_all.ensures (c.wait_for.ensures, tt) in
+    let up = hand_up g.T.Takings.writes _ _ _ _ (done c.wait_for.result) c.write_all.ensures (c.wait_for.ensures, tt) g.T.Takings.write_laws _
+    (search rules) in
+    (up.0, up.1, up.2)
