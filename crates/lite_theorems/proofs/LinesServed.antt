@@ -1,6 +1,6 @@
 -- The lines of bytes that come piece by piece, and the replies to them.
-use Rattle.std.specs.Prelude.{◌≡◌, ℕ, Bool, true, false, List, [], ◌∷◌, ◌++◌, Ok, ◌==◌, flat_map}
-use Rattle.lite_theorems.specs.Uses.{◌∙◌, inl, inr, ap, append-nil, append_assoc, refl, sym, ne_eqb, flat_map-append, byte_lines, last_piece, pieces_from}
+use Rattle.std.specs.Prelude.{◌≡◌, ℕ, Bool, true, false, List, [], ◌∷◌, ◌++◌, Ok, ◌==◌}
+use Rattle.lite_theorems.specs.Uses.{◌∙◌, inl, inr, ap, append-nil, append_assoc, refl, sym, ne_eqb, byte_lines, last_piece, pieces_from}
 use Rattle.lite_theorems.specs.Uses.{without_return, ReadMark, bytes}
 use Rattle.lite_theorems.specs.Told.{EndsAtFirst, Without}
 use Rattle.lite_theorems.specs.Serving.{PieceIn}

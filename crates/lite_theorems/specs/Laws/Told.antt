@@ -1,5 +1,5 @@
 -- Laws of what a reader produces in one call after another, without the `Pending`s.
-use Rattle.std.specs.Prelude.{◌≡◌, List, [], ◌++◌}
+use Rattle.std.specs.Prelude.{List, [], ◌++◌}
 use Rattle.lite_theorems.specs.Uses.{refl, Ranks, ReadCounting, Runs, strip_marks-append, ReadMark, MarkLaws}
 use Rattle.lite_theorems.specs.Told.{ToldStripped}
 

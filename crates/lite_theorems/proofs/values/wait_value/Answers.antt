@@ -1,4 +1,4 @@
-use Rattle.lite_theorems.specs.Uses.{◌∙◌, ap, refl, rules, sym}
+use Rattle.lite_theorems.specs.Uses.{◌∙◌, ap, rules, sym}
 use Rattle.lite_theorems.proofs.NextValue.{item_of, undecided_at, value_at, value_waited}
 use Rattle.lite_theorems.specs.Values.{as_item}
 use Rattle.lite_theorems.proofs.values.wait_value.Goals as goal
