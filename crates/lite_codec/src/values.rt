@@ -1,5 +1,5 @@
 //! The stream of the values of a reader.
-ghost use Rattle.std.specs.Prelude.{⊤, ◌≡◌, ◌≤◌, ◌++◌, ◌∷◌, ◌-◌, ◌==◌, [], IfOk, length, take};
+ghost use Rattle.std.specs.Prelude.{⊤, ◌≡◌, ◌≤◌, ◌<◌, ◌↔◌, IsTrue, ◌++◌, ◌∷◌, ◌-◌, ◌==◌, [], IfOk, length, take};
 ghost use Rattle.lite_codec.specs.Uses.{IfReady, Keeps, NoHint, OneStep, Registered, TakesPieceIn, Terminates-map, bytes, fill_marks, flow_laws, takes_given};
 ghost use Rattle.lite_codec.specs.Codec.{DecodedAs};
 ghost use Rattle.lite_codec.specs.Values.{AtLast, AtValue, Decodes, HeldAfter, decoding, values_over};
@@ -27,6 +27,31 @@ pub struct Values<R, C> {
 }
 
 impl<R: AsyncBufRead, C: Codec> Values<R, C> {
+    /// Returns whether bytes of the input are at hand: some that this stream holds, or some in the buffer of
+    /// the reader. It reads nothing.
+    ///
+    /// A server that has written a reply flushes it if this is false, because the next request may be late.
+    ///
+    /// # Examples
+    ///
+    /// ```
+    /// use futures_lite::codec::{LengthDelimited, values, wait_value};
+    /// use futures_lite::future::BlockOn;
+    ///
+    /// let mut on = BlockOn::new(&rt)?;
+    /// let mut reader = b"\0\0\0\x02hi\0\0".as_slice();
+    /// let mut read = values(rt.alloc(), &mut reader, LengthDelimited { max: 100 });
+    /// assert!(rt; matches!(wait_value(&mut on, &rt, &mut read), Ok(Some(_))));
+    /// assert!(rt; read.has_buffered());
+    /// assert!(rt; wait_value(&mut on, &rt, &mut read).is_err());
+    /// assert!(rt; !read.has_buffered());
+    /// ```
+    pub fn has_buffered(&self) -> bool
+        ensures { IsTrue result ↔ (0 < length (self.now.held.items ++ R.lent self.now.reader)) }
+    {
+        !self.held.is_empty() || !self.reader.buffer().is_empty()
+    }
+
     // Decodes the bytes held and those in the reader's buffer. If more are needed, all of them are held.
     fn look(&mut self) -> Result<Decoded<C::Value>, AllocError>
         ensures found { IfOk result

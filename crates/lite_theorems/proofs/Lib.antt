@@ -5,6 +5,8 @@ pub mod Collecting
 pub mod Limits
 pub mod LinesServed
 pub mod Serving
+pub mod ServingValues
 pub mod Telling
 pub mod Waited
 pub mod Whole
+pub mod Writing

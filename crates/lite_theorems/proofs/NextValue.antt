@@ -28,6 +28,13 @@ module _ {M A : Type 0} (q : M) (v : Option A) where
       consumes_steps nexts (λ p i l. Gives l v → Gives i v) (λ p m x i b l t k. absurd t) (λ p i l k. k) q
       (λ p o r d g. (first_given p o r d g.0, refl)) p i l (λ g. g) h g
 
+-- all bytes of the value, those that were held before among them
+all_told : (held : List ℕ) (l : List ReadMark) (front : List ℕ) (last : List ReadMark) → l ≡ bytes front ++ last
+    → bytes held ++ l ≡ bytes (held ++ front) ++ last
+all_told held l front last e =
+    ap (λ m. bytes held ++ m) e ∙ sym (append_assoc (bytes held) (bytes front) last)
+    ∙ ap (λ m. m ++ last) (sym (map-append ReadMark.byte held front))
+
 module _ {V : Type 0} (encodes : V → List ℕ → Type 0) (refuses : List ℕ → Type 0) where
   yields_now : (p q : List ℕ) (l : List ReadMark) (r : Option (Result V DecodeError)) → YieldsValue encodes refuses ⊤ p l r q
       → NoPendingRead l
@@ -55,6 +62,19 @@ module _ {V : Type 0} (encodes : V → List ℕ → Type 0) (refuses : List ℕ 
         cut = h.cut;
         undecided = subst (Undecided encodes refuses) held.0 held.1;
         yields = subst (λ k. YieldsValue encodes refuses ⊤ k h.last r q) held.0 h.given;
+      }
+
+  -- the same, with the bytes held among those told
+  pub told_error : (held : List ℕ) (l : List ReadMark) (after : List ℕ) (e : DecodeError)
+      → ValueTold encodes refuses held l (Some (Err e)) after
+      → ValueTold encodes refuses [] (bytes held ++ l) (Some (Err e)) after
+  told_error held l after e h =
+      record {
+        front = held ++ h.front;
+        last = h.last;
+        cut = all_told held l h.front h.last h.cut;
+        undecided = h.undecided;
+        yields = h.yields;
       }
 
 -- a value that was sent
@@ -86,15 +106,10 @@ module _ {V : Type 0} {encodes : V → List ℕ → Type 0} {refuses : List ℕ 
       ]
 
   module _ (held : List ℕ) (l : List ReadMark) (after : List ℕ) where
-    whole : (front : List ℕ) (last : List ReadMark) → l ≡ bytes front ++ last → bytes held ++ l ≡ bytes (held ++ front) ++ last
-    whole front last e =
-        ap (λ m. bytes held ++ m) e ∙ sym (append_assoc (bytes held) (bytes front) last)
-        ∙ ap (λ m. m ++ last) (sym (map-append ReadMark.byte held front))
-
     decided_by : (front : List ℕ) (last : List ReadMark) (b : ℕ) → l ≡ bytes front ++ last → last ≡ ReadMark.byte b ∷ []
         → bytes held ++ l ≡ bytes ((held ++ front) ++ b ∷ [])
     decided_by front last b e f =
-        whole front last e ∙ ap (λ m. bytes (held ++ front) ++ m) f ∙ sym (map-append ReadMark.byte (held ++ front) (b ∷ []))
+        all_told held l front last e ∙ ap (λ m. bytes (held ++ front) ++ m) f ∙ sym (map-append ReadMark.byte (held ++ front) (b ∷ []))
 
     nothing_sent : (ys : List ℕ) → xs ≡ ys → Comparable (ReadMark.end ∷ []) (bytes ys) → ⊥
     nothing_sent [] e c = laws.begins.0 sent (rw e at is)
@@ -107,7 +122,7 @@ module _ {V : Type 0} {encodes : V → List ℕ → Type 0} {refuses : List ℕ 
     comes_back (Some (Err Malformed)) h c =
         not_refused _ h.yields.2 (rw (decided_by h.front h.last h.yields.0 h.cut h.yields.1) at c)
     comes_back None h c =
-        nothing_sent xs refl (rw (whole h.front h.last h.cut, h.yields.0, h.yields.1) at c)
+        nothing_sent xs refl (rw (all_told held l h.front h.last h.cut, h.yields.0, h.yields.1) at c)
     comes_back (Some (Err Truncated)) h c = tt
     comes_back (Some (Err Memory)) h c = tt
     comes_back (Some (Err (Io e))) h c = tt

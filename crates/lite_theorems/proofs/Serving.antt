@@ -1,62 +1,31 @@
 -- What was told and written so far, how the service went on, and what comes behind it.
 use Rattle.std.specs.Prelude.{◌≡◌, ℕ, Bool, true, false, List, [], ◌∷◌, ◌++◌, Some, Result, Ok, Err}
 use Rattle.lite_theorems.specs.Uses.{◌∙◌, ap, refl, sym, subst, append-nil, append_assoc, inl, inr, map-append, ReadMark, bytes, WriteMark, bytes_taken, byte_lines}
-use Rattle.lite_theorems.specs.Uses.{concat, EndsFlushed, Error, last_piece, MarkLaws, no_failure_both, NoFailure, Runs, StandsFirst, without_return}
-use Rattle.lite_theorems.specs.Laws.Taken.{taken_both}
+use Rattle.lite_theorems.specs.Uses.{concat, EndsFlushed, Error, last_piece, MarkLaws, Runs, StandsFirst, without_return}
 use Rattle.lite_theorems.specs.Laws.Told.{told_follow, told_none}
 use Rattle.lite_theorems.specs.Told.{ToldStripped, Without}
-use Rattle.lite_theorems.specs.Serving.{AllEnd, AllWritten, AtHand, Ending, LineEnds, PieceIn, Replies, ServedLines, Serving}
-use Rattle.lite_theorems.specs.Serving.{ServingEnds, WrittenAt, Wrote}
+use Rattle.lite_theorems.specs.Services.{AllWritten, Replies, Wrote}
+use Rattle.lite_theorems.specs.Serving.{AllEnd, AtHand, Ending, LineEnds, PieceIn, ServedLines, Serving}
+use Rattle.lite_theorems.specs.Serving.{ServingEnds, WrittenAt}
 use Rattle.lite_theorems.specs.declared.serve_error.ServeError.{ServeError}
 use Rattle.lite_theorems.specs.declared.serve_error.ServeError.TheVariants.{Input, Memory, Output}
 use Rattle.lite_theorems.proofs.BothWriters.{fails_later}
 use Rattle.lite_theorems.proofs.LinesServed.{Ended, ended_both, ended_none, ended_whole, last_line, whole_line}
+use Rattle.lite_theorems.proofs.Writing.{all_both, ends_later, front_both, replies_both, still_all, wrote_both}
 
-ends_later : (l m : List WriteMark) → EndsFlushed m → EndsFlushed (l ++ m)
-ends_later l m h = (l ++ h.0, ap (λ k. l ++ k) h.1 ∙ sym (append_assoc l h.0 (WriteMark.flushed ∷ [])))
-
-concat_both : (r s : List (List ℕ)) → concat (r ++ s) ≡ concat r ++ concat s
-concat_both [] s = refl
-concat_both (x ∷ r) s = ap (λ l. x ++ l) (concat_both r s) ∙ sym (append_assoc x (concat r) (concat s))
-
--- bytes, and then others or a flush
-pub wrote_both : (xs : List ℕ) (flushes : Bool) (l m : List WriteMark) (r : Result (Unit {0}) ServeError) → NoFailure l
-    → bytes_taken l ≡ xs → Wrote [] flushes m r → Wrote xs flushes (l ++ m) r
-wrote_both xs flushes l m (Ok u) fine all h = (
-  no_failure_both l m fine h.0,
-  taken_both l m ∙ ap (λ k. bytes_taken l ++ k) h.1 ∙ append-nil (bytes_taken l) ∙ all,
-  λ now. ends_later l m (h.2 now),
-)
-wrote_both xs flushes l m (Err (Output e)) fine all h =
-    let none : bytes_taken m ≡ [] = nothing_before (bytes_taken m) h.0.0 h.0.1 in (
-      ([], sym (append-nil _ ∙ taken_both l m ∙ ap (λ k. bytes_taken l ++ k) none ∙ append-nil (bytes_taken l) ∙ all)),
-      fails_later l m e fine h.1,
-    )
-  where
-    nothing_before : (p q : List ℕ) → [] ≡ p ++ q → p ≡ []
-    nothing_before [] q e = refl
-    nothing_before (b ∷ p) q e = cc e
-wrote_both xs flushes l m (Err (Input e)) fine all h = absurd h
-wrote_both xs flushes l m (Err Memory) fine all h = absurd h
+-- what a server returns for a write
+abbrev pub as_output : Result (Unit {0}) Error → Result (Unit {0}) ServeError
+as_output (Ok u) = Ok u
+as_output (Err e) = Err (Output e)
 
 module _ {L : Type 0} (serves : Serving L) where
   -- one line with its reply
-  pub at_one : (x y : L) (line reply : List ℕ) (flushes : Bool) (took : List WriteMark) (r : Result (Unit {0}) ServeError)
-      → serves x line (Some reply) y → Wrote reply flushes took r → AtHand serves x (line ∷ []) flushes took y r
+  pub at_one : (x y : L) (line reply : List ℕ) (flushes : Bool) (took : List WriteMark) (r : Result (Unit {0}) Error)
+      → serves x line (Some reply) y → Wrote reply flushes took r → AtHand serves x (line ∷ []) flushes took y (as_output r)
   at_one x y line reply flushes took (Ok u) h w =
       (reply ∷ [], (y, h, refl), (w.0, w.1 ∙ sym (append-nil reply)), w.2)
-  at_one x y line reply flushes took (Err (Output e)) h w =
+  at_one x y line reply flushes took (Err e) h w =
       (reply ∷ [], (y, h, refl), (w.0.0, append-nil reply ∙ w.0.1), w.1)
-  at_one x y line reply flushes took (Err (Input e)) h w = absurd w
-  at_one x y line reply flushes took (Err Memory) h w = absurd w
-
-  -- no line
-  pub at_none : (x : L) (flushes : Bool) (took : List WriteMark) (r : Result (Unit {0}) ServeError)
-      → Wrote [] flushes took r → AtHand serves x [] flushes took x r
-  at_none x flushes took (Ok u) w = ([], refl, (w.0, w.1), w.2)
-  at_none x flushes took (Err (Output e)) w = ([], refl, w.0, w.1)
-  at_none x flushes took (Err (Input e)) w = absurd w
-  at_none x flushes took (Err Memory) w = absurd w
 
   -- a line that could not be read
   pub not_read : (x : L) (xs : List ℕ) (told : List ReadMark) (e : ServeError) → PieceIn xs told (Err e)
@@ -167,13 +136,6 @@ module _ {L : Type 0} (serves : Serving L) where
         }
     last_stopped (Input e) is h = absurd h
 
-  replies_both : (x y z : L) (l m r s : List (List ℕ)) → Replies serves x l r y → Replies serves y m s z
-      → Replies serves x (l ++ m) (r ++ s) z
-  replies_both x y z [] m [] s h k = rw (← h) k
-  replies_both x y z (line ∷ l) m (reply ∷ r) s h k = (h.0, h.1, replies_both h.0 y z l m r s h.2 k)
-  replies_both x y z [] m (reply ∷ r) s h k = absurd h
-  replies_both x y z (line ∷ l) m [] s h k = absurd h
-
 -- all that was told so far was answered
 pub record SoFar {S W L : Type 0} (serves : Serving L) (reads : Runs ReadMark S) (writes : Runs WriteMark W)
     (x : S) (y : W) (s : L) (x' : S) (y' : W) (s' : L) : Type 0 where
@@ -203,26 +165,11 @@ module _ {S W L : Type 0} {serves : Serving L} {reads : Runs ReadMark S} {writes
 
   module _ (x x' x'' : S) (y y' y'' : W) (s s' s'' : L) (h : SoFar serves reads writes x y s x' y' s')
       (l : List ReadMark) (t : List WriteMark) (told : ToldStripped reads x' l x'') (wrote : writes y' t y'') where
-    all_both : (replies : List (List ℕ)) → AllWritten t replies → AllWritten (h.took ++ t) (h.replies ++ replies)
-    all_both replies a = (
-      no_failure_both h.took t h.all.0 a.0,
-      rw (taken_both h.took t, h.all.1, a.1) (sym (concat_both h.replies replies)),
-    )
-
-    front_both : (replies : List (List ℕ)) → StandsFirst (bytes_taken t) (concat replies)
-        → StandsFirst (bytes_taken (h.took ++ t)) (concat (h.replies ++ replies))
-    front_both replies f = (
-      f.0,
-      concat_both h.replies replies ∙ ap (λ k. concat h.replies ++ k) f.1
-          ∙ sym (append_assoc (concat h.replies) (bytes_taken t) f.0)
-          ∙ ap (λ k. k ++ f.0) (sym (taken_both h.took t ∙ ap (λ k. k ++ bytes_taken t) h.all.1)),
-    )
-
     written_both : (replies : List (List ℕ)) (e : ServeError) → WrittenAt t replies e
         → WrittenAt (h.took ++ t) (h.replies ++ replies) e
-    written_both replies (Input e) w = all_both replies w
+    written_both replies (Input e) w = all_both h.took t h.replies h.all replies w
     written_both replies (Output e) w = fails_later h.took t e h.all.0 w
-    written_both replies Memory w = all_both replies w
+    written_both replies Memory w = all_both h.took t h.replies h.all replies w
 
     more_replied : (read : List ℕ) (replies : List (List ℕ)) (state : L) → Replies serves s' (byte_lines read) replies state
         → Replies serves s (byte_lines (h.read ++ read)) (h.replies ++ replies) state
@@ -243,7 +190,7 @@ module _ {S W L : Type 0} {serves : Serving L} {reads : Runs ReadMark S} {writes
               (told_follow in_laws x x' x'' (bytes h.read) l h.told told);
           wrote = out_laws.follows y y' y'' h.took t h.wrote wrote;
           replied = rw r.ends.3 (more_replied r.read r.replies r.state r.replied);
-          all = all_both r.replies r.ends.2;
+          all = all_both h.took t h.replies h.all r.replies r.ends.2;
           ended = ended_both h.read r.read h.ended (ended_whole r.read r.ends.1);
         }
 
@@ -268,22 +215,17 @@ module _ {S W L : Type 0} {serves : Serving L} {reads : Runs ReadMark S} {writes
         cut = ap (λ k. bytes h.read ++ k) r.cut ∙ sym (append_assoc (bytes h.read) (bytes r.read) r.rest)
             ∙ ap (λ k. k ++ r.rest) (sym (map-append ReadMark.byte h.read r.read));
         replied = more_replied r.read r.replies r.state r.replied;
-        front = front_both r.replies r.front;
+        front = front_both h.took t h.replies h.all r.replies r.front;
         ends = ends;
       },
     )
 
     pub all_served : ServedLines serves (LineEnds serves) s' l t s'' (Ok false) → AllTold (Ok tt)
     all_served r =
-        all_told (Ok tt) r (r.ends.0, all_both r.replies r.ends.1, ends_later h.took t r.ends.2, r.ends.3)
+        all_told (Ok tt) r (r.ends.0, all_both h.took t h.replies h.all r.replies r.ends.1, ends_later h.took t r.ends.2, r.ends.3)
 
     pub all_stopped : (e : ServeError) → ServedLines serves (LineEnds serves) s' l t s'' (Err e) → AllTold (Err e)
     all_stopped e r = all_told (Err e) r (r.ends.0, written_both r.replies e r.ends.1)
-
-still_all : (took m : List WriteMark) (replies : List (List ℕ)) → AllWritten took replies → bytes_taken m ≡ []
-    → bytes_taken (took ++ m) ≡ concat replies
-still_all took m replies a none =
-    taken_both took m ∙ ap (λ k. bytes_taken took ++ k) none ∙ append-nil (bytes_taken took) ∙ a.1
 
 -- behind a last flush
 module _ {L : Type 0} (serves : Serving L) {x y : L} {told : List ReadMark} {took : List WriteMark} where
@@ -303,19 +245,11 @@ module _ {L : Type 0} (serves : Serving L) {x y : L} {told : List ReadMark} {too
         ends = ends;
       }
 
-  pub ends_served : ServedLines serves (AllEnd serves) x told took y (Ok tt)
-      → ServedLines serves (ServingEnds serves) x told took y (Ok tt)
-  ends_served r = with_ends (Ok tt) took r r.front r.ends
-
-  pub ends_output : (e : Error) → ServedLines serves (AllEnd serves) x told took y (Err (Output e))
-      → ServedLines serves (ServingEnds serves) x told took y (Err (Output e))
-  ends_output e r = with_ends (Err (Output e)) took r r.front (Output e, r.ends.0, r.ends.1)
-
   module _ (m : List WriteMark) where
     flushed_at : (e : ServeError) (r : ServedLines serves (AllEnd serves) x told took y (Err e)) → AllWritten took r.replies
         → Wrote [] true m (Ok tt) → AllWritten (took ++ m) r.replies × EndsFlushed (took ++ m)
     flushed_at e r a w =
-        ((no_failure_both took m a.0 w.0, still_all took m r.replies a w.1), ends_later took m (w.2 refl))
+        (still_all took m r.replies a w.0 w.1, ends_later took m (w.2 refl))
 
     pub flush_input : (e : Error) → ServedLines serves (AllEnd serves) x told took y (Err (Input e)) → Wrote [] true m (Ok tt)
         → ServedLines serves (ServingEnds serves) x told (took ++ m) y (Err (Input e))
@@ -330,11 +264,9 @@ module _ {L : Type 0} (serves : Serving L) {x y : L} {told : List ReadMark} {too
         with_ends (Err Memory) (took ++ m) r ([], sym (append-nil _ ∙ f.0.1)) (r.ends.0, f.0, f.1)
 
     -- where the flush failed
-    pub flush_failed : (e f : ServeError) (r : ServedLines serves (AllEnd serves) x told took y (Err e))
+    pub flush_failed : (e : ServeError) (f : Error) (r : ServedLines serves (AllEnd serves) x told took y (Err e))
         → AllWritten took r.replies → Wrote [] true m (Err f)
-        → ServedLines serves (ServingEnds serves) x told (took ++ m) y (Err f)
-    flush_failed e (Output f) r a w =
-        let both = wrote_both (concat r.replies) true took m (Err (Output f)) a.0 a.1 w in
+        → ServedLines serves (ServingEnds serves) x told (took ++ m) y (Err (Output f))
+    flush_failed e f r a w =
+        let both = wrote_both (concat r.replies) true took m (Err f) a.0 a.1 w in
         with_ends (Err (Output f)) (took ++ m) r both.0 (e, r.ends.0, both.1)
-    flush_failed e (Input f) r a w = absurd w
-    flush_failed e Memory r a w = absurd w

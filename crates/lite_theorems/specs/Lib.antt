@@ -9,7 +9,9 @@ pub mod Laws
 pub mod Lines
 pub mod Readers
 pub mod Reading
+pub mod Services
 pub mod Serving
+pub mod ServingValues
 pub mod Streams
 pub mod Told
 pub mod Uses

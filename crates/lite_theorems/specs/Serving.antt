@@ -1,44 +1,22 @@
--- What a server of lines replies, how its service goes from state to state, and what was read and written when it stops.
-use Rattle.std.specs.Prelude.{◌≡◌, ◌⊎◌, ℕ, Bool, true, false, List, [], ◌∷◌, ◌++◌, Option, Some, None, Result, Ok, Err, ⊤}
-use Rattle.lite_theorems.specs.Uses.{concat, error_kind, NoFailure, OutOfMemory, ReadMark, bytes, StandsFirst, EndsFlushed, WriteMark, bytes_taken, byte_lines}
+-- What a server of lines replies, and what was read and written when it stops.
+use Rattle.std.specs.Prelude.{◌≡◌, ◌⊎◌, ℕ, Bool, true, false, List, [], ◌∷◌, ◌++◌, Option, Some, None, Result, Ok, Err}
+use Rattle.lite_theorems.specs.Uses.{concat, error_kind, OutOfMemory, ReadMark, bytes, StandsFirst, EndsFlushed, WriteMark, bytes_taken, byte_lines}
 use Rattle.lite_theorems.specs.BothWriters.{FailsWith}
+use Rattle.lite_theorems.specs.Services.{AllWritten, Answering, Replies}
 use Rattle.lite_theorems.specs.Told.{EndsAtFirst, Without}
 use Rattle.lite_theorems.specs.declared.serve_error.ServeError.{ServeError}
 use Rattle.lite_theorems.specs.declared.serve_error.ServeError.TheVariants.{Input, Memory, Output}
 
--- No call of the writer failed, and the bytes that it took are these replies.
-abbrev pub AllWritten : List WriteMark → List (List ℕ) → Type 0
-AllWritten took replies = NoFailure took × (bytes_taken took ≡ concat replies)
-
--- A step of a service: in a state it replies to a line, and goes to a state. `None` in place of the reply says that memory
--- for it was refused.
+-- A step of a service of lines, whose requests and replies are bytes.
 abbrev pub Serving : Type 0 → Type 1
-Serving L = L → List ℕ → Option (List ℕ) → L → Type 0
+Serving L = Answering L (List ℕ) (List ℕ)
 
 -- The reply of a call that puts it in the place of the line.
 abbrev pub reply_in : {E : Type 0} → Result (Unit {0}) E → List ℕ → Option (List ℕ)
 reply_in (Ok u) line = Some line
 reply_in (Err e) line = None
 
--- The service of a function from a line to the reply to it. It says nothing of states.
-abbrev pub RepliesBy : {L : Type 0} → (List ℕ → List ℕ) → Serving L
-RepliesBy reply x line None y = ⊤
-RepliesBy reply x line (Some r) y = r ≡ reply line
-
--- The service of a function from what a state holds and a line to the reply and to what is held then. A refusal changes
--- nothing of that.
-abbrev pub ServesBy : {L S : Type 0} → (L → S) → (S → List ℕ → List ℕ × S) → Serving L
-ServesBy holds step x line None y = holds y ≡ holds x
-ServesBy holds step x line (Some r) y = (r, holds y) ≡ step (holds x) line
-
 module _ {L : Type 0} (serves : Serving L) where
-  -- The lines were replied to in turn, from the state `x` to the state `z`.
-  abbrev pub Replies : L → List (List ℕ) → List (List ℕ) → L → Type 0
-  Replies x [] [] z = z ≡ x
-  Replies x (line ∷ lines) (reply ∷ replies) z = (y : L) × serves x line (Some reply) y × Replies y lines replies z
-  Replies x [] (reply ∷ replies) z = ⊥
-  Replies x (line ∷ lines) [] z = ⊥
-
   -- The marks `rest` are a line without a reply: memory for it was refused in the state `x`, which left `y`.
   pub record RefusedLine (rest : List ReadMark) (x y : L) : Type 0 where
     pub read : List ℕ
@@ -64,14 +42,6 @@ PieceIn xs told (Err (Input e)) = Without 10 xs
     × ((told ≡ bytes xs ++ ReadMark.fault (error_kind e) ∷ []) ⊎ ((told ≡ bytes xs) × (error_kind e ≡ OutOfMemory)))
 PieceIn xs told (Err (Output e)) = ⊥
 PieceIn xs told (Err Memory) = ⊥
-
--- What was written of the bytes `xs`: all of them, and then the writer was flushed if `flushes`. Or it failed after a
--- prefix of them.
-abbrev pub Wrote : List ℕ → Bool → List WriteMark → Result (Unit {0}) ServeError → Type 0
-Wrote xs flushes took (Ok u) = NoFailure took × (bytes_taken took ≡ xs) × (flushes ≡ true → EndsFlushed took)
-Wrote xs flushes took (Err (Input e)) = ⊥
-Wrote xs flushes took (Err (Output e)) = StandsFirst (bytes_taken took) xs × FailsWith took e
-Wrote xs flushes took (Err Memory) = ⊥
 
 -- What is written of the replies at an error: all of them, unless the output failed. That error came last.
 abbrev pub WrittenAt : List WriteMark → List (List ℕ) → ServeError → Type 0

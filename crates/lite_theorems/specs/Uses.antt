@@ -104,7 +104,7 @@ pub use Rattle.std.proofs.lemmas.Bool.{ne_eqb}
 pub use Rattle.std.proofs.lemmas.Grind.{common_steps, flat_map-append}
 pub use Rattle.std.proofs.lemmas.List.{length-map, length-take, map-append, take_all}
 pub use Rattle.std.specs.IoError.{error_kind}
-pub use Rattle.std.specs.List.{AllByRecursion, FoldsTo}
+pub use Rattle.std.specs.List.{AllByRecursion, AllZip, FoldsTo}
 pub use Rattle.std.specs.declared.io.Error.{Error}
 pub use Rattle.std.specs.declared.io.ErrorKind.{ErrorKind}
 pub use Rattle.std.specs.declared.io.ErrorKind.TheVariants.{InvalidData, OutOfMemory, UnexpectedEof, WriteZero}
@@ -119,4 +119,6 @@ pub use Rattle.lite_codec.specs.declared.values.Values.{Values}
 pub use Rattle.lite_consume.specs.Next.{nexts}
 pub use Rattle.lite_consume.specs.declared.next.Next.{Next}
 pub use Rattle.std.specs.Option.{option_transpose}
+pub use Rattle.std.specs.Result.{result_ok}
+pub use Rattle.std.proofs.lemmas.List.Folds.{concat-append}
 pub use Rattle.std.specs.List.{concat}

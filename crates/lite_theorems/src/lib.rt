@@ -12,7 +12,10 @@ mod line_server;
 mod lines;
 mod or;
 mod race;
+mod replying;
 mod serve_error;
+mod serve_values_error;
+mod value_server;
 mod values;
 mod waits;
 
@@ -24,5 +27,7 @@ pub use lines::{CollectLinesFuture, collect_buffered_lines, collect_lines};
 pub use or::collect_or;
 pub use race::collect_race;
 pub use serve_error::ServeError;
+pub use serve_values_error::ServeValuesError;
+pub use value_server::{ValueService, serve_values};
 pub use values::{wait_value, wait_write_value};
 pub use waits::{wait_flush, wait_read, wait_read_exact, wait_read_until, wait_write_all};

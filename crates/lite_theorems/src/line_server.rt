@@ -1,11 +1,12 @@
 //! A server that answers each line of a reader with a reply to a writer.
 ghost use Rattle.std.specs.Prelude.{◌≡◌, ◌++◌, ◌∷◌, [], List, false, true};
 ghost use Rattle.lite_theorems.specs.Uses.{ReadMark, WriteMark, last_piece, without_return};
-ghost use Rattle.lite_theorems.specs.Serving.{AllEnd, AtHand, LineEnds, PieceIn, ServedLines, Serving, ServingEnds, Wrote, reply_in};
+ghost use Rattle.lite_theorems.specs.Serving.{AllEnd, AtHand, LineEnds, PieceIn, ServedLines, Serving, ServingEnds, reply_in};
 ghost use Rattle.lite_theorems.specs.Told.{ToldStripped, Without};
 
+use crate::replying::{flush_if, write_reply};
 use crate::serve_error::ServeError;
-use crate::waits::{wait_flush, wait_read_until, wait_write_all};
+use crate::waits::wait_read_until;
 use lite_base::future::block_on::BlockOn;
 use lite_io_base::{AsyncBufRead, AsyncWrite, CountedRead};
 use std::alloc::{AllocError, AllocGlobal};
@@ -128,14 +129,14 @@ where
         Ok(()) => Ok(()),
         Err(ServeError::Output(e)) => Err(ServeError::Output(e)),
         // What was replied before is to arrive.
-        Err(ServeError::Input(e)) => {
-            flush_if(on, rt, replies, true)?;
-            Err(ServeError::Input(e))
-        }
-        Err(ServeError::Memory) => {
-            flush_if(on, rt, replies, true)?;
-            Err(ServeError::Memory)
-        }
+        Err(ServeError::Input(e)) => match flush_if(on, rt, replies, true) {
+            Ok(()) => Err(ServeError::Input(e)),
+            Err(e) => Err(ServeError::Output(e)),
+        },
+        Err(ServeError::Memory) => match flush_if(on, rt, replies, true) {
+            Ok(()) => Err(ServeError::Memory),
+            Err(e) => Err(ServeError::Output(e)),
+        },
     }
 }
 
@@ -227,7 +228,10 @@ fn answer_last<R: Wait, O: AsyncWrite, L: LineService>(
         × AtHand L.serves service.old (last_piece line.old.items) true took service.new result }
 {
     if line.is_empty() {
-        return flush_if(on, rt, replies, true);
+        return match flush_if(on, rt, replies, true) {
+            Ok(()) => Ok(()),
+            Err(e) => Err(ServeError::Output(e)),
+        };
     }
     answer(on, rt, replies, service, line, true)
 }
@@ -247,42 +251,9 @@ fn answer<R: Wait, O: AsyncWrite, L: LineService>(
     let Ok(()) = service.answer(line) else {
         return Err(ServeError::Memory);
     };
-    write_reply(on, rt, replies, line, flush_now)
-}
-
-/// Writes a reply, and flushes if `flush_now`.
-fn write_reply<R: Wait, O: AsyncWrite>(
-    on: &mut BlockOn,
-    rt: &R,
-    replies: &mut O,
-    reply: &[u8],
-    flush_now: bool,
-) -> Result<(), ServeError>
-    ensures { (took : List WriteMark) × O.writes replies.old took replies.new × Wrote reply.now flush_now took result }
-{
-    match wait_write_all(on, rt, replies, reply) {
-        Ok(Ok(())) => flush_if(on, rt, replies, flush_now),
-        Ok(Err(e)) => Err(ServeError::Output(e)),
-        Err(_) => unreachable!(),
-    }
-}
-
-/// Flushes the replies if `now`.
-fn flush_if<R: Wait, O: AsyncWrite>(
-    on: &mut BlockOn,
-    rt: &R,
-    replies: &mut O,
-    now: bool,
-) -> Result<(), ServeError>
-    ensures { (took : List WriteMark) × O.writes replies.old took replies.new × Wrote [] now took result }
-{
-    if !now {
-        return Ok(());
-    }
-    match wait_flush(on, rt, replies) {
-        Ok(Ok(())) => Ok(()),
-        Ok(Err(e)) => Err(ServeError::Output(e)),
-        Err(_) => unreachable!(),
+    match write_reply(on, rt, replies, line, flush_now) {
+        Ok(()) => Ok(()),
+        Err(e) => Err(ServeError::Output(e)),
     }
 }
 

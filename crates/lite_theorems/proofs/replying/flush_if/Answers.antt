@@ -1,6 +1,6 @@
 use Rattle.std.specs.Prelude.{[]}
 use Rattle.lite_theorems.specs.Uses.{refl, rules}
-use Rattle.lite_theorems.proofs.line_server.flush_if.Goals as goal
+use Rattle.lite_theorems.proofs.replying.flush_if.Goals as goal
 
 pub returns-then-not-now : goal.returns-then-not-now
 returns-then-not-now g c = ([], g.O.Takings.write_laws.rests _, (tt, refl, λ now. absurd (search (rules, now))))

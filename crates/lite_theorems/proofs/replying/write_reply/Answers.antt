@@ -1,7 +1,7 @@
 use Rattle.std.specs.Prelude.{◌≡◌, ◌++◌, Ok}
 use Rattle.lite_theorems.specs.Uses.{rules}
-use Rattle.lite_theorems.proofs.Serving.{wrote_both}
-use Rattle.lite_theorems.proofs.line_server.write_reply.Goals as goal
+use Rattle.lite_theorems.proofs.Writing.{wrote_both}
+use Rattle.lite_theorems.proofs.replying.write_reply.Goals as goal
 
 pub returns-in-Ok-Ok : goal.returns-in-Ok-Ok
 returns-in-Ok-Ok g c =
