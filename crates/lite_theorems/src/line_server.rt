@@ -6,7 +6,8 @@ ghost use Rattle.lite_theorems.specs.Told.{ToldStripped, Without};
 
 use crate::replying::{flush_if, write_reply};
 use crate::serve_error::ServeError;
-use crate::waits::wait_read_until;
+use crate::waits::read_until_by;
+use lite_base::future::Waits;
 use lite_base::future::block_on::BlockOn;
 use lite_io_base::{AsyncBufRead, AsyncWrite, CountedRead};
 use std::alloc::{AllocError, AllocGlobal};
@@ -125,15 +126,35 @@ where
     ensures { (l : List ReadMark) × (took : List WriteMark) × ToldStripped I.reads requests.old l requests.new
         × O.writes replies.old took replies.new × ServedLines L.serves (ServingEnds L.serves) service.old l took service.new result }
 {
-    match serve_all(on, rt, requests, replies, service) {
+    serve_by(&mut on.waits(), rt, requests, replies, service)
+}
+
+/// Answers each line, by waits that share a context.
+fn serve_by<R, I, O, L>(
+    waits: &mut Waits<'_>,
+    rt: &R,
+    requests: &mut I,
+    replies: &mut O,
+    service: &mut L,
+) -> Result<(), ServeError>
+where
+    R: Wait + AllocGlobal,
+    I: AsyncBufRead + CountedRead,
+    O: AsyncWrite,
+    L: LineService,
+    requires { I.ranks.counts requests.old }
+    ensures { (l : List ReadMark) × (took : List WriteMark) × ToldStripped I.reads requests.old l requests.new
+        × O.writes replies.old took replies.new × ServedLines L.serves (ServingEnds L.serves) service.old l took service.new result }
+{
+    match serve_all(waits, rt, requests, replies, service) {
         Ok(()) => Ok(()),
         Err(ServeError::Output(e)) => Err(ServeError::Output(e)),
         // What was replied before is to arrive.
-        Err(ServeError::Input(e)) => match flush_if(on, rt, replies, true) {
+        Err(ServeError::Input(e)) => match flush_if(waits, rt, replies, true) {
             Ok(()) => Err(ServeError::Input(e)),
             Err(e) => Err(ServeError::Output(e)),
         },
-        Err(ServeError::Memory) => match flush_if(on, rt, replies, true) {
+        Err(ServeError::Memory) => match flush_if(waits, rt, replies, true) {
             Ok(()) => Err(ServeError::Memory),
             Err(e) => Err(ServeError::Output(e)),
         },
@@ -142,7 +163,7 @@ where
 
 /// Answers lines until the end of file, or until it cannot go on.
 fn serve_all<R, I, O, L>(
-    on: &mut BlockOn,
+    waits: &mut Waits<'_>,
     rt: &R,
     requests: &mut I,
     replies: &mut O,
@@ -159,7 +180,7 @@ where
 {
     let mut line = Vec::new(rt.alloc());
     for _ in rt.forever() {
-        if !answer_next(on, rt, requests, replies, service, &mut line)? {
+        if !answer_next(waits, rt, requests, replies, service, &mut line)? {
             return Ok(());
         }
     }
@@ -168,7 +189,7 @@ where
 
 /// Answers the next line, if there is one. Returns whether a newline ended it.
 fn answer_next<R, I, O, L>(
-    on: &mut BlockOn,
+    waits: &mut Waits<'_>,
     rt: &R,
     requests: &mut I,
     replies: &mut O,
@@ -186,20 +207,20 @@ where
     ensures again { I.ranks.counts requests.new }
 {
     line.clear();
-    read_line(on, rt, requests, line)?;
+    read_line(waits, rt, requests, line)?;
     if take_line(line) {
         // The replies are flushed if no more of the input is buffered.
         let flush_now = requests.buffer().is_empty();
-        answer(on, rt, replies, service, line, flush_now)?;
+        answer(waits, rt, replies, service, line, flush_now)?;
         return Ok(true);
     }
-    answer_last(on, rt, replies, service, line)?;
+    answer_last(waits, rt, replies, service, line)?;
     Ok(false)
 }
 
 /// Reads a line with its newline, or the bytes before an end of file.
 fn read_line<R: Wait, I: AsyncBufRead + CountedRead>(
-    on: &mut BlockOn,
+    waits: &mut Waits<'_>,
     rt: &R,
     requests: &mut I,
     line: &mut Vec<u8>,
@@ -209,16 +230,15 @@ fn read_line<R: Wait, I: AsyncBufRead + CountedRead>(
     ensures told { (l : List ReadMark) × ToldStripped I.reads requests.old l requests.new × PieceIn line.new.items l result }
     ensures again { I.ranks.counts requests.new }
 {
-    match wait_read_until(on, rt, requests, b'\n', line) {
-        Ok(Ok(_)) => Ok(()),
-        Ok(Err(e)) => Err(ServeError::Input(e)),
-        Err(_) => unreachable!(),
+    match read_until_by(waits, rt, requests, b'\n', line) {
+        Ok(_) => Ok(()),
+        Err(e) => Err(ServeError::Input(e)),
     }
 }
 
 /// Answers the bytes before an end of file, if there are any, and flushes.
 fn answer_last<R: Wait, O: AsyncWrite, L: LineService>(
-    on: &mut BlockOn,
+    waits: &mut Waits<'_>,
     rt: &R,
     replies: &mut O,
     service: &mut L,
@@ -228,17 +248,17 @@ fn answer_last<R: Wait, O: AsyncWrite, L: LineService>(
         × AtHand L.serves service.old (last_piece line.old.items) true took service.new result }
 {
     if line.is_empty() {
-        return match flush_if(on, rt, replies, true) {
+        return match flush_if(waits, rt, replies, true) {
             Ok(()) => Ok(()),
             Err(e) => Err(ServeError::Output(e)),
         };
     }
-    answer(on, rt, replies, service, line, true)
+    answer(waits, rt, replies, service, line, true)
 }
 
 /// Replaces a line with its reply, writes that, and flushes if `flush_now`.
 fn answer<R: Wait, O: AsyncWrite, L: LineService>(
-    on: &mut BlockOn,
+    waits: &mut Waits<'_>,
     rt: &R,
     replies: &mut O,
     service: &mut L,
@@ -251,7 +271,7 @@ fn answer<R: Wait, O: AsyncWrite, L: LineService>(
     let Ok(()) = service.answer(line) else {
         return Err(ServeError::Memory);
     };
-    match write_reply(on, rt, replies, line, flush_now) {
+    match write_reply(waits, rt, replies, line, flush_now) {
         Ok(()) => Ok(()),
         Err(e) => Err(ServeError::Output(e)),
     }

@@ -3,15 +3,15 @@ ghost use Rattle.std.specs.Prelude.{[], List};
 ghost use Rattle.lite_theorems.specs.Uses.{WriteMark};
 ghost use Rattle.lite_theorems.specs.Services.{Wrote};
 
-use crate::waits::{wait_flush, wait_write_all};
-use lite_base::future::block_on::BlockOn;
+use crate::waits::{flush_by, write_all_by};
+use lite_base::future::Waits;
 use lite_io_base::AsyncWrite;
 use std::io;
 use std::sync::Wait;
 
 /// Writes a reply, and flushes if `flush_now`.
 pub(crate) fn write_reply<R: Wait, O: AsyncWrite>(
-    on: &mut BlockOn,
+    waits: &mut Waits<'_>,
     rt: &R,
     replies: &mut O,
     reply: &[u8],
@@ -19,16 +19,13 @@ pub(crate) fn write_reply<R: Wait, O: AsyncWrite>(
 ) -> io::Result<()>
     ensures { (took : List WriteMark) × O.writes replies.old took replies.new × Wrote reply.now flush_now took result }
 {
-    match wait_write_all(on, rt, replies, reply) {
-        Ok(Ok(())) => flush_if(on, rt, replies, flush_now),
-        Ok(Err(e)) => Err(e),
-        Err(_) => unreachable!(),
-    }
+    write_all_by(waits, rt, replies, reply)?;
+    flush_if(waits, rt, replies, flush_now)
 }
 
 /// Flushes the replies if `now`.
 pub(crate) fn flush_if<R: Wait, O: AsyncWrite>(
-    on: &mut BlockOn,
+    waits: &mut Waits<'_>,
     rt: &R,
     replies: &mut O,
     now: bool,
@@ -38,8 +35,5 @@ pub(crate) fn flush_if<R: Wait, O: AsyncWrite>(
     if !now {
         return Ok(());
     }
-    match wait_flush(on, rt, replies) {
-        Ok(flushed) => flushed,
-        Err(_) => unreachable!(),
-    }
+    flush_by(waits, rt, replies)
 }

@@ -7,7 +7,8 @@ ghost use Rattle.lite_theorems.specs.Told.{ToldStripped};
 
 use crate::replying::{flush_if, write_reply};
 use crate::serve_values_error::ServeValuesError;
-use crate::values::wait_value;
+use crate::values::value_by;
+use lite_base::future::Waits;
 use lite_base::future::block_on::BlockOn;
 use lite_codec::{Codec, EncodeError, Values};
 use lite_io_base::{AsyncBufRead, AsyncWrite, CountedRead};
@@ -58,9 +59,12 @@ where
     ensures again { T.ranks.counts requests.new.reader }
     ensures at_value { AtValue C.encodes C.refuses requests.new }
 {
+    let mut waits = on.waits();
     let mut bytes = Vec::new(rt.alloc());
     for _ in rt.forever() {
-        if !answer_next(on, rt, requests, replies, encoder, service, &mut bytes)? {
+        if !answer_next(
+            &mut waits, rt, requests, replies, encoder, service, &mut bytes,
+        )? {
             return Ok(());
         }
     }
@@ -69,7 +73,7 @@ where
 
 /// Answers the next request, if there is one, or flushes. Returns whether there was one.
 fn answer_next<R, T, C, O, D, S>(
-    on: &mut BlockOn,
+    waits: &mut Waits<'_>,
     rt: &R,
     requests: &mut Values<T, C>,
     replies: &mut O,
@@ -95,21 +99,21 @@ where
     ensures again { T.ranks.counts requests.new.reader }
     ensures at_value { AtValue C.encodes C.refuses requests.new }
 {
-    match encode_next(on, rt, requests, encoder, service, bytes) {
+    match encode_next(waits, rt, requests, encoder, service, bytes) {
         Ok(true) => {
             // The replies are flushed if no more of the input is buffered.
             let flush_now = !requests.has_buffered();
-            match write_reply(on, rt, replies, bytes, flush_now) {
+            match write_reply(waits, rt, replies, bytes, flush_now) {
                 Ok(()) => Ok(true),
                 Err(e) => Err(ServeValuesError::Output(e)),
             }
         }
-        Ok(false) => match flush_if(on, rt, replies, true) {
+        Ok(false) => match flush_if(waits, rt, replies, true) {
             Ok(()) => Ok(false),
             Err(e) => Err(ServeValuesError::Output(e)),
         },
         // What was replied before is to arrive.
-        Err(stopped) => match flush_if(on, rt, replies, true) {
+        Err(stopped) => match flush_if(waits, rt, replies, true) {
             Ok(()) => Err(stopped),
             Err(e) => Err(ServeValuesError::Output(e)),
         },
@@ -118,7 +122,7 @@ where
 
 /// Puts the bytes of the reply to the next request into `bytes`. Returns whether there was a request.
 fn encode_next<R, T, C, D, S>(
-    on: &mut BlockOn,
+    waits: &mut Waits<'_>,
     rt: &R,
     requests: &mut Values<T, C>,
     encoder: &D,
@@ -140,7 +144,7 @@ where
     ensures again { T.ranks.counts requests.new.reader }
     ensures at_value { AtValue C.encodes C.refuses requests.new }
 {
-    let request = match wait_value(on, rt, requests) {
+    let request = match value_by(waits, rt, requests) {
         Ok(Some(request)) => request,
         Ok(None) => return Ok(false),
         Err(e) => return Err(ServeValuesError::Input(e)),

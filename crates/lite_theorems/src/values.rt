@@ -6,6 +6,7 @@ ghost use Rattle.lite_theorems.specs.Told.{ToldStripped};
 ghost use Rattle.lite_theorems.specs.Values.{ComesBack, ValueTaken, ValueTold, as_item};
 
 use crate::waits::wait_write_all;
+use lite_base::future::Waits;
 use lite_base::future::block_on::BlockOn;
 use lite_codec::{Codec, DecodeError, EncodeError, Values};
 use lite_consume::make::next;
@@ -58,8 +59,31 @@ where
     ensures again { T.ranks.counts values.new.reader }
     ensures at_value { AtValue C.encodes C.refuses values.new }
 {
-    let item = on.wait_for(rt, &mut next(values))?;
-    item.transpose()
+    value_by(&mut on.waits(), rt, values)
+}
+
+// As `wait_value`, for waits that share a context.
+pub(crate) fn value_by<R, T, C>(
+    waits: &mut Waits<'_>,
+    rt: &R,
+    values: &mut Values<T, C>,
+) -> Result<Option<C::Value>, DecodeError>
+where
+    R: Wait,
+    T: AsyncBufRead + CountedRead,
+    C: Codec,
+    requires counts { T.ranks.counts values.old.reader }
+    requires at_value { AtValue C.encodes C.refuses values.old }
+    ensures told { (l : List ReadMark) × ToldStripped T.reads values.old.reader l values.new.reader
+        × ValueTold (C.encodes values.old.codec) (C.refuses values.old.codec) values.old.held.items l (as_item result)
+        values.new.held.items
+        × ((sent : _) (xs : _) → C.encodes values.old.codec sent xs → Comparable (bytes values.old.held.items ++ l) (bytes xs)
+        → ComesBack (C.encodes values.old.codec) xs (as_item result)) }
+    ensures codec { values.new.codec ≡ values.old.codec }
+    ensures again { T.ranks.counts values.new.reader }
+    ensures at_value { AtValue C.encodes C.refuses values.new }
+{
+    waits.wait_for(rt, &mut next(values)).transpose()
 }
 
 /// Blocks this thread, by `on`, until `writer` has accepted the bytes of `value`.

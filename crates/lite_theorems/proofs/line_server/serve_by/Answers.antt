@@ -2,7 +2,7 @@ use Rattle.std.specs.Prelude.{◌≡◌, ◌++◌, Err, Ok}
 use Rattle.lite_theorems.specs.Uses.{rules}
 use Rattle.lite_theorems.specs.declared.serve_error.ServeError.TheVariants.{Input, Memory}
 use Rattle.lite_theorems.proofs.Serving.{flush_failed, flush_input, flush_memory}
-use Rattle.lite_theorems.proofs.line_server.serve_lines.Goals as goal
+use Rattle.lite_theorems.proofs.line_server.serve_by.Goals as goal
 
 pub returns-in-Ok-flush_if : goal.returns-in-Ok-flush_if
 returns-in-Ok-flush_if g c =
