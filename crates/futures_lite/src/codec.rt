@@ -1,7 +1,9 @@
-//! Values on a byte stream: codecs, the stream that decodes values, and blocking waits for one value.
+//! Values on a byte stream: codecs, the stream that decodes values, blocking waits for one value, and a server.
 
 pub use lite_codec::make::values;
 pub use lite_codec::{
     Codec, DecodeError, Decoded, EncodeError, LengthDelimited, Resp, RespValue, Values,
 };
-pub use lite_theorems::{wait_value, wait_write_value};
+pub use lite_theorems::{
+    ServeValuesError, ValueService, serve_values, wait_value, wait_write_value,
+};

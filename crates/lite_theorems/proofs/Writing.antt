@@ -1,7 +1,7 @@
 -- What a service replied and what a writer took, first to some requests and then to others.
 use Rattle.std.specs.Prelude.{◌≡◌, ℕ, Bool, List, [], ◌∷◌, ◌++◌, Result, Ok, Err}
-use Rattle.lite_theorems.specs.Uses.{◌∙◌, AllZip, ap, append-nil, append_assoc, concat, concat-append, EndsFlushed, Error, NoFailure, no_failure_both, refl}
-use Rattle.lite_theorems.specs.Uses.{StandsFirst, sym, WriteMark, bytes_taken}
+use Rattle.lite_theorems.specs.Uses.{◌∙◌, AllZip, ap, append-nil, append_assoc, concat, concat-append, EndsFlushed, Error, NoFailure}
+use Rattle.lite_theorems.specs.Uses.{no_failure_both, refl, StandsFirst, sym, WriteMark, bytes_taken}
 use Rattle.lite_theorems.specs.Laws.Taken.{taken_both}
 use Rattle.lite_theorems.specs.Services.{AllWritten, Answering, Replies, Wrote}
 use Rattle.lite_theorems.proofs.BothWriters.{fails_later}

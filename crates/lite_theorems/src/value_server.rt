@@ -23,16 +23,113 @@ pub trait ValueService {
     /// The type of the replies.
     type Reply;
 
-    /// A step from a state and a request to the reply and a state.
+    /// A step from a state and a request to the reply and a state. There is no reply if memory for it was
+    /// refused.
+    ///
+    /// A service whose reply depends on the request alone has `RepliesBy` of a function. One with a state has
+    /// `ServesBy` of what the state holds, and of a function from that and the request to the reply and what
+    /// is held then.
     ghost serves: { Answering Self Self.Request Self.Reply };
 
-    /// Returns the reply to a request.
+    /// Returns the reply to a request, with memory from `alloc`. `Err` means that memory was refused.
+    ///
+    /// # Examples
+    ///
+    /// ```
+    /// use futures_lite::codec::{RespValue, ValueService};
+    /// use std::alloc::{AllocError, Global};
+    ///
+    /// #[derive(Drop)]
+    /// struct Counter {
+    ///     requests: i64,
+    /// }
+    ///
+    /// impl ValueService for Counter {
+    ///     ghost use Rattle.std.specs.Prelude.{⊤};
+    ///
+    ///     type Request = RespValue;
+    ///     type Reply = RespValue;
+    ///
+    ///     ghost serves = { λ x request reply y. ⊤ };
+    ///
+    ///     fn answer(&mut self, _: Global, _: RespValue) -> Result<RespValue, AllocError> {
+    ///         self.requests = self.requests.wrapping_add(1);
+    ///         Ok(RespValue::Integer(self.requests))
+    ///     }
+    /// }
+    ///
+    /// let mut counter = Counter { requests: 0 };
+    /// let reply = counter.answer(rt.alloc(), RespValue::Null)?;
+    /// assert!(rt; matches!(reply, RespValue::Integer(1)));
+    /// ```
     fn answer(&mut self, alloc: Global, request: Self::Request) -> Result<Self::Reply, AllocError>
         ensures { serves self.old request (result_ok result) self.new };
 }
 
 /// Answers each value of `requests` with a reply to `replies`, in order, up to the first end of file before a
 /// value.
+///
+/// The bytes of a reply are those that `encoder` appends for it. They are put into one vector for all replies,
+/// which is allocated from `rt`. The call blocks this thread, by `on` and the runtime `rt`, and may wait for
+/// ever.
+///
+/// If it returns `Ok`, it has written the replies to all requests, none lost and none twice, and has flushed
+/// them. The call also flushes `replies` after each reply, if no more bytes of the input are buffered
+/// ([`has_buffered`](lite_codec::Values::has_buffered)). The service went from state to state by its steps,
+/// one for each request.
+///
+/// After any result `requests` may be polled again. Bytes that it held before the call are the first of the
+/// first request.
+///
+/// The caller guarantees that `ranks.counts` holds for the reader below `requests`: it cannot give bytes and
+/// errors for ever without end of file or `Pending`.
+///
+/// # Errors
+///
+/// The [`ServeValuesError`] says why the call stopped. Unless the output failed, the replies to all requests
+/// before that are written and flushed:
+///
+/// - `ServeValuesError::Input`: `requests` returned this error. A call after it continues as the error says.
+/// - `ServeValuesError::Output`: the writer failed, at a reply or at a flush. It took a prefix of the replies,
+///   which may end within a reply. The request of that reply was read. It may be the flush after another
+///   error, which is lost then.
+/// - `ServeValuesError::Unencodable`: the service replied to a request, and `encoder` has no bytes for the
+///   reply. Nothing of it was written. A call after it continues with the next request.
+/// - `ServeValuesError::Memory`: the service returned `Err`, or memory for the bytes of its reply was refused.
+///   Nothing of that reply was written. The request was read, and is lost.
+///
+/// # Examples
+///
+/// ```
+/// use futures_lite::codec::{LengthDelimited, ValueService, serve_values, values};
+/// use futures_lite::future::BlockOn;
+/// use std::alloc::{AllocError, Global};
+///
+/// #[derive(Drop)]
+/// struct Echo;
+///
+/// impl ValueService for Echo {
+///     ghost use Rattle.futures_lite.specs.Codecs.{RepliesBy};
+///
+///     type Request = Vec<u8>;
+///     type Reply = Vec<u8>;
+///
+///     ghost serves = { RepliesBy (λ request. request) };
+///
+///     fn answer(&mut self, _: Global, request: Vec<u8>) -> Result<Vec<u8>, AllocError> {
+///         Ok(request)
+///     }
+/// }
+///
+/// let mut on = BlockOn::new(&rt)?;
+/// let mut reader = b"\0\0\0\x02hi\0\0\0\x05there".as_slice();
+/// let codec = LengthDelimited { max: 100 };
+/// let mut requests = values(rt.alloc(), &mut reader, codec);
+/// let mut replies = Vec::new(rt.alloc());
+/// let served = serve_values(&mut on, &rt, &mut requests, &mut replies, &codec, &mut Echo);
+/// assert!(rt; served.is_ok());
+/// assert_eq!(rt; replies.as_slice(), b"\0\0\0\x02hi\0\0\0\x05there".as_slice());
+/// ```
 pub fn serve_values<R, T, C, O, D, S>(
     on: &mut BlockOn,
     rt: &R,
