@@ -8,3 +8,4 @@ pub mod Serving
 pub mod Telling
 pub mod Waited
 pub mod Whole
+pub mod WritingValue

@@ -13,4 +13,5 @@ pub mod Serving
 pub mod Streams
 pub mod Told
 pub mod Uses
+pub mod ValueWriter
 pub mod Values

@@ -13,6 +13,7 @@ mod lines;
 mod or;
 mod race;
 mod serve_error;
+mod value_writer;
 mod values;
 mod waits;
 
@@ -24,5 +25,6 @@ pub use lines::{CollectLinesFuture, collect_buffered_lines, collect_lines};
 pub use or::collect_or;
 pub use race::collect_race;
 pub use serve_error::ServeError;
+pub use value_writer::{WriteValueFuture, write_value};
 pub use values::{wait_value, wait_write_value};
 pub use waits::{wait_flush, wait_read, wait_read_exact, wait_read_until, wait_write_all};
