@@ -2,6 +2,7 @@ mod NextValue
 pub mod BothReaders
 pub mod BothWriters
 pub mod Collecting
+pub mod LimitedPiece
 pub mod Limits
 pub mod LinesServed
 pub mod Serving

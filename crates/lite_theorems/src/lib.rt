@@ -27,4 +27,7 @@ pub use race::collect_race;
 pub use serve_error::ServeError;
 pub use value_writer::{WriteValueFuture, write_value};
 pub use values::{wait_value, wait_write_value};
-pub use waits::{wait_flush, wait_read, wait_read_exact, wait_read_until, wait_write_all};
+pub use waits::{
+    wait_flush, wait_read, wait_read_exact, wait_read_until, wait_read_until_limited,
+    wait_write_all,
+};
