@@ -11,3 +11,4 @@ pub use Rattle.lite_theorems.specs.Values.{ComesBack, ValueTaken, ValueTold, as_
 pub use Rattle.lite_theorems.specs.Services.{AllWritten, Answering, Replies, RepliesBy, ServesBy}
 pub use Rattle.lite_theorems.specs.ServingValues.{LacksReply, ServedValues, StopsAt, Unanswered, ValuesEnd}
 pub use Rattle.lite_theorems.specs.Laws.Serving.{replies_mapped, serves_by, steps_from}
+pub use Rattle.lite_theorems.specs.ValueWriter.{AtOnce, HoldsValue, ReturnsWritten, TakesValue, WritesValue, as_written, written_value}

@@ -3,7 +3,7 @@ ghost use Rattle.std.specs.Prelude.{◌≡◌};
 ghost use Rattle.lite_codec.specs.declared.error.DecodeError.TheVariants.{Io, Memory};
 ghost use Rattle.lite_codec.specs.declared.error.EncodeError.TheVariants.{Io as Failed, Memory as Full};
 
-use std::alloc::AllocError;
+use std::alloc::{AllocError, AllocFailed};
 use std::io;
 
 /// Why a value was not encoded, or not written.
@@ -17,6 +17,21 @@ use std::io;
 /// let mut bytes = Vec::new(rt.alloc());
 /// let encoded = codec.encode(&Vec::from_slice(rt.alloc(), b"hello")?, &mut bytes);
 /// assert!(rt; matches!(encoded, Err(EncodeError::Unencodable)));
+/// ```
+///
+/// In an encoder `?` turns the error of `push` into `Memory`.
+///
+/// ```
+/// use futures_lite::codec::EncodeError;
+///
+/// fn encode_flag(flag: bool, out: &mut Vec<u8>) -> Result<(), EncodeError> {
+///     out.push(if flag { b't' } else { b'f' })?;
+///     Ok(())
+/// }
+///
+/// let mut bytes = Vec::new(rt.alloc());
+/// assert!(rt; encode_flag(true, &mut bytes).is_ok());
+/// assert_eq!(rt; bytes.as_slice(), b"t".as_slice());
 /// ```
 #[derive(Debug, Drop)]
 pub enum EncodeError {
@@ -32,6 +47,15 @@ impl From<AllocError> for EncodeError {
     ghost from_gives = { λ _ error. error ≡ Full };
 
     fn from(_: AllocError) -> EncodeError {
+        EncodeError::Memory
+    }
+}
+
+// So that `out.push(byte)?` converts. The value is dropped.
+impl<T: Drop> From<AllocFailed<T>> for EncodeError {
+    ghost from_gives = { λ _ error. error ≡ Full };
+
+    fn from(_: AllocFailed<T>) -> EncodeError {
         EncodeError::Memory
     }
 }
@@ -75,6 +99,15 @@ impl From<AllocError> for DecodeError {
     ghost from_gives = { λ _ error. error ≡ Memory };
 
     fn from(_: AllocError) -> DecodeError {
+        DecodeError::Memory
+    }
+}
+
+// So that `out.push(item)?` converts. The value is dropped.
+impl<T: Drop> From<AllocFailed<T>> for DecodeError {
+    ghost from_gives = { λ _ error. error ≡ Memory };
+
+    fn from(_: AllocFailed<T>) -> DecodeError {
         DecodeError::Memory
     }
 }

@@ -2,6 +2,7 @@ mod NextValue
 pub mod BothReaders
 pub mod BothWriters
 pub mod Collecting
+pub mod LimitedPiece
 pub mod Limits
 pub mod LinesServed
 pub mod Serving
@@ -10,3 +11,4 @@ pub mod Telling
 pub mod Waited
 pub mod Whole
 pub mod Writing
+pub mod WritingValue

@@ -11,4 +11,5 @@ pub mod Serving
 pub mod Streams
 pub mod Taken
 pub mod Told
+pub mod ValueWriter
 pub mod Writers

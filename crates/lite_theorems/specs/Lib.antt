@@ -15,4 +15,5 @@ pub mod ServingValues
 pub mod Streams
 pub mod Told
 pub mod Uses
+pub mod ValueWriter
 pub mod Values

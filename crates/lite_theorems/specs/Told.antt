@@ -1,5 +1,5 @@
 -- What a reader produced while a call was waited for, without the `Pending`s.
-use Rattle.std.specs.Prelude.{◌≡◌, ◌≢◌, ◌<◌, ◌⊎◌, ℕ, List, [], ◌∷◌, ◌++◌, length, Result, Ok, Err}
+use Rattle.std.specs.Prelude.{◌≡◌, ◌≢◌, ◌≤◌, ◌<◌, ◌⊎◌, ℕ, List, [], ◌∷◌, ◌++◌, length, Result, Ok, Err}
 use Rattle.lite_theorems.specs.Uses.{error_kind, AllByRecursion, Error, OutOfMemory, UnexpectedEof, Runs, ReadMark, bytes, strip_marks}
 
 -- The reader produced just the marks `l`, if the `Pending`s are left out.
@@ -42,3 +42,13 @@ PieceTold at xs told (Ok n) = (n ≡ length xs)
     × ((EndsAtFirst at xs × (told ≡ bytes xs)) ⊎ (Without at xs × (told ≡ bytes xs ++ ReadMark.end ∷ [])))
 PieceTold at xs told (Err e) = Without at xs
     × ((told ≡ bytes xs ++ ReadMark.fault (error_kind e) ∷ []) ⊎ ((told ≡ bytes xs) × (error_kind e ≡ OutOfMemory)))
+
+-- What `read_until` read up to a limit when it appended the bytes `xs`: a piece with its delimiter; or exactly `limit`
+-- bytes without it, after which nothing was read; or fewer without it before the end of file. The value is their number.
+-- An error is as in `PieceTold`.
+abbrev pub PieceWithin : ℕ → ℕ → List ℕ → List ReadMark → Result ℕ Error → Type 0
+PieceWithin limit at xs told (Ok n) = (n ≡ length xs)
+    × ((EndsAtFirst at xs × (told ≡ bytes xs) × (length xs ≤ limit))
+    ⊎ ((Without at xs × (told ≡ bytes xs) × (length xs ≡ limit))
+    ⊎ (Without at xs × (told ≡ bytes xs ++ ReadMark.end ∷ []) × (length xs < limit))))
+PieceWithin limit at xs told (Err e) = PieceTold at xs told (Err e) × (length xs ≤ limit)

@@ -1,7 +1,8 @@
 -- What this crate's files take from other crates. The prelude, and a name that two modules have, are imported from where they are.
 pub use Rattle.futures.specs.declared.task.Poll.{Poll}
 pub use Rattle.futures.specs.declared.task.Poll.TheVariants.{Pending, Ready}
-pub use Rattle.lite_base.specs.Answers.{Answer, Comparable, Gives, UpToValue, before_end, end, item, items, strip, until_end}
+pub use Rattle.lite_base.specs.Answers.{Answer, Comparable, Gives, UpToValue, Waiting, before_end, end, item, items, strip, until_end}
+pub use Rattle.lite_base.specs.Calm.{CalmLaws, NoPending}
 pub use Rattle.lite_base.specs.Future.AtEachOk.{AtEachOk}
 pub use Rattle.lite_base.specs.FutureLaws.{FutureLaws}
 pub use Rattle.lite_base.specs.Laws.Alike.{gives_strip}
@@ -15,6 +16,7 @@ pub use Rattle.lite_base.specs.Lent.{Lent}
 pub use Rattle.lite_base.specs.Rank.{AtMost, Below, Lowers}
 pub use Rattle.lite_base.specs.Ranks.{Counting, Ranks, number_ranks, ranks_of}
 pub use Rattle.lite_base.specs.Runs.{Hints, NoHint, Runs}
+pub use Rattle.lite_base.specs.Steady.{FutureSteadyLaws}
 pub use Rattle.lite_base.specs.StreamLaws.{RunLaws, StreamLaws}
 pub use Rattle.lite_buffered.specs.BufReader.{PassesBuffer, ThroughBuffer, ahead, reader_capacity, reader_inner}
 pub use Rattle.lite_buffered.specs.BufWriter.{Buffers, unwritten, writer_inner}
@@ -88,10 +90,11 @@ pub use Rattle.lite_write.specs.Copy.{CopyRuns, CopyValue}
 pub use Rattle.lite_write.specs.Flush.{Flushes}
 pub use Rattle.lite_write.specs.Hands.{Hands}
 pub use Rattle.lite_write.specs.Laws.Copy.{ok_value, told_both}
-pub use Rattle.lite_write.specs.Laws.SteadyWriteAll.{no_failure_both}
+pub use Rattle.lite_write.specs.Laws.SteadyWriteAll.{all_calm, all_steady, no_failure_both}
+pub use Rattle.lite_write.specs.Laws.WriteAll.{all_laws}
 pub use Rattle.lite_write.specs.MarkLists.{BytesAlone, bytes_told}
 pub use Rattle.lite_write.specs.Parts.{NothingCopied, held_of, met_in, source_of}
-pub use Rattle.lite_write.specs.SteadyWriteAll.{NoFailure}
+pub use Rattle.lite_write.specs.SteadyWriteAll.{NoFailure, NoneFails, WithoutFailure}
 pub use Rattle.lite_write.specs.WriteAll.{Ended, HandsMarks, HandsOver, WritesAll}
 pub use Rattle.lite_write.specs.declared.copy.CopyFuture.{CopyFuture}
 pub use Rattle.lite_write.specs.declared.flush.FlushFuture.{FlushFuture}

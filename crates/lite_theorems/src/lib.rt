@@ -16,6 +16,7 @@ mod replying;
 mod serve_error;
 mod serve_values_error;
 mod value_server;
+mod value_writer;
 mod values;
 mod waits;
 
@@ -29,5 +30,9 @@ pub use race::collect_race;
 pub use serve_error::ServeError;
 pub use serve_values_error::ServeValuesError;
 pub use value_server::{ValueService, serve_values};
+pub use value_writer::{WriteValueFuture, write_value};
 pub use values::{wait_value, wait_write_value};
-pub use waits::{wait_flush, wait_read, wait_read_exact, wait_read_until, wait_write_all};
+pub use waits::{
+    wait_flush, wait_read, wait_read_exact, wait_read_until, wait_read_until_limited,
+    wait_write_all,
+};

@@ -3,10 +3,11 @@
 ghost use Rattle.std.specs.Prelude.{◌≡◌, ◌≤◌, ◌++◌, [], ℕ, List, Ok, IfErr, IfOk, IsOk, length};
 ghost use Rattle.lite_theorems.specs.Uses.{Ready, ReadMark, read_marks, WriteMark, bytes_taken};
 ghost use Rattle.lite_theorems.specs.BothWriters.{FlushedUp, HandedUp, TakesFront};
-ghost use Rattle.lite_theorems.specs.Told.{FillsUp, PieceTold, ToldStripped};
+ghost use Rattle.lite_theorems.specs.Told.{FillsUp, PieceTold, PieceWithin, ToldStripped};
 
 use lite_base::future::Waits;
 use lite_base::future::block_on::BlockOn;
+use lite_buffered::make::take;
 use lite_io_base::{AsyncBufRead, AsyncRead, AsyncWrite, CountedRead};
 use lite_read::make::{read, read_exact, read_until};
 use lite_write::make::{flush, write_all};
@@ -135,6 +136,48 @@ pub(crate) fn read_until_by<R: Wait, T: AsyncBufRead + CountedRead>(
     ensures again { T.ranks.counts reader.new }
 {
     waits.wait_for(rt, &mut read_until(reader, byte, buf))
+}
+
+/// Blocks this thread, by `on`, until a piece that ends in `byte`, or `limit` bytes without it, or those before
+/// an end of file were appended to `buf`. It returns how many were appended.
+///
+/// So a peer cannot fill the memory with one endless line. If `limit` bytes came without `byte`, nothing behind
+/// them was read. Otherwise the call is as [`wait_read_until`]. The call may wait for ever. The outer result is
+/// always `Ok`. The caller guarantees that `ranks.counts` holds for the reader.
+///
+/// # Examples
+///
+/// ```
+/// use futures_lite::future::BlockOn;
+/// use futures_lite::io::wait_read_until_limited;
+///
+/// let mut on = BlockOn::new(&rt)?;
+/// let mut reader = b"ab\nlonger\n".as_slice();
+/// let mut line = Vec::new(rt.alloc());
+/// assert_eq!(rt; wait_read_until_limited(&mut on, &rt, &mut reader, b'\n', 4, &mut line)??, 3);
+/// assert_eq!(rt; line.as_slice(), b"ab\n".as_slice());
+///
+/// line.clear();
+/// assert_eq!(rt; wait_read_until_limited(&mut on, &rt, &mut reader, b'\n', 4, &mut line)??, 4);
+/// assert_eq!(rt; line.as_slice(), b"long".as_slice());
+/// assert_eq!(rt; reader, b"er\n".as_slice());
+/// ```
+pub fn wait_read_until_limited<R: Wait, T: AsyncBufRead + CountedRead>(
+    on: &mut BlockOn,
+    rt: &R,
+    reader: &mut T,
+    byte: u8,
+    limit: u64,
+    buf: &mut Vec<u8>,
+) -> Result<io::Result<usize>, AllocError>
+    requires { T.ranks.counts reader.old }
+    ensures told { (l : List ReadMark) × (xs : List ℕ) × ToldStripped T.reads reader.old l reader.new
+        × (buf.new.items ≡ buf.old.items ++ xs)
+        × IfOk result (λ v. PieceWithin limit byte xs l v) × IfErr result (λ _. (l ≡ []) × (xs ≡ [])) }
+    ensures again { T.ranks.counts reader.new }
+    ensures waited { IsOk result }
+{
+    wait_read_until(on, rt, &mut take(reader, limit), byte, buf)
 }
 
 /// Blocks this thread, by `on`, until the writer has accepted all of `bytes`, and returns the value.
