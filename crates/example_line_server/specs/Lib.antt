@@ -1,1 +1,3 @@
-pub mod Replies
+pub mod Request
+pub mod Service
+pub mod Store

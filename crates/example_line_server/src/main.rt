@@ -1,7 +1,9 @@
-//! A line server: each line of standard input is answered by a line of standard output.
+//! A server of keys and values: each line of standard input is answered by a line of standard output.
 #![tactic(auto)]
 
-mod words;
+mod request;
+mod service;
+mod store;
 
 use futures_lite::AsyncReadExt;
 use futures_lite::future::BlockOn;
@@ -9,7 +11,7 @@ use futures_lite::io::{AssertAsync, BufReader, BufWriter, ServeError, serve_line
 use std::alloc::AllocGlobal;
 use std::random::RandomSource;
 use std::sync::Wait;
-use words::Words;
+use store::Store;
 
 /// How many bytes are read in a row before the program yields.
 const BYTES: usize = 1 << 16;
@@ -33,5 +35,11 @@ where
     let Ok(mut replies) = BufWriter::new(rt.alloc(), AssertAsync::new(host.stdout())) else {
         return Err(ServeError::Memory);
     };
-    serve_lines(&mut on, rt, &mut requests, &mut replies, &mut Words)
+    serve_lines(
+        &mut on,
+        rt,
+        &mut requests,
+        &mut replies,
+        &mut Store::new(rt.alloc()),
+    )
 }
