@@ -1,3 +1,4 @@
 pub mod Request
 pub mod Service
+pub mod Serving
 pub mod Store

@@ -3,7 +3,7 @@ use Rattle.std.specs.Prelude.{ℕ, List, [], ◌∷◌, ◌++◌, Option, None, 
 use Rattle.std.specs.Map.{update}
 use Rattle.std.specs.Str.{bytes_eq}
 use Rattle.example_line_server.specs.Request.{request}
-use Rattle.example_line_server.specs.Store.{Held}
+use Rattle.example_line_server.specs.Store.{KeyValues}
 use Rattle.example_line_server.specs.declared.request.Request.{Request}
 use Rattle.example_line_server.specs.declared.request.Request.TheVariants.{Delete, Get, Set, Unknown}
 
@@ -18,12 +18,12 @@ deleted None = codes "not found"
 deleted (Some value) = codes "deleted"
 
 -- The answer to a request, and what is held then.
-abbrev pub perform : Held → Request (List ℕ) → List ℕ × Held
+abbrev pub perform : KeyValues → Request (List ℕ) → List ℕ × KeyValues
 perform held (Set key value) = (codes "OK", update bytes_eq held key (Some value))
 perform held (Get key) = (found (held key), held)
 perform held (Delete key) = (deleted (held key), update bytes_eq held key None)
 perform held Unknown = (codes "bad command", held)
 
 -- The reply to a line, which is the answer and a newline, and what is held then.
-abbrev pub step : Held → List ℕ → List ℕ × Held
+abbrev pub step : KeyValues → List ℕ → List ℕ × KeyValues
 step held line = let done = perform held (request line) in (done.0 ++ 10 ∷ [], done.1)

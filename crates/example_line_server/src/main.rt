@@ -3,15 +3,16 @@
 
 mod request;
 mod service;
+mod serving;
 mod store;
 
 use futures_lite::AsyncReadExt;
 use futures_lite::future::BlockOn;
-use futures_lite::io::{AssertAsync, BufReader, BufWriter, ServeError, serve_lines};
+use futures_lite::io::{AssertAsync, BufReader, BufWriter, ServeError};
+use serving::serve;
 use std::alloc::AllocGlobal;
 use std::random::RandomSource;
 use std::sync::Wait;
-use store::Store;
 
 /// How many bytes are read in a row before the program yields.
 const BYTES: usize = 1 << 16;
@@ -35,11 +36,5 @@ where
     let Ok(mut replies) = BufWriter::new(rt.alloc(), AssertAsync::new(host.stdout())) else {
         return Err(ServeError::Memory);
     };
-    serve_lines(
-        &mut on,
-        rt,
-        &mut requests,
-        &mut replies,
-        &mut Store::new(rt.alloc()),
-    )
+    serve(&mut on, rt, &mut requests, &mut replies)
 }

@@ -27,10 +27,10 @@ impl Store {
     }
 
     /// Returns the value at a key.
-    pub fn get(&self, key: &[u8]) -> Option<&Vec<u8>>
-        ensures { option_map (λ value. value.now.items) result ≡ held self.now key.now }
+    pub fn get(&self, key: &[u8]) -> Option<&[u8]>
+        ensures { option_map (λ value. value.now) result ≡ held self.now key.now }
     {
-        self.values.get(key)
+        self.values.get(key).map(|value| value.as_slice())
     }
 
     /// Holds a value at a key, in place of the value that was there.
