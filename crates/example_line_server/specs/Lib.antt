@@ -1,1 +1,4 @@
-pub mod Replies
+pub mod Request
+pub mod Service
+pub mod Serving
+pub mod Store

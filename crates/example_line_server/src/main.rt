@@ -1,15 +1,18 @@
-//! A line server: each line of standard input is answered by a line of standard output.
+//! A server of keys and values: each line of standard input is answered by a line of standard output.
 #![tactic(auto)]
 
-mod words;
+mod request;
+mod service;
+mod serving;
+mod store;
 
 use futures_lite::AsyncReadExt;
 use futures_lite::future::BlockOn;
-use futures_lite::io::{AssertAsync, BufReader, BufWriter, ServeError, serve_lines};
+use futures_lite::io::{AssertAsync, BufReader, BufWriter, ServeError};
+use serving::serve;
 use std::alloc::AllocGlobal;
 use std::random::RandomSource;
 use std::sync::Wait;
-use words::Words;
 
 /// How many bytes are read in a row before the program yields.
 const BYTES: usize = 1 << 16;
@@ -33,5 +36,5 @@ where
     let Ok(mut replies) = BufWriter::new(rt.alloc(), AssertAsync::new(host.stdout())) else {
         return Err(ServeError::Memory);
     };
-    serve_lines(&mut on, rt, &mut requests, &mut replies, &mut Words)
+    serve(&mut on, rt, &mut requests, &mut replies)
 }
