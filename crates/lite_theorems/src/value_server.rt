@@ -156,12 +156,10 @@ where
     ensures again { T.ranks.counts requests.new.reader }
     ensures at_value { AtValue C.encodes C.refuses requests.new }
 {
-    let mut waits = on.waits();
+    let waits = &mut on.waits();
     let mut bytes = Vec::new(rt.alloc());
     for _ in rt.forever() {
-        if !answer_next(
-            &mut waits, rt, requests, replies, encoder, service, &mut bytes,
-        )? {
+        if !answer_next(waits, rt, requests, replies, encoder, service, &mut bytes)? {
             return Ok(());
         }
     }
