@@ -4,14 +4,14 @@ use Rattle.lite_theorems.specs.Uses.{◌∙◌, ap, refl, sym, append-nil, appen
 use Rattle.lite_theorems.specs.Uses.{ReadMark, StandsFirst, WriteMark, bytes, bytes_taken}
 use Rattle.lite_theorems.specs.Laws.Told.{told_follow, told_none}
 use Rattle.lite_theorems.specs.Told.{ToldStripped}
-use Rattle.lite_theorems.specs.Services.{AllWritten, Answering, Wrote}
+use Rattle.lite_theorems.specs.Services.{AllWritten, ServiceStep, Wrote}
 use Rattle.lite_theorems.specs.ServingValues.{NextEnds, NextReply, ServedValues, ValueEnding, ValuesEnd}
 use Rattle.lite_theorems.specs.declared.serve_values_error.ServeValuesError.{ServeValuesError}
 use Rattle.lite_theorems.specs.declared.serve_values_error.ServeValuesError.TheVariants.{Input, Memory, Output, Unencodable}
 use Rattle.lite_theorems.proofs.BothWriters.{fails_later}
 use Rattle.lite_theorems.proofs.Writing.{all_both, ends_later, front_both, replies_both, zip_both}
 
-module _ {L A B : Type 0} (serves : Answering L A B) (encodes : A → List ℕ → Type 0) (refuses : List ℕ → Type 0)
+module _ {L A B : Type 0} (serves : ServiceStep L A B) (encodes : A → List ℕ → Type 0) (refuses : List ℕ → Type 0)
     (encodes_reply : B → List ℕ → Type 0) where
   -- the next request
   module _ (before : List ℕ) (told : List ReadMark) (held : List ℕ) (x y : L) (xs : List ℕ) (took : List WriteMark) where
@@ -175,7 +175,7 @@ module _ {L A B : Type 0} (serves : Answering L A B) (encodes : A → List ℕ �
         on (Err (Output e)) r (r.ends.0, r.ends.1, fails_later took others e h.ends.2.0 r.ends.2)
 
 -- the marks of both sides so far, and what was served by them
-pub record ServedSoFar {S W L A B : Type 0} (serves : Answering L A B) (encodes : A → List ℕ → Type 0)
+pub record ServedSoFar {S W L A B : Type 0} (serves : ServiceStep L A B) (encodes : A → List ℕ → Type 0)
     (refuses : List ℕ → Type 0) (encodes_reply : B → List ℕ → Type 0) (reads : Runs ReadMark S) (writes : Runs WriteMark W)
     (reader : S) (before : List ℕ) (writer : W) (x : L) (reader' : S) (held : List ℕ) (writer' : W) (y : L) : Type 0 where
   pub told : List ReadMark
@@ -185,7 +185,7 @@ pub record ServedSoFar {S W L A B : Type 0} (serves : Answering L A B) (encodes 
   pub served : ServedValues serves encodes refuses encodes_reply (Going serves encodes refuses encodes_reply) before x told
       took held y tt
 
-module _ {S W L A B : Type 0} {serves : Answering L A B} {encodes : A → List ℕ → Type 0} {refuses : List ℕ → Type 0}
+module _ {S W L A B : Type 0} {serves : ServiceStep L A B} {encodes : A → List ℕ → Type 0} {refuses : List ℕ → Type 0}
     {encodes_reply : B → List ℕ → Type 0} {reads : Runs ReadMark S} {writes : Runs WriteMark W} (in_laws : MarkLaws reads)
     (out_laws : MarkLaws writes) where
   pub values_none : (reader : S) (before : List ℕ) (writer : W) (x : L)

@@ -3,10 +3,10 @@ use Rattle.std.specs.Prelude.{◌≡◌, ℕ, Bool, List, [], ◌∷◌, ◌++�
 use Rattle.lite_theorems.specs.Uses.{◌∙◌, AllZip, ap, append-nil, append_assoc, concat, concat-append, EndsFlushed, Error, NoFailure}
 use Rattle.lite_theorems.specs.Uses.{no_failure_both, refl, StandsFirst, sym, WriteMark, bytes_taken}
 use Rattle.lite_theorems.specs.Laws.Taken.{taken_both}
-use Rattle.lite_theorems.specs.Services.{AllWritten, Answering, Replies, Wrote}
+use Rattle.lite_theorems.specs.Services.{AllWritten, Replies, ServiceStep, Wrote}
 use Rattle.lite_theorems.proofs.BothWriters.{fails_later}
 
-module _ {L A B : Type 0} (serves : Answering L A B) where
+module _ {L A B : Type 0} (serves : ServiceStep L A B) where
   pub replies_both : (x y z : L) (l m : List A) (r s : List B) → Replies serves x l r y → Replies serves y m s z
       → Replies serves x (l ++ m) (r ++ s) z
   replies_both x y z [] m [] s h k = rw (← h) k

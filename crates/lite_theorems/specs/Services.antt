@@ -5,21 +5,21 @@ use Rattle.lite_theorems.specs.BothWriters.{FailsWith}
 
 -- A step of a service: in a state it replies to a request, and goes to a state. `None` in place of the reply says that
 -- memory for it was refused.
-abbrev pub Answering : Type 0 → Type 0 → Type 0 → Type 1
-Answering L A B = L → A → Option B → L → Type 0
+abbrev pub ServiceStep : Type 0 → Type 0 → Type 0 → Type 1
+ServiceStep L A B = L → A → Option B → L → Type 0
 
 -- The service of a function from a request to the reply to it. It says nothing of states.
-abbrev pub RepliesBy : {L A B : Type 0} → (A → B) → Answering L A B
+abbrev pub RepliesBy : {L A B : Type 0} → (A → B) → ServiceStep L A B
 RepliesBy reply x request None y = ⊤
 RepliesBy reply x request (Some r) y = r ≡ reply request
 
 -- The service of a function from what a state holds and a request to the reply and to what is held then. A refusal
 -- changes nothing of that.
-abbrev pub ServesBy : {L S A B : Type 0} → (L → S) → (S → A → B × S) → Answering L A B
+abbrev pub ServesBy : {L S A B : Type 0} → (L → S) → (S → A → B × S) → ServiceStep L A B
 ServesBy holds step x request None y = holds y ≡ holds x
 ServesBy holds step x request (Some r) y = (r, holds y) ≡ step (holds x) request
 
-module _ {L A B : Type 0} (serves : Answering L A B) where
+module _ {L A B : Type 0} (serves : ServiceStep L A B) where
   -- The requests were replied to in turn, from the state `x` to the state `z`.
   abbrev pub Replies : L → List A → List B → L → Type 0
   Replies x [] [] z = z ≡ x

@@ -2,14 +2,14 @@
 use Rattle.std.specs.Prelude.{◌≡◌, ◌⊎◌, ℕ, Bool, true, false, List, [], ◌∷◌, ◌++◌, Option, Some, None, Result, Ok, Err}
 use Rattle.lite_theorems.specs.Uses.{concat, error_kind, OutOfMemory, ReadMark, bytes, StandsFirst, EndsFlushed, WriteMark, bytes_taken, byte_lines}
 use Rattle.lite_theorems.specs.BothWriters.{FailsWith}
-use Rattle.lite_theorems.specs.Services.{AllWritten, Answering, Replies}
+use Rattle.lite_theorems.specs.Services.{AllWritten, Replies, ServiceStep}
 use Rattle.lite_theorems.specs.Told.{EndsAtFirst, Without}
 use Rattle.lite_theorems.specs.declared.serve_error.ServeError.{ServeError}
 use Rattle.lite_theorems.specs.declared.serve_error.ServeError.TheVariants.{Input, Memory, Output}
 
 -- A step of a service of lines, whose requests and replies are bytes.
 abbrev pub Serving : Type 0 → Type 1
-Serving L = Answering L (List ℕ) (List ℕ)
+Serving L = ServiceStep L (List ℕ) (List ℕ)
 
 -- The reply of a call that puts it in the place of the line.
 abbrev pub reply_in : {E : Type 0} → Result (Unit {0}) E → List ℕ → Option (List ℕ)

@@ -2,14 +2,14 @@
 use Rattle.std.specs.Prelude.{◌≡◌, ◌⊎◌, ℕ, Bool, true, false, List, [], ◌∷◌, ◌++◌, Option, Some, Result, Ok, Err}
 use Rattle.lite_theorems.specs.Uses.{AllZip, concat, EndsFlushed, ReadMark, StandsFirst, WriteMark, bytes, bytes_taken}
 use Rattle.lite_theorems.specs.BothWriters.{FailsWith}
-use Rattle.lite_theorems.specs.Services.{AllWritten, Answering, Replies}
+use Rattle.lite_theorems.specs.Services.{AllWritten, Replies, ServiceStep}
 use Rattle.lite_theorems.specs.Values.{ValueTold}
 use Rattle.lite_theorems.specs.declared.serve_values_error.ServeValuesError.{ServeValuesError}
 use Rattle.lite_theorems.specs.declared.serve_values_error.ServeValuesError.TheVariants.{Input, Memory, Output, Unencodable}
 
 -- `serves` are the steps of a service. `encodes` says which bytes a request may have, and `refuses` at which bytes their
 -- decoder stops. `encodes_reply` says which bytes a reply may have.
-module _ {L A B : Type 0} (serves : Answering L A B) (encodes : A → List ℕ → Type 0) (refuses : List ℕ → Type 0)
+module _ {L A B : Type 0} (serves : ServiceStep L A B) (encodes : A → List ℕ → Type 0) (refuses : List ℕ → Type 0)
     (encodes_reply : B → List ℕ → Type 0) where
   -- Why no reply to a request was written: the service went from the state `x` to the state `y`. Its reply has no bytes.
   -- Or memory was refused, to the service (`None`) or for the bytes of its reply.

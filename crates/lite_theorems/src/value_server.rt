@@ -1,7 +1,7 @@
 //! A server that answers each value of a reader with a value to a writer.
 ghost use Rattle.std.specs.Prelude.{◌≡◌, List};
 ghost use Rattle.lite_theorems.specs.Uses.{AtValue, ReadMark, WriteMark, result_ok};
-ghost use Rattle.lite_theorems.specs.Services.{Answering};
+ghost use Rattle.lite_theorems.specs.Services.{ServiceStep};
 ghost use Rattle.lite_theorems.specs.ServingValues.{NextEnds, NextReply, ServedValues, ValuesEnd};
 ghost use Rattle.lite_theorems.specs.Told.{ToldStripped};
 
@@ -29,7 +29,7 @@ pub trait ValueService {
     /// A service whose reply depends on the request alone has `RepliesBy` of a function. One with a state has
     /// `ServesBy` of what the state holds, and of a function from that and the request to the reply and what
     /// is held then.
-    ghost serves: { Answering Self Self.Request Self.Reply };
+    ghost serves: { ServiceStep Self Self.Request Self.Reply };
 
     /// Returns the reply to a request, with memory from `alloc`. `Err` means that memory was refused.
     ///
@@ -38,29 +38,30 @@ pub trait ValueService {
     /// ```
     /// use futures_lite::codec::{RespValue, ValueService};
     /// use std::alloc::{AllocError, Global};
+    /// use std::mem;
     ///
+    /// /// Replies to each value with the one before it.
     /// #[derive(Drop)]
-    /// struct Counter {
-    ///     requests: i64,
+    /// struct Before {
+    ///     last: RespValue,
     /// }
     ///
-    /// impl ValueService for Counter {
-    ///     ghost use Rattle.std.specs.Prelude.{⊤};
+    /// impl ValueService for Before {
+    ///     ghost use Rattle.futures_lite.specs.Codecs.{ServesBy};
     ///
     ///     type Request = RespValue;
     ///     type Reply = RespValue;
     ///
-    ///     ghost serves = { λ x request reply y. ⊤ };
+    ///     ghost serves = { ServesBy (λ x. x.last) (λ last request. (last, request)) };
     ///
-    ///     fn answer(&mut self, _: Global, _: RespValue) -> Result<RespValue, AllocError> {
-    ///         self.requests = self.requests.wrapping_add(1);
-    ///         Ok(RespValue::Integer(self.requests))
+    ///     fn answer(&mut self, _: Global, request: RespValue) -> Result<RespValue, AllocError> {
+    ///         Ok(mem::replace(&mut self.last, request))
     ///     }
     /// }
     ///
-    /// let mut counter = Counter { requests: 0 };
-    /// let reply = counter.answer(rt.alloc(), RespValue::Null)?;
-    /// assert!(rt; matches!(reply, RespValue::Integer(1)));
+    /// let mut before = Before { last: RespValue::Null };
+    /// assert!(rt; matches!(before.answer(rt.alloc(), RespValue::Integer(7))?, RespValue::Null));
+    /// assert!(rt; matches!(before.answer(rt.alloc(), RespValue::Null)?, RespValue::Integer(7)));
     /// ```
     fn answer(&mut self, alloc: Global, request: Self::Request) -> Result<Self::Reply, AllocError>
         ensures { serves self.old request (result_ok result) self.new };

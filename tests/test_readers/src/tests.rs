@@ -9,6 +9,7 @@ mod polls;
 mod read_to_end;
 mod readers;
 mod serving;
+mod serving_values;
 mod shown;
 mod shrinking;
 mod told;
