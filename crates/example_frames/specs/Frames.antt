@@ -9,8 +9,8 @@ use Rattle.futures_lite.specs.Codecs.DecodeError.TheVariants.{Malformed}
 use Rattle.futures_lite.specs.Codecs.LengthDelimited.{LengthDelimited}
 use Rattle.futures_lite.specs.Marks.{ReadMark, bytes}
 
--- The payload that was read is the one that was sent. It is an error only if the input ended or failed within the frame, or
--- if memory was refused.
+-- The payload that was read is the one that was sent. It is an error only if the input ended or failed within the
+-- frame, or if memory was refused.
 abbrev pub IsSent : List ℕ → Result (Option (Vec ℕ Global)) DecodeError → Type 0
 IsSent sent (Ok (Some payload)) = payload.items ≡ sent
 IsSent sent (Ok None) = ⊥

@@ -14,8 +14,8 @@ use futures_lite::io::CountedRead;
 use futures_lite::{AsyncBufRead, AsyncWrite};
 use std::sync::Wait;
 
-/// Waits for the next frame, and returns its payload, or `None` at an end of file before it. However the bytes come, and
-/// whenever the reader is pending, it is the payload of the frame that was sent.
+/// Waits for the next frame, and returns its payload, or `None` at an end of file before it. However the bytes come,
+/// and whenever the reader is pending, it is the payload that was sent.
 pub fn read_frame<R: Wait, S: AsyncBufRead + CountedRead>(
     on: &mut BlockOn,
     rt: &R,
@@ -34,8 +34,8 @@ pub fn read_frame<R: Wait, S: AsyncBufRead + CountedRead>(
     wait_value(on, rt, frames)
 }
 
-/// Waits until the writer accepted the frame of this payload, which is encoded into `bytes`. On an error it accepted a prefix
-/// of the frame, and nothing if the payload is above the limit.
+/// Waits until the writer has accepted the frame of this payload, which is encoded into `bytes`. On an error it
+/// accepted a prefix of the frame, and nothing if the payload is above the limit.
 pub fn write_frame<R: Wait, W: AsyncWrite>(
     on: &mut BlockOn,
     rt: &R,

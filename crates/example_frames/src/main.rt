@@ -1,7 +1,8 @@
 //! Frames over any reader and writer: a length in four bytes, the highest first, and then so many bytes.
 //!
-//! It writes what standard input has, a frame a line, to memory, reads the frames back through a small buffer, and prints the
-//! payloads; then what reading says of a frame that is cut off, and of one that is too long.
+//! It writes what standard input has to memory, a frame for each line. It reads the frames back through a small
+//! buffer, and prints the payloads. Then it prints what reading says of a frame that is cut off, and of one that is
+//! too long.
 #![tactic(auto)]
 
 mod fault;

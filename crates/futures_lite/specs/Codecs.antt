@@ -7,7 +7,7 @@ pub use Rattle.lite_codec.specs.Resp.{IsOneLine, behind_line, first_line, reply_
 pub use Rattle.lite_codec.specs.Laws.Resp.{begin_one, resp_one}
 pub use Rattle.lite_codec.specs.Values.{AtValue, Decodes, SameValue, YieldsValue, decoding, values_over}
 pub use Rattle.lite_theorems.specs.Values.{ComesBack, ValueTaken, ValueTold, as_item}
-pub use Rattle.lite_theorems.specs.ValueWriter.{AtOnce, HoldsValue, ReturnsWritten, TakesValue, WritesValue, as_written, written_value}
+pub use Rattle.lite_theorems.specs.ValueWriter.{InFirstPoll, HoldsValue, ReturnsWritten, TakesValue, WritesValue, as_written, written_value}
 -- the types of codecs and of errors, whose variants are in `TheVariants`, as `Codecs.DecodeError.TheVariants`
 pub use Rattle.lite_codec.specs.declared.error.DecodeError
 pub use Rattle.lite_codec.specs.declared.error.EncodeError
