@@ -1,24 +1,24 @@
 //! Frames over any reader and writer: a length in four bytes, the highest first, and then so many bytes.
 //!
-//! It writes what standard input has, a frame a line, to memory, reads the frames back through a small buffer, and prints the
-//! payloads; then what reading says of a frame that is cut off, and of one that is too long.
+//! It writes what standard input has to memory, a frame for each line. It reads the frames back through a small
+//! buffer, and prints the payloads. Then it prints what reading says of a frame that is cut off, and of one that is
+//! too long.
 #![tactic(auto)]
 
 mod fault;
-mod reading;
-mod writing;
+mod framing;
 
 use fault::FrameError;
+use framing::{read_frame, write_frame};
+use futures_lite::codec::{DecodeError, LengthDelimited, values};
 use futures_lite::future::BlockOn;
 use futures_lite::io::{BufReader, Cursor};
-use reading::read_frame;
 use std::alloc::AllocGlobal;
 use std::io::BufRead;
 use std::random::RandomSource;
 use std::sync::Wait;
-use writing::write_frame;
 
-/// How many bytes a payload may have.
+/// Payloads have at most so many bytes.
 const LIMIT: u32 = 1 << 16;
 
 fn main(rt: HostRuntime) -> Result<(), FrameError> {
@@ -31,16 +31,22 @@ where
     R: Wait + RandomSource + AllocGlobal,
 {
     let mut on = BlockOn::new(rt)?;
-    let mut sent = Cursor::new(Vec::new(rt.alloc()));
+    let (mut sent, mut bytes) = (Cursor::new(Vec::new(rt.alloc())), Vec::new(rt.alloc()));
+    let codec = LengthDelimited { max: LIMIT };
     for line in std::io::BufReader::new(rt.alloc(), host.stdin())?.lines(rt.alloc()) {
-        write_frame(&mut on, rt, &mut sent, line?.as_bytes(), LIMIT)?;
+        let payload = line?.into_bytes();
+        write_frame(&mut on, rt, &mut sent, &codec, &payload, &mut bytes)?;
     }
-    let sent = sent.into_inner();
-    show(host, rt, &mut on, &sent)?;
-    for bytes in [b"\0\0\0\x05cut".as_slice(), b"\0\x02\0\0".as_slice()] {
+    show(host, rt, &mut on, &sent.into_inner())?;
+    let long = (2 * LIMIT).to_be_bytes();
+    for bytes in [b"\0\0\0\x05cut".as_slice(), long.as_slice()] {
         match show(host, rt, &mut on, bytes) {
-            Err(FrameError::Ended) => println!(host; "it ended within a frame")?,
-            Err(FrameError::TooLong(length)) => println!(host; "a payload of {length} bytes")?,
+            Err(FrameError::Decode(DecodeError::Truncated)) => {
+                println!(host; "it ended within a frame")?
+            }
+            Err(FrameError::Decode(DecodeError::Malformed)) => {
+                println!(host; "a payload of {} bytes", 2 * LIMIT)?
+            }
             shown => shown?,
         }
     }
@@ -52,11 +58,12 @@ fn show<R>(host: &HostRuntime, rt: &R, on: &mut BlockOn, bytes: &[u8]) -> Result
 where
     R: Wait + RandomSource + AllocGlobal,
 {
-    let Ok(mut reader) = BufReader::with_capacity(rt.alloc(), 3, bytes) else {
+    let Ok(reader) = BufReader::with_capacity(rt.alloc(), 3, bytes) else {
         return Err(FrameError::Memory);
     };
+    let mut frames = values(rt.alloc(), reader, LengthDelimited { max: LIMIT });
     for _ in rt.forever() {
-        match read_frame(on, rt, rt.alloc(), &mut reader, LIMIT)? {
+        match read_frame(on, rt, &mut frames)? {
             Some(payload) => println!(host; "{}", String::from_utf8_lossy(rt.alloc(), &payload)?)?,
             None => break,
         }

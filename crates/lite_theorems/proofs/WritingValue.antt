@@ -2,7 +2,7 @@
 use Rattle.std.specs.Prelude.{◌≡◌, ℕ, List, [], ◌∷◌, map, Result, Ok, Err}
 use Rattle.lite_theorems.specs.Uses.{◌∙◌, refl, subst, sym, Error, Poll, Pending, Ready, Gives, MarkLaws, Runs, WriteAllFuture, WriteMark, WritesAll, all_laws}
 use Rattle.lite_theorems.specs.BothWriters.{HandedUp, TakesFront}
-use Rattle.lite_theorems.specs.ValueWriter.{AtOnce, HoldsValue, ReturnsWritten, TakesValue, as_written, written_value}
+use Rattle.lite_theorems.specs.ValueWriter.{InFirstPoll, HoldsValue, ReturnsWritten, TakesValue, as_written, written_value}
 use Rattle.lite_theorems.specs.Values.{ValueTaken}
 use Rattle.lite_theorems.specs.declared.value_writer.WriteValueFuture.{WriteValueFuture}
 use Rattle.lite_theorems.proofs.BothWriters.{hand_up}
@@ -43,7 +43,7 @@ module _ {W V : Type 0} {writes : Runs WriteMark W} (laws : MarkLaws writes) (en
 
   refused_value : (a b : WriteAllFuture W) (w : List (Poll (Result (Unit {0}) Error)))
       (out : List (Poll (Result (Unit {0}) EncodeError))) (v : Result (Unit {0}) EncodeError) (e : EncodeError)
-      → WritesAll writes a w b → w ≡ [] → AtOnce (Err e) out → Gives out v → ValueTaken encodes value [] [] (Err e)
+      → WritesAll writes a w b → w ≡ [] → InFirstPoll (Err e) out → Gives out v → ValueTaken encodes value [] [] (Err e)
       → Accepts a b v
   refused_value a b w [] v e came none h g taken = absurd g
   refused_value a b w (Pending ∷ out) v e came none h g taken = cc h.0

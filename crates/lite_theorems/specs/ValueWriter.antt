@@ -26,16 +26,16 @@ as_written Pending = Pending
 as_written (Ready r) = Ready (written_value r)
 
 -- The value comes in the first poll.
-abbrev pub AtOnce : {A : Type 0} → A → List (Poll A) → Type 0
-AtOnce v [] = ⊤
-AtOnce v (a ∷ out) = (a ≡ Ready v) × (out ≡ [])
+abbrev pub InFirstPoll : {A : Type 0} → A → List (Poll A) → Type 0
+InFirstPoll v [] = ⊤
+InFirstPoll v (a ∷ out) = (a ≡ Ready v) × (out ≡ [])
 
 -- The polls of `write_value` return what polls of `write_all` do. If the encoder refused the value, the first poll returns
 -- why, and `write_all` is not polled.
 abbrev pub ReturnsWritten : Encoding → List (Poll (Result (Unit {0}) Error)) → List (Poll (Result (Unit {0}) EncodeError)) → Type 0
 ReturnsWritten Done written out = out ≡ map as_written written
-ReturnsWritten Unencodable written out = (written ≡ []) × AtOnce (Err NoBytes) out
-ReturnsWritten OutOfMemory written out = (written ≡ []) × AtOnce (Err Memory) out
+ReturnsWritten Unencodable written out = (written ≡ []) × InFirstPoll (Err NoBytes) out
+ReturnsWritten OutOfMemory written out = (written ≡ []) × InFirstPoll (Err Memory) out
 
 -- The run of `write_value`, over the run `writes_all` of its `write_all` future.
 pub record WritesValue {W : Type 0} (writes_all : Runs (Poll (Result (Unit {0}) Error)) (WriteAllFuture W))

@@ -8,4 +8,5 @@ mod copy;
 mod examples;
 mod marks;
 mod shown;
+mod values;
 mod vectors;

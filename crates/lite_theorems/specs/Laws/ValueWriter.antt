@@ -2,20 +2,22 @@
 use Rattle.std.specs.Prelude.{⊤, ◌≡◌, ◌≤◌, List, [], ◌∷◌, ◌++◌, length, map, Result}
 use Rattle.lite_theorems.specs.Uses.{◌∙◌, ap, arith, length-map, map-append, refl, subst, sym, Error, Poll, Pending, Ready, Comparable, Waiting, strip}
 use Rattle.lite_theorems.specs.Uses.{CalmLaws, FutureLaws, FutureSteadyLaws, NoPending, Runs, WriteAllFuture}
-use Rattle.lite_theorems.specs.ValueWriter.{AtOnce, ReturnsWritten, WritesValue, as_written, written_value}
+use Rattle.lite_theorems.specs.ValueWriter.{InFirstPoll, ReturnsWritten, WritesValue, as_written, written_value}
 use Rattle.lite_theorems.specs.declared.value_writer.WriteValueFuture.{WriteValueFuture}
 use Rattle.lite_codec.specs.declared.error.EncodeError.{EncodeError}
 use Rattle.lite_theorems.specs.declared.value_writer.Encoding.{Encoding}
 use Rattle.lite_theorems.specs.declared.value_writer.Encoding.TheVariants.{Done, OutOfMemory, Unencodable}
 
-abbrev Written : Type 0
-Written = List (Poll (Result (Unit {0}) Error))
+-- What polls of `write_all` return.
+abbrev WritePolls : Type 0
+WritePolls = List (Poll (Result (Unit {0}) Error))
 
-abbrev Out : Type 0
-Out = List (Poll (Result (Unit {0}) EncodeError))
+-- What polls of `write_value` return.
+abbrev ValuePolls : Type 0
+ValuePolls = List (Poll (Result (Unit {0}) EncodeError))
 
 -- No poll was made, so none of `write_all` was.
-none_written : (w : Written) → [] ≡ map as_written w → w ≡ []
+none_written : (w : WritePolls) → [] ≡ map as_written w → w ≡ []
 none_written [] e = refl
 none_written (Pending ∷ w) e = cc
 none_written (Ready r ∷ w) e = cc
@@ -25,53 +27,53 @@ rests_returned Done = refl
 rests_returned Unencodable = (refl, tt)
 rests_returned OutOfMemory = (refl, tt)
 
-none_returned : (c : Encoding) (w : Written) → ReturnsWritten c w [] → w ≡ []
+none_returned : (c : Encoding) (w : WritePolls) → ReturnsWritten c w [] → w ≡ []
 none_returned Done w h = none_written w h
 none_returned Unencodable w h = h.0
 none_returned OutOfMemory w h = h.0
 
-waiting_written : (w : Written) → Waiting (map as_written w) → Waiting w
+waiting_written : (w : WritePolls) → Waiting (map as_written w) → Waiting w
 waiting_written [] h = tt
 waiting_written (Pending ∷ w) h = waiting_written w h
 waiting_written (Ready r ∷ w) h = absurd h
 
 -- A value that comes at once is never waited for.
-waiting_none : {A : Type 0} (v : A) (l : List (Poll A)) → Waiting l → AtOnce v l → l ≡ []
+waiting_none : {A : Type 0} (v : A) (l : List (Poll A)) → Waiting l → InFirstPoll v l → l ≡ []
 waiting_none v [] wait h = refl
 waiting_none v (Pending ∷ l) wait h = cc h.0
 waiting_none v (Ready r ∷ l) wait h = absurd wait
 
-once_at_once : {A : Type 0} (v : A) (l : List (Poll A)) → AtOnce v l → length (strip l) ≤ 1
+once_at_once : {A : Type 0} (v : A) (l : List (Poll A)) → InFirstPoll v l → length (strip l) ≤ 1
 once_at_once v [] h = omega arith
 once_at_once v (a ∷ l) h = rw (h.0, h.1) (omega arith)
 
-same_at_once : {A : Type 0} (v : A) (l m : List (Poll A)) → AtOnce v l → AtOnce v m → Comparable (strip l) (strip m)
+same_at_once : {A : Type 0} (v : A) (l m : List (Poll A)) → InFirstPoll v l → InFirstPoll v m → Comparable (strip l) (strip m)
 same_at_once v [] m h k = tt
 same_at_once v (a ∷ l) [] h k = rw h.0 tt
 same_at_once v (a ∷ l) (b ∷ m) h k = rw (h.0, k.0) (refl, rw h.1 tt)
 
-no_pending_at_once : {A : Type 0} (v : A) (l : List (Poll A)) → AtOnce v l → NoPending l
+no_pending_at_once : {A : Type 0} (v : A) (l : List (Poll A)) → InFirstPoll v l → NoPending l
 no_pending_at_once v [] h = tt
 no_pending_at_once v (a ∷ l) h = rw (h.0, h.1) tt
 
-strip_written : (w : Written) → strip (map as_written w) ≡ map written_value (strip w)
+strip_written : (w : WritePolls) → strip (map as_written w) ≡ map written_value (strip w)
 strip_written [] = refl
 strip_written (Pending ∷ w) = strip_written w
 strip_written (Ready r ∷ w) = ap (λ l. written_value r ∷ l) (strip_written w)
 
-returned_once : (c : Encoding) (w : Written) (l : Out) → length (strip w) ≤ 1 → ReturnsWritten c w l → length (strip l) ≤ 1
+returned_once : (c : Encoding) (w : WritePolls) (l : ValuePolls) → length (strip w) ≤ 1 → ReturnsWritten c w l → length (strip l) ≤ 1
 returned_once Done w l once h = rw (h, strip_written w, length-map) once
 returned_once Unencodable w l once h = once_at_once _ l h.1
 returned_once OutOfMemory w l once h = once_at_once _ l h.1
 
 -- The polls' results after others that were all pending.
-returned_after : (c : Encoding) (v w : Written) (l m : Out) → Waiting l → ReturnsWritten c v l → ReturnsWritten c w m
+returned_after : (c : Encoding) (v w : WritePolls) (l m : ValuePolls) → Waiting l → ReturnsWritten c v l → ReturnsWritten c w m
     → ReturnsWritten c (v ++ w) (l ++ m)
 returned_after Done v w l m wait h k = rw (h, k) (sym (map-append as_written v w))
 returned_after Unencodable v w l m wait h k = rw (h.0, waiting_none _ l wait h.1) k
 returned_after OutOfMemory v w l m wait h k = rw (h.0, waiting_none _ l wait h.1) k
 
-written_waits : (c : Encoding) (w : Written) (l : Out) → Waiting l → ReturnsWritten c w l → Waiting w
+written_waits : (c : Encoding) (w : WritePolls) (l : ValuePolls) → Waiting l → ReturnsWritten c w l → Waiting w
 written_waits Done w l wait h = waiting_written w (rw h at wait)
 written_waits Unencodable w l wait h = rw h.0 tt
 written_waits OutOfMemory w l wait h = rw h.0 tt
@@ -82,19 +84,19 @@ same_values [] m e = tt
 same_values (r ∷ l) [] e = tt
 same_values (r ∷ l) (q ∷ m) e = (ap written_value e.0, same_values l m e.1)
 
-same_returned : (c : Encoding) (v w : Written) (l m : Out) → Comparable (strip v) (strip w) → ReturnsWritten c v l
+same_returned : (c : Encoding) (v w : WritePolls) (l m : ValuePolls) → Comparable (strip v) (strip w) → ReturnsWritten c v l
     → ReturnsWritten c w m → Comparable (strip l) (strip m)
 same_returned Done v w l m same h k =
     rw (h, k, strip_written v, strip_written w) (same_values (strip v) (strip w) same)
 same_returned Unencodable v w l m same h k = same_at_once _ l m h.1 k.1
 same_returned OutOfMemory v w l m same h k = same_at_once _ l m h.1 k.1
 
-no_pending_written : (w : Written) → NoPending w → NoPending (map as_written w)
+no_pending_written : (w : WritePolls) → NoPending w → NoPending (map as_written w)
 no_pending_written [] h = tt
 no_pending_written (Pending ∷ w) h = absurd h
 no_pending_written (Ready r ∷ w) h = no_pending_written w h
 
-returned_calm : (c : Encoding) (w : Written) (l : Out) → NoPending w → ReturnsWritten c w l → NoPending l
+returned_calm : (c : Encoding) (w : WritePolls) (l : ValuePolls) → NoPending w → ReturnsWritten c w l → NoPending l
 returned_calm Done w l calm h = rw h (no_pending_written w calm)
 returned_calm Unencodable w l calm h = no_pending_at_once _ l h.1
 returned_calm OutOfMemory w l calm h = no_pending_at_once _ l h.1

@@ -1,6 +1,7 @@
 use futures_lite::future::BlockOn;
 use futures_lite::io::{
-    BufReader, wait_flush, wait_read, wait_read_exact, wait_read_until, wait_write_all,
+    BufReader, wait_flush, wait_read, wait_read_exact, wait_read_until, wait_read_until_limited,
+    wait_write_all,
 };
 use std::alloc::AllocError;
 use std::io::ErrorKind;
@@ -26,6 +27,23 @@ fn waits_for_reads_give_their_values(rt: HostRuntime) -> Result<(), Fail> {
         wait_read_until(&mut on, &rt, &mut reader, b'\n', &mut piece)??,
         0
     );
+    Ok(())
+}
+
+#[test]
+fn a_limited_wait_stops_at_its_limit(rt: HostRuntime) -> Result<(), Fail> {
+    let mut on = BlockOn::new(&rt)?;
+    let Ok(mut reader) = BufReader::with_capacity(rt.alloc(), 2, b"abc\ndefgh\ni".as_slice()) else {
+        return Err(AllocError.into());
+    };
+    let mut piece = Vec::new(rt.alloc());
+    let limits = [0, 4, 4, 4, 4, 4];
+    let counts = [0, 4, 4, 2, 1, 0];
+    for (limit, count) in limits.into_iter().zip(counts) {
+        let read = wait_read_until_limited(&mut on, &rt, &mut reader, b'\n', limit, &mut piece)?;
+        assert_eq!(rt; read?, count);
+    }
+    assert_eq!(rt; piece.as_slice(), b"abc\ndefgh\ni".as_slice());
     Ok(())
 }
 
