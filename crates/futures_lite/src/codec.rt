@@ -1,4 +1,4 @@
-//! Values on a byte stream: codecs, the stream that decodes values, the future that writes one, waits for one, and a server.
+//! Values on a byte stream: codecs, the stream that decodes values, the future that writes one, waits, and a server.
 
 pub use lite_codec::make::values;
 pub use lite_codec::{
