@@ -1,5 +1,5 @@
 use crate::fault::Fault;
-use crate::{bytes, consuming, journals, merging, sizes, streams, texts, values};
+use crate::{bytes, codecs, consuming, journals, merging, sizes, streams, texts, values};
 use futures_lite::Context;
 use std::alloc::AllocGlobal;
 use std::random::RandomSource;
@@ -71,6 +71,7 @@ where
         "made_text" => texts::made_text(alloc, n),
         "made_lines_8" => texts::made_lines(alloc, &texts::narrow_line(alloc, 7)?, n),
         "made_lines_16" => texts::made_lines(alloc, LETTERS, n / 16),
+        "made_values" => texts::made_lines(alloc, codecs::VALUE, n),
         "made_lines_2000" => texts::made_lines(alloc, &texts::narrow_line(alloc, 1999)?, n),
         "lines" => texts::lines(alloc, cx, n),
         "lines_8" => texts::lines_of(alloc, cx, &texts::narrow_line(alloc, 7)?, n),
@@ -93,6 +94,9 @@ where
         "copy" => texts::copy(alloc, cx, n),
         "write_all" => texts::write_all(alloc, cx, n),
         "buf_writer" => texts::buf_writer(alloc, cx, n),
+        "values" => codecs::values(alloc, cx, n),
+        "values_by_hand" => codecs::values_by_hand(alloc, cx, n),
+        "served_lines" => codecs::served_lines(rt, n),
         "journal" => journals::journal(alloc, cx, n),
         "size_of" => sizes::size_of_nest(alloc, n),
         "half" => journals::half(*rt, cx, n),

@@ -45,7 +45,7 @@ const FOLDS: [(&str, u64, &[u64]); 29] = [
 
 /// Cases, their sizes, and their numbers: of texts all bytes that are read, of writers all that are written, of futures
 /// all values.
-const NUMBERS: [(&str, u64, u64); 35] = [
+const NUMBERS: [(&str, u64, u64); 39] = [
     ("made_noise", 600, 600),
     ("made_text", 6, 96),
     ("made_lines_8", 6, 48),
@@ -61,6 +61,10 @@ const NUMBERS: [(&str, u64, u64); 35] = [
     ("read_wide_to_string", 640, 640),
     ("copy", 60000, 60824),
     ("zip_of_eight", 3, 18),
+    ("made_values", 6, 120),
+    ("values", 1000, 16000),
+    ("values_by_hand", 1000, 16000),
+    ("served_lines", 1000, 16000),
     ("split", 6, 90),
     ("read_until", 6, 96),
     ("read_line", 6, 96),

@@ -5,6 +5,7 @@
 mod bytes;
 mod case;
 mod check;
+mod codecs;
 mod consuming;
 mod ends;
 mod fault;

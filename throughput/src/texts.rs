@@ -9,7 +9,7 @@ use futures_lite::{Context, Future, Poll, Stream, io};
 use std::alloc::Global;
 
 /// So many lines.
-fn text(alloc: Global, n: u64) -> Result<Vec<u8>, Fault> {
+pub(crate) fn text(alloc: Global, n: u64) -> Result<Vec<u8>, Fault> {
     let mut bytes = Vec::with_capacity(alloc, blocks_len(n)? as usize)?;
     for _ in 0..n {
         bytes.extend_from_slice(b"0123456789abcde\n")?;
@@ -45,7 +45,7 @@ pub(crate) fn narrow_line(alloc: Global, letters: u64) -> Result<Vec<u8>, Fault>
 }
 
 /// One line, so many times.
-fn repeated(alloc: Global, line: &[u8], n: u64) -> Result<Vec<u8>, Fault> {
+pub(crate) fn repeated(alloc: Global, line: &[u8], n: u64) -> Result<Vec<u8>, Fault> {
     let mut bytes = Vec::new(alloc);
     for _ in 0..n {
         bytes.extend_from_slice(line)?;

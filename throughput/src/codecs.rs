@@ -1,0 +1,104 @@
+//! Values through a codec, of 16 bytes each with their number before them, and lines that a server answers.
+
+use crate::bytes::{blocks_len, buffered};
+use crate::fault::Fault;
+use crate::texts::{repeated, text};
+use futures_lite::codec::{self, LengthDelimited};
+use futures_lite::future::BlockOn;
+use futures_lite::io::{AsyncReadExt, BufReader, Cursor, LineService, serve_lines};
+use futures_lite::{Context, Future, Poll, Stream};
+use std::alloc::{AllocError, AllocGlobal, Global};
+use std::random::RandomSource;
+use std::sync::Wait;
+
+/// A value with its number.
+pub(crate) const VALUE: &[u8] = b"\0\0\0\x100123456789abcdef";
+
+/// How many bytes a value may have.
+const MAX: u32 = 64;
+
+/// The bytes of all values, without their numbers.
+#[inline(never)]
+pub(crate) fn values(alloc: Global, cx: &mut Context<'_>, n: u64) -> Result<u64, Fault> {
+    let bytes = repeated(alloc, VALUE, n)?;
+    let mut values = codec::values(
+        alloc,
+        buffered(alloc, &bytes)?,
+        LengthDelimited { max: MAX },
+    );
+    let mut sum = 0u64;
+    for _ in 0..n {
+        let Poll::Ready(Some(Ok(value))) = values.poll_next(cx) else {
+            break;
+        };
+        sum = sum.wrapping_add(value.len() as u64);
+    }
+    Ok(sum)
+}
+
+/// As `values`, by two reads for each value.
+#[inline(never)]
+pub(crate) fn values_by_hand(alloc: Global, cx: &mut Context<'_>, n: u64) -> Result<u64, Fault> {
+    let bytes = repeated(alloc, VALUE, n)?;
+    let mut reader = buffered(alloc, &bytes)?;
+    let mut sum = 0u64;
+    for _ in 0..n {
+        let Some(value) = read_value(alloc, &mut reader, cx)? else {
+            break;
+        };
+        sum = sum.wrapping_add(value.len() as u64);
+    }
+    Ok(sum)
+}
+
+/// The next value of the reader, which is never pending.
+fn read_value(
+    alloc: Global,
+    reader: &mut BufReader<Cursor<&[u8]>>,
+    cx: &mut Context<'_>,
+) -> Result<Option<Vec<u8>>, Fault> {
+    let mut number = [0u8; 4];
+    let Poll::Ready(Ok(())) = reader.read_exact(&mut number).poll(cx) else {
+        return Ok(None);
+    };
+    let number = u32::from_be_bytes(number);
+    if number > MAX {
+        return Ok(None);
+    }
+    let mut value = vec![in alloc; 0u8; number as usize]?;
+    let Poll::Ready(Ok(())) = reader.read_exact(&mut value).poll(cx) else {
+        return Ok(None);
+    };
+    Ok(Some(value))
+}
+
+/// Replies with the line.
+#[derive(Drop)]
+struct Echo;
+
+impl LineService for Echo {
+    ghost use Rattle.std.specs.Prelude.{◌++◌, ◌∷◌, []};
+    ghost use Rattle.futures_lite.specs.Lines.{RepliesBy};
+
+    ghost serves = { RepliesBy (λ line. line ++ 10 ∷ []) };
+
+    fn answer(&mut self, line: &mut Vec<u8>) -> Result<(), AllocError> {
+        line.extend_from_slice(b"\n")
+    }
+}
+
+/// So many lines to a server, which replies into a vector with room for the replies.
+#[inline(never)]
+pub(crate) fn served_lines<R>(rt: &R, n: u64) -> Result<u64, Fault>
+where
+    R: Wait + RandomSource + AllocGlobal,
+{
+    let bytes = text(rt.alloc(), n)?;
+    let mut requests = buffered(rt.alloc(), &bytes)?;
+    let mut replies = Vec::with_capacity(rt.alloc(), blocks_len(n)? as usize)?;
+    let mut on = BlockOn::new(rt)?;
+    match serve_lines(&mut on, rt, &mut requests, &mut replies, &mut Echo) {
+        Ok(()) => Ok(replies.len() as u64),
+        Err(_refused) => Err(Fault::Memory),
+    }
+}
