@@ -7,7 +7,7 @@ use Rattle.futures_lite.specs.Futures.{BudgetsPolls, SpendsPolls}
 use Rattle.futures_lite.specs.Own.{Runs}
 use Rattle.futures_lite.specs.declared.future.Budgeted.{Budgeted}
 use Rattle.futures_lite.specs.declared.future.Exhausted.{Exhausted}
-use Rattle.example_executor.specs.Outcomes.{EachOutcome, Outcome, task_within}
+use Rattle.example_executor.specs.Outcomes.{EachOutcome, OutcomeWithin, task_within}
 use Rattle.example_executor.specs.Tasks.{AnsweredBy, EachRan, MayRun, finished, one_if_some}
 use Rattle.example_executor.specs.declared.task.Task.{Task}
 
@@ -37,7 +37,7 @@ module _ {A : Type 0} where
 module _ {F A : Type 0} (run : Runs (Poll A) F) (polls : ℕ) where
   outcome_of : (x : F) (y : Budgeted F) (l : List (Poll (Result A Exhausted))) (r : Result A Exhausted)
       → BudgetsPolls run (record { inner = x; left = polls }) l y → Gives l r
-      → Outcome run polls x r
+      → OutcomeWithin run polls x r
   outcome_of x y l (Ok v) h g = let spent = value_within v h.2 g in (h.0, y.inner, h.1, spent.0, spent.1)
   outcome_of x y l (Err e) h g = let spent = all_spent e h.2 g in (h.0, y.inner, h.1, spent.0, spent.1)
 

@@ -12,13 +12,13 @@ use std::alloc::{AllocError, AllocGlobal, Global};
 use std::random::RandomSource;
 use std::sync::Wait;
 
-/// Polls each of the futures until it has its value, or until it was polled `polls` times. Returns their outcomes in the order
-/// of the futures. Futures that are woken take turns. The thread sleeps while none is, and for ever if none will be.
+/// Polls each of the futures until it has its value, or until it was polled `polls` times. Returns their outcomes in
+/// the order of the futures. The thread sleeps while no future is new or woken, and forever if nothing wakes one.
 ///
 /// # Errors
 ///
-/// The [`RunError`] is `Memory` or `Queue`. No future was polled, and all are dropped. As many values are wanted as there are
-/// futures, so none are `TooFew`; no clause says that.
+/// `Memory` or `Queue`: no future was polled, and all are dropped. `TooFew` does not come, since as many values are
+/// wanted as there are futures. No clause says that, since `Queue::next` has none.
 pub fn run_each<R, F>(
     rt: &R,
     futures: Vec<F>,

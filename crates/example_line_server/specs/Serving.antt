@@ -12,8 +12,8 @@ use Rattle.example_line_server.specs.Service.{step}
 abbrev pub replies_to : List ℕ → List ℕ
 replies_to read = concat (steps_from step (λ key. None) (byte_lines read)).0
 
--- The reader gave the bytes `read`, and then the marks `rest`. What was written begins the replies to the lines of `read`.
--- On `Ok`, `rest` is the end of the file, and what was written is all the replies, flushed.
+-- The reader gave the bytes `read`, and then the marks `rest`. What was written is a prefix of the replies to the lines
+-- of `read`. On `Ok`, `rest` is the end of file, and what was written is all the replies, flushed.
 abbrev pub Session : List ReadMark → List WriteMark → Result (Unit {0}) ServeError → Type 0
 Session told took value = (read : List ℕ) × (rest : List ReadMark) × (told ≡ bytes read ++ rest)
     × StandsFirst (bytes_taken took) (replies_to read)

@@ -1,4 +1,4 @@
-use Rattle.std.proofs.Common.{◌≡◌, ◌∙◌, ◌++◌, ap, arith, drop, length, take}
+use Rattle.std.proofs.Common.{◌≡◌, ◌∙◌, ◌++◌, arith, drop, length, take}
 use Rattle.std.proofs.lemmas.Grind.{common_steps}
 use Rattle.example_executor.proofs.Budgets.{each_outcome, may_run, none_finished}
 use Rattle.example_executor.specs.Tasks.{finished}
@@ -13,7 +13,8 @@ pub returns : goal.returns
 returns g c =
     let first = c.deref_mut.ensures.value ∙ c.in_ok-tasks.ensures in
     let ran = rw first at c.in_ok-run.ensures.ran in
-    let none = ap finished first ∙ none_finished g.F.Future.run c.args.polls c.args.futures.items in
+    let none : finished c.deref_mut.result.now ≡ 0 =
+    rw first (none_finished g.F.Future.run c.args.polls c.args.futures.items) in
     let all : finished c.run.new.tasks ≡ length c.args.futures.items =
     omega (arith, none, c.in_ok-run.ensures.came, c.len-wanted.ensures) in
     let whole : take c.in_ok-tasks.tasks.len (c.run.new.tasks ++ drop (length c.run.new.tasks) c.in_ok-tasks.tasks.items)
