@@ -12,9 +12,9 @@ use std::alloc::AllocGlobal;
 use std::random::RandomSource;
 use std::sync::Wait;
 
-/// Polls the futures until so many more of them have their values: each new one, and then each one whose context was woken.
-/// The thread sleeps while there is none, and for ever where none of those that are left is woken. Each value is one that
-/// the task's own future gave. [`RunError`] says what an error leaves.
+/// Polls the futures until so many more of them have their values: each new one, and then each one whose context was
+/// woken. The thread sleeps while there is none, and forever if nothing wakes those that are left. Each value is one
+/// that the task's own future gave. [`RunError`] says what an error leaves.
 pub fn run<R, F>(rt: &R, tasks: &mut [Task<F, F::Output>], wanted: usize) -> Result<(), RunError>
 where
     R: Wait + RandomSource + AllocGlobal,

@@ -1,4 +1,5 @@
 //! Why an executor stops before it has the values.
+use std::alloc::AllocError;
 use std::io;
 use std::io::ErrorKind;
 
@@ -7,10 +8,16 @@ use std::io::ErrorKind;
 pub enum RunError {
     /// There was no memory for the queue, or there were no random bytes to name it by: no task was polled.
     Queue(io::Error),
-    /// There was no memory for a task's place in the queue: no task was polled.
+    /// An allocation failed, such as that of a task's place in the queue: no task was polled.
     Memory,
     /// All tasks have their values, and more were wanted.
     TooFew,
+}
+
+impl From<AllocError> for RunError {
+    fn from(_: AllocError) -> RunError {
+        RunError::Memory
+    }
 }
 
 impl From<RunError> for io::Error {

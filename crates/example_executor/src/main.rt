@@ -1,15 +1,15 @@
-//! A small executor: futures of several types, each polled when it is new or woken.
+//! A small executor: futures of several types, each polled when it is new or woken, within a budget of polls.
 #![tactic(auto)]
 
 mod executor;
 mod fault;
+mod outcomes;
 mod task;
 
-use executor::run;
 use futures_lite::future::{self, Either, Exhausted};
-use futures_lite::{FutureExt, StreamExt, stream};
+use futures_lite::{StreamExt, stream};
+use outcomes::run_each;
 use std::io;
-use task::Task;
 
 fn main(rt: HostRuntime) -> io::Result<()> {
     let numbers = stream::iter_vec(vec![in rt.alloc(); 1u8, 2, 3, 4]?);
@@ -19,17 +19,15 @@ fn main(rt: HostRuntime) -> io::Result<()> {
         .fold(0u8, |sum: u8, x: u8| sum.wrapping_add(x));
     // It is pending at each poll, and wakes its own task.
     let endless = future::poll_fn(|cx| cx.yield_now::<u8>());
-    let mut tasks = vec![in rt.alloc();
-        Task::new(Either::Right(Either::Right(endless.with_budget(10)))),
-        Task::new(Either::Right(Either::Left(sum.with_budget(10)))),
-        Task::new(Either::Left(future::ready(7u8).with_budget(10))),
+    let futures = vec![in rt.alloc();
+        Either::Right(Either::Right(endless)),
+        Either::Right(Either::Left(sum)),
+        Either::Left(future::ready(7u8)),
     ]?;
-    run(&rt, &mut tasks, 3)?;
-    for task in tasks {
-        match task.into_value() {
-            Some(Ok(value)) => println!(rt; "{value}")?,
-            Some(Err(Exhausted)) => println!(rt; "its budget ended")?,
-            None => println!(rt; "it was not woken")?,
+    for outcome in run_each(&rt, futures, 10)? {
+        match outcome {
+            Ok(value) => println!(rt; "{value}")?,
+            Err(Exhausted) => println!(rt; "its budget ended")?,
         }
     }
     Ok(())

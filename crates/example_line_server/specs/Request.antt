@@ -10,8 +10,8 @@ use denote.Ref.{Bor}
 abbrev pub is_space : ℕ → Bool
 is_space b = b == 32
 
--- What a line asks for, by its first four bytes. To set, the key is what comes before the next space, and the value is the
--- rest. To get or delete, the key is the rest.
+-- What a line asks for, by its first four bytes. To set, the key is what comes before the next space, and the value is
+-- what comes after it. To get or delete, the key is the rest of the line.
 abbrev pub request : List ℕ → Request (List ℕ)
 request line =
     let verb = take 4 line in

@@ -11,12 +11,12 @@ use futures_lite::{AsyncBufRead, AsyncWrite};
 use std::alloc::AllocGlobal;
 use std::sync::Wait;
 
-/// Answers each line of `requests`, up to the end of file, from a store that holds nothing at first. The replies depend on
-/// the lines alone, however they come.
+/// Answers each line of `requests`, up to the end of file, from a store that holds nothing at first. The replies depend
+/// on the lines alone, however they come.
 ///
 /// # Errors
 ///
-/// Those of [`serve_lines`]. What was written begins the replies to the lines that were read.
+/// Those of [`serve_lines`]. What was written is a prefix of the replies to the lines that were read.
 pub fn serve<R, I, O>(
     on: &mut BlockOn,
     rt: &R,

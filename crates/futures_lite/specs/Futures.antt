@@ -5,3 +5,5 @@ pub use Rattle.lite_base.specs.Future.Calls.{CallAnswers, CallRegisters, NeverPe
 pub use Rattle.lite_base.specs.Future.Together.{Together}
 pub use Rattle.lite_base.specs.Future.Picks.{Picks}
 pub use Rattle.lite_laws.specs.Both.{OneValue}
+-- what a budget of polls makes of a future's results
+pub use Rattle.lite_base.specs.Future.Budgeted.{BudgetsPolls, SpendsPolls}

@@ -3,6 +3,7 @@ use Rattle.std.specs.List.{concat}
 use Rattle.futures_lite.specs.Lines.{ServedLines, ServesBy, ServingEnds, byte_lines, serves_by, steps_from}
 use Rattle.futures_lite.specs.Marks.{ReadMark, WriteMark}
 use Rattle.futures_lite.specs.declared.io.ServeError.{ServeError}
+use Rattle.futures_lite.specs.declared.io.ServeError.TheVariants.{Input, Memory, Output}
 use Rattle.example_line_server.specs.Service.{step}
 use Rattle.example_line_server.specs.Serving.{Session, replies_to}
 use Rattle.example_line_server.specs.Store.{held}
@@ -20,12 +21,21 @@ module _ (x y : Store) (empty : held x ≡ (λ key. None)) (told : List ReadMark
       ∙ ap (λ first. concat (steps_from step first (byte_lines served.read)).0) empty
 
   session : (value : Result (Unit {0}) ServeError) → Served value → Session told took value
-  session (Ok u) served =
-      let all = written (Ok u) served in
-      let ends = served.ends in
-      (served.read, served.rest, served.cut, rw (← all) served.front, (ends.0, ends.1.1 ∙ all, ends.2))
-  session (Err e) served =
-      (served.read, served.rest, served.cut, rw (← written (Err e) served) served.front, tt)
+  session (Ok u) s =
+      let all = written (Ok u) s in
+      let ends = s.ends in
+      (s.read, s.rest, s.cut, ((ends.1.1 ∙ all, ends.2), ends.0))
+  session (Err (Input e)) s =
+      let all = written (Err (Input e)) s in
+      let ends = s.ends in
+      (s.read, s.rest, s.cut, ((ends.1.1 ∙ all, ends.2), ends.0.1, ends.0.2, ends.0.3))
+  session (Err (Output e)) s =
+      let ends = s.ends in
+      (s.read, s.rest, s.cut, (rw (← written (Err (Output e)) s) s.front, ends.2))
+  session (Err Memory) s =
+      let all = written (Err Memory) s in
+      let ends = s.ends in
+      (s.read, s.rest, s.cut, (ends.1.1 ∙ all, ends.2))
 
 pub returns : goal.returns
 returns g c =
