@@ -17,19 +17,16 @@ use std::test::Fail;
 
 const CODEC: LengthDelimited = LengthDelimited { max: 100 };
 
-/// Replies to each request with the one before it, except to `none`, for which memory is refused. It counts the
-/// requests.
+/// Replies to each request with the one before it, except to `none`, for which memory is refused.
 #[derive(Drop)]
 struct Before {
     last: Vec<u8>,
-    requests: usize,
 }
 
 impl Before {
     fn new(rt: &HostRuntime) -> Before {
         Before {
             last: Vec::new(rt.alloc()),
-            requests: 0,
         }
     }
 }
@@ -42,7 +39,6 @@ impl ValueService for Before {
     ghost serves = { ServesBy (λ x. x.last) (λ last request. (last, request)) };
 
     fn answer(&mut self, _: Global, request: Vec<u8>) -> Result<Vec<u8>, AllocError> {
-        self.requests = self.requests.wrapping_add(1);
         if request.as_slice() == b"none".as_slice() {
             return Err(AllocError);
         }
@@ -100,7 +96,7 @@ fn served<R, T, O>(
     replies: &mut O,
     encoder: LengthDelimited,
     before: &mut Before,
-) -> Result<Result<(), &'static str>, AllocError>
+) -> Result<Result<(), (&'static str, ErrorKind)>, AllocError>
 where
     R: Wait + RandomSource + AllocGlobal,
     T: AsyncBufRead + CountedRead,
@@ -113,13 +109,13 @@ where
     let mut on = BlockOn::new(rt)?;
     let ended = serve_values(&mut on, rt, requests, replies, &encoder, before);
     Ok(ended.map_err(|e| match e {
-        ServeValuesError::Input(DecodeError::Truncated) => "truncated",
-        ServeValuesError::Input(DecodeError::Malformed) => "malformed",
-        ServeValuesError::Input(DecodeError::Io(_)) => "input",
-        ServeValuesError::Input(DecodeError::Memory) => "memory for a request",
-        ServeValuesError::Output(_) => "output",
-        ServeValuesError::Unencodable => "unencodable",
-        ServeValuesError::Memory => "memory",
+        ServeValuesError::Input(DecodeError::Truncated) => ("truncated", ErrorKind::UnexpectedEof),
+        ServeValuesError::Input(DecodeError::Malformed) => ("malformed", ErrorKind::InvalidData),
+        ServeValuesError::Input(DecodeError::Io(e)) => ("input", e.kind()),
+        ServeValuesError::Input(DecodeError::Memory) => ("request", ErrorKind::OutOfMemory),
+        ServeValuesError::Output(e) => ("output", e.kind()),
+        ServeValuesError::Unencodable => ("reply", ErrorKind::InvalidData),
+        ServeValuesError::Memory => ("reply", ErrorKind::OutOfMemory),
     }))
 }
 
@@ -164,7 +160,7 @@ fn an_error_of_the_reader_comes_at_each_place(rt: HostRuntime) -> Result<(), Fai
         };
         let mut before = Before::new(&rt);
         let ended = served(&rt, &mut requests, &mut replies, CODEC, &mut before)?;
-        assert_eq!(rt; ended, Err("input"));
+        assert_eq!(rt; ended, Err(("input", ErrorKind::Other)));
         let mut whole = 0;
         for (request, reply) in ENDS {
             if request <= at {
@@ -195,7 +191,7 @@ fn an_error_of_the_writer_comes_at_each_place(rt: HostRuntime) -> Result<(), Fai
         }
         replies.order(Order::Fail(ErrorKind::Other))?;
         let ended = served(&rt, &mut requests, &mut replies, CODEC, &mut before)?;
-        assert_eq!(rt; ended, Err("output"));
+        assert_eq!(rt; ended, Err(("output", ErrorKind::Other)));
         assert_eq!(rt; replies.taken(), &talk.output[..at]);
     }
     Ok(())
@@ -212,22 +208,31 @@ fn it_goes_on_behind_a_request_without_a_reply(rt: HostRuntime) -> Result<(), Fa
     let (mut replies, mut before) = (Takes::new(rt.alloc()), Before::new(&rt));
     let short = LengthDelimited { max: 3 };
     let ended = served(&rt, &mut requests, &mut replies, short, &mut before)?;
-    assert_eq!(rt; ended, Err("malformed"));
-    assert_eq!(rt; replies.taken(), framed(&rt, &[b"".as_slice()])?.as_slice());
+    let answered = framed(&rt, &[b"".as_slice()])?;
+    assert_eq!(rt;
+        (ended, replies.taken()),
+        (
+            Err(("malformed", ErrorKind::InvalidData)),
+            answered.as_slice()
+        )
+    );
 
     let ended = served(&rt, &mut requests, &mut replies, short, &mut before)?;
-    assert_eq!(rt; ended, Err("memory"));
-    assert_eq!(rt; replies.taken(), framed(&rt, &[b"", b"one"])?.as_slice());
+    let answered = framed(&rt, &[b"", b"one"])?;
+    assert_eq!(rt;
+        (ended, replies.taken()),
+        (Err(("reply", ErrorKind::OutOfMemory)), answered.as_slice())
+    );
 
     let ended = served(&rt, &mut requests, &mut replies, short, &mut before)?;
-    assert_eq!(rt; ended, Err("unencodable"));
+    assert_eq!(rt; ended, Err(("reply", ErrorKind::InvalidData)));
     assert_eq!(rt;
         replies.taken(),
         framed(&rt, &[b"", b"one", b""])?.as_slice()
     );
 
     let ended = served(&rt, &mut requests, &mut replies, short, &mut before)?;
-    assert_eq!(rt; ended, Err("truncated"));
+    assert_eq!(rt; ended, Err(("truncated", ErrorKind::UnexpectedEof)));
     assert_eq!(rt;
         replies.taken(),
         framed(&rt, &[b"", b"one", b"", b"x"])?.as_slice()
@@ -244,25 +249,39 @@ fn it_goes_on_behind_a_request_without_a_reply(rt: HostRuntime) -> Result<(), Fa
 
 #[test]
 fn it_flushes_where_no_input_is_at_hand(rt: HostRuntime) -> Result<(), Fail> {
-    // The first write fails, which is that of the first flush.
-    for (first, second, answered) in [
-        (b"\0\0\0\x01a".as_slice(), b"\0\0\0\x01b".as_slice(), 1),
-        (b"\0\0\0\x01a\0\0\0\x01b", b"\0\0\0\x01c", 2),
-        (b"\0\0\0\x01a\0\0", b"\0\x01b", 2),
+    // Each flush of replies is one write. The second one fails.
+    for (first, second, came, answered) in [
+        (
+            b"\0\0\0\x01a".as_slice(),
+            b"\0\0\0\x01b".as_slice(),
+            Err(("output", ErrorKind::Other)),
+            [b"".as_slice()].as_slice(),
+        ),
+        (
+            b"\0\0\0\x01a\0\0\0\x01b",
+            b"\0\0\0\x01c",
+            Err(("output", ErrorKind::Other)),
+            &[b"", b"a"],
+        ),
+        (b"\0\0\0\x01a\0\0", b"\0\x01b", Ok(()), &[b"", b"a"]),
     ] {
         let mut marks = Marks::new(rt.alloc());
         marks.chunk(first)?;
         marks.chunk(second)?;
         let mut requests = requests(&rt, 16, marks)?;
         let mut taken = Takes::new(rt.alloc());
+        taken.order(Order::AtMost(64))?;
         taken.order(Order::Fail(ErrorKind::Other))?;
         let Ok(mut replies) = BufWriter::with_capacity(rt.alloc(), 64, taken) else {
             return Err(AllocError.into());
         };
         let mut before = Before::new(&rt);
         let ended = served(&rt, &mut requests, &mut replies, CODEC, &mut before)?;
-        assert_eq!(rt; ended, Err("output"));
-        assert_eq!(rt; before.requests, answered);
+        assert_eq!(rt; ended, came);
+        assert_eq!(rt;
+            replies.get_ref().taken(),
+            framed(&rt, answered)?.as_slice()
+        );
     }
     Ok(())
 }
