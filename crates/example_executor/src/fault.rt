@@ -1,4 +1,7 @@
 //! Why an executor stops before it has the values.
+ghost use Rattle.std.specs.Prelude.{◌≡◌};
+ghost use Rattle.example_executor.specs.declared.fault.RunError.TheVariants.{Memory};
+
 use std::alloc::AllocError;
 use std::io;
 use std::io::ErrorKind;
@@ -15,6 +18,8 @@ pub enum RunError {
 }
 
 impl From<AllocError> for RunError {
+    ghost from_gives = { λ _ error. error ≡ Memory };
+
     fn from(_: AllocError) -> RunError {
         RunError::Memory
     }

@@ -1,7 +1,9 @@
-use Rattle.std.proofs.Common.{◌≡◌, ◌∙◌, ◌++◌, arith, drop, length, take}
+use Rattle.std.proofs.Common.{◌≡◌, ◌∙◌, ◌<◌, ◌+◌, ◌++◌, IfErr, IsErrAnd, Result, Ok, Err, arith, drop, length, take}
 use Rattle.std.proofs.lemmas.Grind.{common_steps}
 use Rattle.example_executor.proofs.Budgets.{each_outcome, may_run, none_finished}
-use Rattle.example_executor.specs.Tasks.{finished}
+use Rattle.example_executor.specs.Tasks.{WhereTooFew, finished}
+use Rattle.example_executor.specs.declared.fault.RunError.{RunError}
+use Rattle.example_executor.specs.declared.fault.RunError.TheVariants.{Memory, Queue, TooFew}
 use Rattle.example_executor.proofs.outcomes.run_each.Goals as goal
 
 pub run-requires : goal.run-requires
@@ -9,8 +11,8 @@ run-requires g c =
     rw (c.deref_mut.ensures.value, c.in_ok-tasks.ensures)
     (may_run g.F.Future.run c.args.polls g.F.Future.can_poll c.args.futures.items c.requires)
 
-pub returns : goal.returns
-returns g c =
+pub returns-clause-each : goal.returns-clause-each
+returns-clause-each g c =
     let first = c.deref_mut.ensures.value ∙ c.in_ok-tasks.ensures in
     let ran = rw first at c.in_ok-run.ensures.ran in
     let none : finished c.deref_mut.result.now ≡ 0 =
@@ -21,3 +23,24 @@ returns g c =
     ≡ c.run.new.tasks = grind (arith, common_steps) in
     rw (c.append_values.ensures, c.in_ok-outcomes.ensures.items, whole)
     (each_outcome g.F.Future.run c.args.polls c.args.futures.items c.run.new.tasks ran all)
+
+follows : (e : RunError) (P Q : Type 0) → (P → Q) → WhereTooFew e P → WhereTooFew e Q
+follows (Queue e) P Q f h = tt
+follows Memory P Q f h = tt
+follows TooFew P Q f h = f h
+
+handed_on : {V : Type 0} (r : Result V RunError) (e : RunError) (P : Type 0) → IsErrAnd r (λ x. x ≡ e) → WhereTooFew e P
+    → IfErr r (λ x. WhereTooFew x P)
+handed_on (Ok v) e P is h = tt
+handed_on (Err x) e P is h = rw is h
+
+pub returns-in_err-run-clause-few : goal.returns-in_err-run-clause-few
+returns-in_err-run-clause-few g c =
+    let first = c.deref_mut.ensures.value ∙ c.in_ok-tasks.ensures in
+    let none : finished c.deref_mut.result.now ≡ 0 =
+    rw first (none_finished g.F.Future.run c.args.polls c.args.futures.items) in
+    let some : finished c.run.new.tasks < c.len-wanted.result + finished c.deref_mut.result.now
+    → 0 < length c.args.futures.items =
+    λ less. omega (arith, less, none, c.len-wanted.ensures) in
+    handed_on c.from_residual-in_err-run.result c.in_err-run.field-0.0 _ c.from_residual-in_err-run.ensures.1
+    (follows c.in_err-run.field-0.0 _ _ some c.in_err-run.ensures.few)
