@@ -6,11 +6,11 @@ use Rattle.futures_lite.specs.Codecs.{ComesBack, FrameOf, ValueTaken, as_item, f
 use Rattle.futures_lite.specs.Marks.{WriteMark, bytes_taken}
 use Rattle.futures_lite.specs.Own.{Runs}
 use Rattle.futures_lite.specs.Writers.{TakesFront}
-use Rattle.futures_lite.specs.Codecs.DecodeError.{DecodeError}
-use Rattle.futures_lite.specs.Codecs.DecodeError.TheVariants.{Io, Malformed, Memory, Truncated}
-use Rattle.futures_lite.specs.Codecs.EncodeError.{EncodeError}
-use Rattle.futures_lite.specs.Codecs.EncodeError.TheVariants.{Io as Failed, Memory as Full, Unencodable}
-use Rattle.futures_lite.specs.Codecs.LengthDelimited.{LengthDelimited}
+use Rattle.futures_lite.specs.declared.codec.DecodeError.{DecodeError}
+use Rattle.futures_lite.specs.declared.codec.DecodeError.TheVariants.{Io, Malformed, Memory, Truncated}
+use Rattle.futures_lite.specs.declared.codec.EncodeError.{EncodeError}
+use Rattle.futures_lite.specs.declared.codec.EncodeError.TheVariants.{Io as Failed, Memory as Full, Unencodable}
+use Rattle.futures_lite.specs.declared.codec.LengthDelimited.{LengthDelimited}
 use Rattle.example_frames.specs.Frames.{IsSent}
 
 pub sent_back : (c : LengthDelimited) (sent : List ℕ) (r : Result (Option (Vec ℕ Global)) DecodeError) → length sent < 2 ^ 32

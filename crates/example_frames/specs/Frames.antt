@@ -4,9 +4,9 @@ use Rattle.std.proofs.Common.{Global}
 use Rattle.std.specs.declared.vec.Vec.{Vec}
 use Rattle.futures_lite.specs.Answers.{Comparable}
 use Rattle.futures_lite.specs.Codecs.{framed}
-use Rattle.futures_lite.specs.Codecs.DecodeError.{DecodeError}
-use Rattle.futures_lite.specs.Codecs.DecodeError.TheVariants.{Malformed}
-use Rattle.futures_lite.specs.Codecs.LengthDelimited.{LengthDelimited}
+use Rattle.futures_lite.specs.declared.codec.DecodeError.{DecodeError}
+use Rattle.futures_lite.specs.declared.codec.DecodeError.TheVariants.{Malformed}
+use Rattle.futures_lite.specs.declared.codec.LengthDelimited.{LengthDelimited}
 use Rattle.futures_lite.specs.Marks.{ReadMark, bytes}
 
 -- The payload that was read is the one that was sent. It is an error only if the input ended or failed within the

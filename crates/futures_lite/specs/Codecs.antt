@@ -12,9 +12,3 @@ pub use Rattle.lite_theorems.specs.Services.{AllWritten, Replies, RepliesBy, Ser
 pub use Rattle.lite_theorems.specs.ServingValues.{LacksReply, ServedValues, StopsAt, Unanswered, ValuesEnd}
 pub use Rattle.lite_theorems.specs.Laws.Serving.{replies_mapped, serves_by, steps_from}
 pub use Rattle.lite_theorems.specs.ValueWriter.{InFirstPoll, HoldsValue, ReturnsWritten, TakesValue, WritesValue, as_written, written_value}
--- the types of codecs and of errors, whose variants are in `TheVariants`, as `Codecs.DecodeError.TheVariants`
-pub use Rattle.lite_codec.specs.declared.error.DecodeError
-pub use Rattle.lite_codec.specs.declared.error.EncodeError
-pub use Rattle.lite_codec.specs.declared.length_delimited.LengthDelimited
-pub use Rattle.lite_codec.specs.declared.resp.Resp
-pub use Rattle.lite_codec.specs.declared.resp.RespValue
