@@ -29,6 +29,8 @@ MADE = re.compile(r"^pub fn (?P<name>\w+)[^{;]*?-> (?P<type>[^{]*?)\n?(?:    (?:
 NEW = re.compile(r"^impl\b[^{;]*?\s(?P<type>\w+)(?:<[^{;]*)?\{\n(?:(?!^\}).*\n)*?    pub fn new\(", re.M)
 FUNCTION = re.compile(r"^pub fn (?P<name>\w+)(?P<said>.*?)^\{", re.M | re.S)
 PASSED_ON = re.compile(r"^pub use (?P<path>[\w:]+?)(?:::\{(?P<names>[^}]*)\})?;", re.M | re.S)
+# A line of the facade's specs that passes on a module, or words of it.
+PASSED_WORDS = re.compile(r"^(?:unfoldable )?pub use Rattle\.(?P<crate>\w+)\.specs\.(?P<module>[\w.]+?)(?:\.\{(?P<names>[^}]*)\})?$", re.M)
 # The module of a crate that passes on what its files import from the crates below.
 USES = "Uses"
 USED = re.compile(r"use Rattle\.(?P<crate>\w+)\.specs\.(?P<module>[\w.]+)\.\{(?P<names>[^}]*)\}")
@@ -98,6 +100,27 @@ def passed_on_in(crate):
     """Returns where each name is from that a crate's specs/Uses.antt passes on from the crates below."""
     path = f"{TOP}/crates/{crate}/specs/{USES}.antt"
     return dict(used(read_text(path))) if os.path.isfile(path) else {}
+
+
+@functools.cache
+def modules_of_words():
+    """Returns the module of the facade's specs that has each word, by the word's crate, module and name; no name stands for all words of a module."""
+    found = {}
+    for file in files_of(f"{TOP}/crates/{FACADE}/specs"):
+        module = os.path.splitext(file)[0]
+        for it in PASSED_WORDS.finditer(read_text(f"{TOP}/crates/{FACADE}/specs/{file}")):
+            if it["names"]:
+                for name in it["names"].split(","):
+                    found.setdefault((it["crate"], it["module"], name.strip()), module)
+            else:
+                found.setdefault((it["crate"], it["module"], ""), f"{module}.{it['module'].rpartition('.')[2]}")
+    return found
+
+
+def module_for_programs(word):
+    """Returns the module of the facade's specs from which a program imports a word, or nothing."""
+    found, place = modules_of_words(), (word.crate, word.module)
+    return found.get((*place, word.name)) or found.get((*place, ""))
 
 
 def imported(text):
@@ -244,7 +267,9 @@ def words_of(crate):
         words = list(words)
         about = head_of(words[0].path)
         yield wrapped(f"**{link(words[0].path, module.replace('.', '/'))}**{': ' if about else ''}{about}") + "\n"
-        yield from (bullet(f"`{it.name}`: {it.says}") for it in words)
+        for it in words:
+            module = module_for_programs(it)
+            yield bullet(f"`{it.name}`{f' (`{module}`)' if module else ''}: {it.says}")
         yield ""
 
 
