@@ -8,7 +8,7 @@ pub use Rattle.lite_codec.specs.Laws.Resp.{begin_one, resp_one}
 pub use Rattle.lite_codec.specs.Values.{AtValue, Decodes, SameValue, YieldsValue, decoding, values_over}
 pub use Rattle.lite_theorems.specs.Values.{ComesBack, ValueTaken, ValueTold, as_item}
 -- what a server of values was told and wrote
-pub use Rattle.lite_theorems.specs.Services.{AllWritten, Replies, RepliesBy, ServesBy, ServiceStep}
+pub use Rattle.lite_theorems.specs.Services.{AllWritten, Replies, RepliesBy, ServesAs, ServesBy, ServiceStep}
 pub use Rattle.lite_theorems.specs.ServingValues.{LacksReply, ServedValues, StopsAt, Unanswered, ValuesEnd}
-pub use Rattle.lite_theorems.specs.Laws.Serving.{replies_mapped, serves_by, steps_from}
+pub use Rattle.lite_theorems.specs.Laws.Serving.{replies_mapped, serves_as, serves_by, steps_from}
 pub use Rattle.lite_theorems.specs.ValueWriter.{InFirstPoll, HoldsValue, ReturnsWritten, TakesValue, WritesValue, as_written, written_value}

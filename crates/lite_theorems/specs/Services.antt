@@ -19,6 +19,12 @@ abbrev pub ServesBy : {L S A B : Type 0} → (L → S) → (S → A → B × S) 
 ServesBy holds step x request None y = holds y ≡ holds x
 ServesBy holds step x request (Some r) y = (r, holds y) ≡ step (holds x) request
 
+-- The same, of values that hold more than a plain function can return, such as a vector's memory. `asked` says what a
+-- request asks, and `told` what a reply tells.
+abbrev pub ServesAs : {L S A B P Q : Type 0} → (A → P) → (B → Q) → (L → S) → (S → P → Q × S) → ServiceStep L A B
+ServesAs asked told holds step x request None y = holds y ≡ holds x
+ServesAs asked told holds step x request (Some r) y = (told r, holds y) ≡ step (holds x) (asked request)
+
 module _ {L A B : Type 0} (serves : ServiceStep L A B) where
   -- The requests were replied to in turn, from the state `x` to the state `z`.
   abbrev pub Replies : L → List A → List B → L → Type 0

@@ -1,7 +1,7 @@
 -- The replies of services of functions.
 use Rattle.std.specs.Prelude.{◌≡◌, ℕ, List, [], ◌∷◌, flat_map, map, refl}
 use Rattle.lite_theorems.specs.Uses.{concat}
-use Rattle.lite_theorems.specs.Services.{Replies, RepliesBy, ServesBy}
+use Rattle.lite_theorems.specs.Services.{Replies, RepliesBy, ServesAs, ServesBy}
 
 -- The replies of a service of a function are those of the function, one for each request.
 pub replies_mapped : {L A B : Type 0} (reply : A → B) (x y : L) (requests : List A) (replies : List B)
@@ -37,3 +37,14 @@ serves_by holds step x y (request ∷ requests) (r ∷ replies) h =
     rw (← h.1) (rw (← rest) refl)
 serves_by holds step x y [] (r ∷ replies) h = absurd h
 serves_by holds step x y (request ∷ requests) [] h = absurd h
+
+-- The same, of what the replies tell.
+pub serves_as : {L S A B P Q : Type 0} (asked : A → P) (told : B → Q) (holds : L → S) (step : S → P → Q × S) (x y : L)
+    (requests : List A) (replies : List B) → Replies (ServesAs asked told holds step) x requests replies y
+    → (map told replies, holds y) ≡ steps_from step (holds x) (map asked requests)
+serves_as asked told holds step x y [] [] h = rw h refl
+serves_as asked told holds step x y (request ∷ requests) (r ∷ replies) h =
+    let rest = serves_as asked told holds step h.0 y requests replies h.2 in
+    rw (← h.1) (rw (← rest) refl)
+serves_as asked told holds step x y [] (r ∷ replies) h = absurd h
+serves_as asked told holds step x y (request ∷ requests) [] h = absurd h
