@@ -1,12 +1,13 @@
-//! Values through a codec, of 16 bytes each with their number before them, and lines that a server answers.
+//! Values through a codec, of 16 bytes each with their number before them, and lines that a server answers. They are read from a
+//! slice, so that the reads of other cases keep their one caller, into which they are inlined.
 
-use crate::bytes::{blocks_len, buffered};
+use crate::bytes::blocks_len;
 use crate::fault::Fault;
 use crate::texts::{repeated, text};
-use futures_lite::codec::{self, LengthDelimited};
+use futures_lite::codec::{self, DecodeError, LengthDelimited};
 use futures_lite::future::BlockOn;
-use futures_lite::io::{AsyncReadExt, BufReader, Cursor, LineService, serve_lines};
-use futures_lite::{Context, Future, Poll, Stream};
+use futures_lite::io::{AsyncReadExt, LineService, serve_lines};
+use futures_lite::{Context, Future, Poll, StreamExt};
 use std::alloc::{AllocError, AllocGlobal, Global};
 use std::random::RandomSource;
 use std::sync::Wait;
@@ -21,26 +22,21 @@ const MAX: u32 = 64;
 #[inline(never)]
 pub(crate) fn values(alloc: Global, cx: &mut Context<'_>, n: u64) -> Result<u64, Fault> {
     let bytes = repeated(alloc, VALUE, n)?;
-    let mut values = codec::values(
-        alloc,
-        buffered(alloc, &bytes)?,
-        LengthDelimited { max: MAX },
-    );
-    let mut sum = 0u64;
-    for _ in 0..n {
-        let Poll::Ready(Some(Ok(value))) = values.poll_next(cx) else {
-            break;
-        };
-        sum = sum.wrapping_add(value.len() as u64);
+    let mut values = codec::values(alloc, bytes.as_slice(), LengthDelimited { max: MAX });
+    let mut summing = values.try_fold(0u64, |sum: u64, value: Vec<u8>| {
+        Ok::<u64, DecodeError>(sum.wrapping_add(value.len() as u64))
+    });
+    match summing.poll(cx) {
+        Poll::Ready(Ok(sum)) => Ok(sum),
+        _ => Err(Fault::Memory),
     }
-    Ok(sum)
 }
 
 /// As `values`, by two reads for each value.
 #[inline(never)]
 pub(crate) fn values_by_hand(alloc: Global, cx: &mut Context<'_>, n: u64) -> Result<u64, Fault> {
     let bytes = repeated(alloc, VALUE, n)?;
-    let mut reader = buffered(alloc, &bytes)?;
+    let mut reader = bytes.as_slice();
     let mut sum = 0u64;
     for _ in 0..n {
         let Some(value) = read_value(alloc, &mut reader, cx)? else {
@@ -54,7 +50,7 @@ pub(crate) fn values_by_hand(alloc: Global, cx: &mut Context<'_>, n: u64) -> Res
 /// The next value of the reader, which is never pending.
 fn read_value(
     alloc: Global,
-    reader: &mut BufReader<Cursor<&[u8]>>,
+    reader: &mut &[u8],
     cx: &mut Context<'_>,
 ) -> Result<Option<Vec<u8>>, Fault> {
     let mut number = [0u8; 4];
@@ -94,7 +90,7 @@ where
     R: Wait + RandomSource + AllocGlobal,
 {
     let bytes = text(rt.alloc(), n)?;
-    let mut requests = buffered(rt.alloc(), &bytes)?;
+    let mut requests = bytes.as_slice();
     let mut replies = Vec::with_capacity(rt.alloc(), blocks_len(n)? as usize)?;
     let mut on = BlockOn::new(rt)?;
     match serve_lines(&mut on, rt, &mut requests, &mut replies, &mut Echo) {
