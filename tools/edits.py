@@ -6,6 +6,8 @@ from repository import read_text
 
 # The first line of an edit. The function is named by its path below the crate.
 HEAD = re.compile(r"# refused by (\S+) of (\S+)\n")
+# What stands in a clause, and in no body.
+GHOST = re.compile(r"\b(ensures|requires|ghost)\b|[≡λ∷×→⊤⟦]")
 
 
 class Unfit(Exception):
@@ -24,6 +26,7 @@ class Edit:
         self.text = read_text(path)
         head = HEAD.match(self.text)
         self.clause, self.function = head.groups() if head else (None, None)
+        self.turns_a_clause = any(GHOST.search(old + new) for _, old, new in self.changes())
 
     def changes(self):
         """Yields each change: a file of the crate, the text there, and what stands in its place."""

@@ -2,6 +2,7 @@
 import argparse
 import functools
 import hashlib
+import json
 import os
 import re
 import shutil
@@ -184,3 +185,16 @@ def tell_made_from(name, sum):
 
 def is_made_from(name, sum):
     return os.path.isfile(made_from(name)) and read_text(made_from(name)) == sum
+
+
+def counts_at():
+    """The file, in the user's cache folder, with the counts of functions that may wait of the crates that were proved on this machine, by their sums."""
+    cache = os.environ.get("XDG_CACHE_HOME") or os.path.expanduser("~/.cache")
+    return f"{cache}/sidzkura-waits.json"
+
+
+def read_counts():
+    try:
+        return json.loads(read_text(counts_at()))
+    except (OSError, ValueError):
+        return {}
