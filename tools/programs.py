@@ -16,7 +16,7 @@ import time
 from concurrent.futures import ThreadPoolExecutor
 
 import examples
-from repository import PARTS, TESTS, TEST_LINES, TOP, Crate, crates_in, lay_beside, lay_crates, lay_texts, stop, sum_of_crates, sum_of_folder
+from repository import PARTS, TESTS, TEST_LINES, TOP, Crate, crates_in, in_cache, lay_beside, lay_crates, lay_texts, stop, sum_of_crates, sum_of_folder
 
 FAULTS = f"{TOP}/tools/faults.c"
 # The programs beside the crates, with their lines for crates.txt.
@@ -36,8 +36,7 @@ class NotBuilt(Exception):
 
 
 def place():
-    cache = os.environ.get("XDG_CACHE_HOME") or os.path.expanduser("~/.cache")
-    return f"{cache}/sidzkura-programs"
+    return in_cache("programs")
 
 
 def is_test(name):

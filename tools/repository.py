@@ -187,10 +187,15 @@ def is_made_from(name, sum):
     return os.path.isfile(made_from(name)) and read_text(made_from(name)) == sum
 
 
-def counts_at():
-    """The file, in the user's cache folder, with the counts of functions that may wait of the crates that were proved on this machine, by their sums."""
+def in_cache(name):
+    """The path of what the tools keep by this name in the user's cache folder."""
     cache = os.environ.get("XDG_CACHE_HOME") or os.path.expanduser("~/.cache")
-    return f"{cache}/sidzkura-waits.json"
+    return f"{cache}/sidzkura-{name}"
+
+
+def counts_at():
+    """The file with the counts of functions that may wait, of the crates that were proved on this machine, by their sums."""
+    return in_cache("waits.json")
 
 
 def read_counts():
