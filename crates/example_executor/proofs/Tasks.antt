@@ -45,7 +45,7 @@ finished_set (t ∷ xs) (suc at) x y d b within is h =
     ap (λ n. one_if_some t.value + n) (finished_set xs at x y d b shorter is h)
     ∙ one_more_last b (one_if_some t.value) (finished xs)
 
-module _ {F A : Type 0} {run : Runs (Poll A) F} (laws : FutureLaws run) where
+module _ {F A : Type 0} {can_poll : F → Type 0} {run : Runs (Poll A) F} (laws : FutureLaws can_poll run) where
   pub task_idle : (x : Task F A) → TaskRan run x x
   task_idle x = by_value x.value
     where

@@ -5,7 +5,7 @@ use Rattle.std.proofs.Common.{inl, inr, ap, subst, sym, ◌∙◌}
 use Rattle.std.proofs.lemmas.Bool.{le-leb, lt-leb}
 use Rattle.futures_lite.specs.Answers.{Answer, Pending, Ready, item}
 use Rattle.futures_lite.specs.Lists.{Lists, ListsAs}
-use Rattle.futures_lite.specs.Own.{Hints, ItemsAfter, Runs, lists_after, lists_as, lists_by_relation}
+use Rattle.futures_lite.specs.Own.{Hints, ItemsAfter, NoHint, Runs, lists_after, lists_as, lists_by_relation, stream_by_keeping_steps}
 use Rattle.futures_lite.specs.Runs.{StreamLaws}
 use Rattle.example_own.specs.MergeSorted.{IfItem, MergeStep, SidesYield, merge_sorted}
 use Rattle.example_own.specs.Side.{Filled, unanswered}
@@ -21,14 +21,21 @@ abbrev pub MergeLists : {S T : Type 0} → Runs (Answer ℕ) S → Runs (Answer 
 MergeLists run run' x items =
     (xs : List ℕ) × (ys : List ℕ) × SideLists run x.left xs × SideLists run' x.right ys × (items ≡ merge_sorted xs ys)
 
--- A side that is filled keeps its items.
-module _ {S : Type 0} {run : Runs (Answer ℕ) S} {hints : Hints S} (laws : StreamLaws run hints) where
+-- A side that is filled keeps its items, and its stream may be polled again.
+module _ {S : Type 0} {run : Runs (Answer ℕ) S} {can_poll : S → Type 0} {hints : Hints S} (laws : StreamLaws can_poll run hints) where
   filled_lists : (x y : Side S) (xs : List ℕ) → SideLists run x xs → Filled run x y → SideLists run y xs
   filled_lists x y xs known filled = by x.answer refl
     where
       by : (a : Answer ℕ) → x.answer ≡ a → SideLists run y xs
       by Pending e = lists_after laws x.stream y.stream y.answer xs (rw e at known) (filled.polled e)
       by (Ready a) e = subst (λ z. SideLists run z xs) (sym (filled.kept (λ d. let f = sym e ∙ d in cc))) known
+
+  filled_on : (x y : Side S) → can_poll x.stream → Filled run x y → can_poll y.stream
+  filled_on x y can filled = by x.answer refl
+    where
+      by : (a : Answer ℕ) → x.answer ≡ a → can_poll y.stream
+      by Pending e = laws.polls_on x.stream y.stream (y.answer ∷ []) can (filled.polled e)
+      by (Ready a) e = rw (filled.kept (λ d. let f = sym e ∙ d in cc)) can
 
 merge_nil : (xs : List ℕ) → merge_sorted xs [] ≡ xs
 merge_nil [] = refl
@@ -69,14 +76,29 @@ module _ {S T : Type 0} (run : Runs (Answer ℕ) S) (run' : Runs (Answer ℕ) T)
         rw h.2 (xs, taken.0, known, taken.2, refl),
       )
 
-module _ {S T : Type 0} {run : Runs (Answer ℕ) S} {run' : Runs (Answer ℕ) T} {hints : Hints S} {hints' : Hints T}
-    (laws : StreamLaws run hints) (laws' : StreamLaws run' hints') where
+module _ {S T : Type 0} {run : Runs (Answer ℕ) S} {run' : Runs (Answer ℕ) T} {can_poll : S → Type 0} {hints : Hints S} {can_poll' : T → Type 0} {hints' : Hints T}
+    (laws : StreamLaws can_poll run hints) (laws' : StreamLaws can_poll' run' hints') where
   moved : (x y : MergeSorted S T) (a : Answer ℕ) (items : List ℕ) → MergeLists run run' x items
       → MergeStep run run' x a y → ItemsAfter (MergeLists run run') a y items
   moved x y a items (xs, ys, known, known', e) (l, r, filled, filled', yields) =
       subst (ItemsAfter (MergeLists run run') a y) (sym e)
       (yielded run run' l r y a xs ys (filled_lists laws x.left l xs known filled)
       (filled_lists laws' x.right r ys known' filled') yields)
+
+  yields_on : (l : Side S) (r : Side T) (a : Answer ℕ) (y : MergeSorted S T) → can_poll l.stream × can_poll' r.stream
+      → SidesYield l r a y → can_poll y.left.stream × can_poll' y.right.stream
+  yields_on l r Pending y can h = rw h.1 can
+  yields_on l r (Ready None) y can h = rw h.2 can
+  yields_on l r (Ready (Some n)) y can (inl h) = rw h.2 can
+  yields_on l r (Ready (Some n)) y can (inr h) = rw h.2 can
+
+  -- The laws of a merge: it may be polled if both streams may be.
+  pub merge_laws : StreamLaws (λ (m : MergeSorted S T). can_poll m.left.stream × can_poll' m.right.stream)
+      (FoldsTo (MergeStep run run')) NoHint
+  merge_laws =
+      stream_by_keeping_steps (MergeStep run run')
+      (λ x y a can (l, r, filled, filled', yields).
+      yields_on l r a y (filled_on laws x.left l can.0 filled, filled_on laws' x.right r can.1 filled') yields)
 
   -- Two streams with known items, merged.
   pub merge_sorted_lists : (s : S) (t : T) (xs ys : List ℕ) → Lists run s xs → Lists run' t ys

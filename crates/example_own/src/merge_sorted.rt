@@ -2,9 +2,10 @@
 ghost use Rattle.std.specs.Prelude.{◌≡◌, ℕ, List};
 ghost use Rattle.std.specs.List.{FoldsTo};
 ghost use Rattle.futures_lite.specs.Lists.{Lists, ListsAs};
-ghost use Rattle.futures_lite.specs.Own.{NoHint, stream_by_steps, stream_ranking};
+ghost use Rattle.futures_lite.specs.Own.{NoHint, stream_ranking};
 ghost use Rattle.example_own.specs.MergeRank.{merge_lowers, side_ranks};
 ghost use Rattle.example_own.specs.MergeSorted.{MergeStep, SidesRegister, SidesYield, merge_sorted};
+ghost use Rattle.example_own.specs.Merged.{merge_laws};
 ghost use Rattle.example_own.specs.Side.{unanswered};
 
 use crate::side::Side;
@@ -61,7 +62,7 @@ impl<S: Stream<Item = u32>, T: Stream<Item = u32>> Stream for MergeSorted<S, T> 
 
     ghost hints = { NoHint };
 
-    ghost laws = { stream_by_steps (MergeStep S.run T.run) };
+    ghost laws = { merge_laws S.laws T.laws };
 
     fn poll_next(&mut self, cx: &mut Context<'_>) -> Poll<Option<u32>> {
         self.left.fill(cx);

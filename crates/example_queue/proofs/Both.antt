@@ -28,6 +28,7 @@ module _ {S T : Type 0} (run : Runs (Answer T) S) (x y : Transfer S T) (s : Send
     rw same h.2,
     moved x.receiver.received.items x.queue.waiting (option_to_list x.sender.held) (items_in h.0) _ h.3
         ∙ rw (k.0, k.2, same) (simp (append-nil, append_assoc)),
+    rw k.2 k.1,
   )
   waits (Ready (Ok v)) h k = absurd (
       let e : q.is_closed ≡ false = ap (λ (t : Queued T). t.is_closed) h.4 ∙ goes in

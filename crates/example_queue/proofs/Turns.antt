@@ -51,7 +51,7 @@ module _ {T : Type 0} where
       → Receives got q (Ready (Ok tt)) got m
   receives_end got q m h = let s = one_step q m end h in (rw (s.0, append-nil) refl, s.1, emptied q m s.0 s.2)
 
-module _ {S T : Type 0} {run : Runs (Answer T) S} {hints : Hints S} (laws : StreamLaws run hints) where
+module _ {S T : Type 0} {run : Runs (Answer T) S} {can_poll : S → Type 0} {hints : Hints S} (laws : StreamLaws can_poll run hints) where
   -- what the source returned for the item, if anything
   record Front (x m : Sender S T) (v : T) : Type 0 where
     before : List (Answer T)

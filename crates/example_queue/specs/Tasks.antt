@@ -1,8 +1,9 @@
 -- The two tasks at a queue, each of which has it for a while.
-use Rattle.std.specs.Prelude.{◌≡◌, ◌⊎◌, ⊤, List, [], ◌∷◌, ◌++◌, None, Some, Result, Ok, Err, true, false}
+use Rattle.std.specs.Prelude.{◌≡◌, ◌⊎◌, ⊤, List, [], ◌∷◌, ◌++◌, Option, None, Some, Result, Ok, Err, true, false}
 use Rattle.std.specs.Option.{option_to_list}
 use Rattle.std.specs.declared.alloc.AllocError.{AllocError}
 use Rattle.futures_lite.specs.Answers.{Answer, Endless, Pending, Poll, Ready, end, item, items_in}
+use Rattle.futures_lite.specs.Contexts.{HoldsWoken, Lasting}
 use Rattle.futures_lite.specs.Own.{Runs}
 use Rattle.example_queue.specs.Queue.{Queued}
 use Rattle.example_queue.specs.declared.sender.Sender.{Sender}
@@ -13,6 +14,16 @@ abbrev pub Receives : {T : Type 0} → List T → Queued T → Poll (Result (Uni
 Receives got q Pending now r = (now ≡ got ++ q.waiting) × (q.is_closed ≡ false) × (r ≡ record q { waiting = [] })
 Receives got q (Ready (Ok done)) now r = (now ≡ got ++ q.waiting) × (q.is_closed ≡ true) × (r ≡ record q { waiting = [] })
 Receives got q (Ready (Err e)) now r = ⊤
+
+-- What a `Pending` has registered, by the item that is held after it. If one is held, which a full queue handed back,
+-- the sending task is woken. Otherwise it is what the source registers.
+abbrev pub RegistersHeld : {T : Type 0} → Option T → (Lasting → Type 0) → Lasting → Type 0
+RegistersHeld None source = source
+RegistersHeld (Some item) source = HoldsWoken
+
+-- What a `Pending` of the sending task has registered, from what its source registers.
+abbrev pub SenderRegisters : {S T : Type 0} → (S → Lasting → Type 0) → Sender S T → Lasting → Type 0
+SenderRegisters registers x = RegistersHeld x.held (registers x.source)
 
 module _ {S T : Type 0} (run : Runs (Answer T) S) where
   -- One result for the item that is to be sent next: the one that was handed back, or the source's next one.

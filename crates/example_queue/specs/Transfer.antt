@@ -20,12 +20,12 @@ abbrev pub come : {S T : Type 0} → Transfer S T → List T
 come x = x.receiver.received.items ++ x.queue.waiting ++ option_to_list x.sender.held
 
 module _ {S T : Type 0} (run : Runs (Answer T) S) where
-  -- One poll of the transfer `x`, in which the source returned `ins`. A `Pending` keeps the items in their order. The
-  -- value is all items, once the source has ended.
+  -- One poll of the transfer `x`, in which the source returned `ins`. A `Pending` keeps the items in their order, and
+  -- leaves the queue open. The value is all items, once the source has ended.
   abbrev pub TransferStep : Transfer S T → Poll (Result (Vec T) AllocError) → Transfer S T → Type 0
   TransferStep x Pending y =
       (ins : List (Answer T)) × Endless ins × run x.sender.source ins y.sender.source
-      × (come x ++ items_in ins ≡ come y)
+      × (come x ++ items_in ins ≡ come y) × (y.queue.is_closed ≡ false)
   TransferStep x (Ready (Ok v)) y =
       (ins : List (Answer T)) × Endless ins × run x.sender.source (ins ++ end ∷ []) y.sender.source
       × (v.items ≡ come x ++ items_in ins)

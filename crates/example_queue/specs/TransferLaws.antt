@@ -1,11 +1,12 @@
 -- The value of a transfer.
-use Rattle.std.specs.Prelude.{◌≡◌, List, [], ◌∷◌, ◌++◌, None, Some, Result, Ok, Err, IfOk, refl}
+use Rattle.std.specs.Prelude.{◌≡◌, List, [], ◌∷◌, ◌++◌, false, None, Some, Result, Ok, Err, IfOk, refl}
 use Rattle.std.specs.Global.{Vec}
 use Rattle.std.specs.declared.alloc.AllocError.{AllocError}
 use Rattle.std.proofs.Common.{append-nil, append_assoc, ap, sym, ◌∙◌}
 use Rattle.futures_lite.specs.Answers.{Answer, Endless, Pending, Ready, end, items_in}
 use Rattle.futures_lite.specs.Lists.{Fits, Lists, OfItems, Seen, ValueHolds}
-use Rattle.futures_lite.specs.Own.{Hints, Runs, StepsToValue, value_by_steps}
+use Rattle.futures_lite.specs.Own.{Hints, Runs, StepsToValue, future_by_keeping_steps, value_by_steps}
+use Rattle.futures_lite.specs.Futures.{FutureLaws}
 use Rattle.futures_lite.specs.Runs.{StreamLaws}
 use Rattle.example_queue.specs.Transfer.{TransferStep, come}
 use Rattle.example_queue.specs.declared.transfer.Transfer.{Transfer}
@@ -31,7 +32,7 @@ module _ {A : Type 0} where
         fits = λ k g. r.fits k g.1;
       }
 
-module _ {S T : Type 0} {run : Runs (Answer T) S} {hints : Hints S} (laws : StreamLaws run hints) where
+module _ {S T : Type 0} {run : Runs (Answer T) S} {can_poll : S → Type 0} {hints : Hints S} (laws : StreamLaws can_poll run hints) where
   -- If the items of the source are `xs`, a value has those that came before, and then `xs`.
   abbrev HasAll : Transfer S T → Result (Vec T) AllocError → Type 0
   HasAll x r = (xs : List T) → Lists run x.sender.source xs → IfOk r (λ v. v.items ≡ come x ++ xs)
@@ -56,6 +57,13 @@ module _ {S T : Type 0} {run : Runs (Answer T) S} {hints : Hints S} (laws : Stre
       let none : last.rest ≡ [] = last.fits (end ∷ []) fits in
       h.3 ∙ ap (λ l. come x ++ l) (sym (last.is ∙ rw (none, append-nil) refl))
   gives x y (Err e) h xs lists = tt
+
+  -- The laws of a transfer, which may be polled if its source may be, and its queue is open.
+  pub transfer_laws : FutureLaws (λ x. can_poll x.sender.source × (x.queue.is_closed ≡ false))
+      (StepsToValue (TransferStep run))
+  transfer_laws =
+      future_by_keeping_steps (TransferStep run)
+      (λ x y can h. (laws.polls_on x.sender.source y.sender.source h.0 can.0 h.2, h.4))
 
   -- The value of a transfer that was waited for.
   pub transfer_value : {E : Type 0} (x : Transfer S T) → ValueHolds E (StepsToValue (TransferStep run)) x (HasAll x)

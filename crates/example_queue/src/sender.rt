@@ -1,8 +1,8 @@
 //! The task that sends.
 ghost use Rattle.std.specs.Prelude.{◌≡◌, false};
-ghost use Rattle.futures_lite.specs.Contexts.{Keeps};
+ghost use Rattle.futures_lite.specs.Contexts.{Keeps, Registered};
 ghost use Rattle.example_queue.specs.Queue.{Queued};
-ghost use Rattle.example_queue.specs.Tasks.{NextToSend, Sends};
+ghost use Rattle.example_queue.specs.Tasks.{NextToSend, SenderRegisters, Sends};
 
 use crate::queue::Queue;
 use crate::send_error::SendError;
@@ -32,6 +32,7 @@ impl<T: Drop, S: Stream<Item = T>> Sender<S, T> {
         requires open { queue.old.is_closed ≡ false }
         ensures sent { Sends S.run self.old queue.old result self.new queue.new }
         ensures again { S.can_poll self.new.source }
+        ensures registered { Registered result (SenderRegisters S.registers self.new) cx.new }
         ensures context { Keeps cx.old cx.new }
     {
         loop {
@@ -61,6 +62,7 @@ impl<T: Drop, S: Stream<Item = T>> Sender<S, T> {
         requires { S.can_poll self.old.source }
         ensures taken { NextToSend S.run self.old result self.new }
         ensures again { S.can_poll self.new.source }
+        ensures registered { Registered result (S.registers self.new.source) cx.new }
         ensures context { Keeps cx.old cx.new }
     {
         match self.held.take() {

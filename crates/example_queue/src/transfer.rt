@@ -2,9 +2,10 @@
 ghost use Rattle.std.specs.Prelude.{◌≡◌, [], None, false};
 ghost use Rattle.std.specs.declared.alloc.AllocError.{AllocError};
 ghost use Rattle.futures_lite.specs.Contexts.{Keeps};
-ghost use Rattle.futures_lite.specs.Own.{StepsToValue, future_by_steps};
+ghost use Rattle.futures_lite.specs.Own.{StepsToValue};
 ghost use Rattle.example_queue.specs.Queue.{Queued};
 ghost use Rattle.example_queue.specs.Transfer.{ReceivesAll, TransferStep};
+ghost use Rattle.example_queue.specs.TransferLaws.{transfer_laws};
 
 use crate::queue::Queue;
 use crate::receiver::Receiver;
@@ -49,7 +50,7 @@ impl<T: Drop, S: Stream<Item = T>> Future for Transfer<S, T> {
 
     ghost run = { StepsToValue (TransferStep S.run) };
 
-    ghost laws = { future_by_steps (TransferStep S.run) };
+    ghost laws = { transfer_laws S.laws };
 
     fn poll(&mut self, cx: &mut Context<'_>) -> Poll<Result<Vec<T>, AllocError>> {
         match self.sender.poll_send(&mut self.queue, cx) {

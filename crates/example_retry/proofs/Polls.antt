@@ -1,21 +1,12 @@
 -- One poll of a retry's attempt, as a part of a run.
 use Rattle.std.specs.Prelude.{◌≡◌, ◌≤◌, ◌<◌, ◌+◌, ⊤, ℕ, [], ◌∷◌, Option, None, Some, Result, Ok, Err, IfSome, IsSome, refl}
-use Rattle.std.specs.Fn.{Called, Mut}
+use Rattle.std.specs.Fn.{Mut}
 use Rattle.std.proofs.Common.{◌∙◌, ap, inl, inr, subst}
 use Rattle.futures_lite.specs.Answers.{Pending, Poll, Ready}
 use Rattle.futures_lite.specs.Own.{Runs}
-use Rattle.futures_lite.specs.Streams.{MakesAlways}
 use Rattle.example_retry.specs.OnePoll.{PollsAttempt, PollsHeld, attempt_after}
 use Rattle.example_retry.specs.Retry.{AttemptFails, IsAttempt, LeavesAttempt, Retried}
 use Rattle.example_retry.specs.declared.retry.Retry.{Retry}
-
--- what the closure makes has the fact, and the closure makes such values after that too
-pub makes_on : {M X V : Type 0} (call : Mut M X V) (Fact : V → Type 0) (p : M) (x : X) (v : V) (q : M)
-    → MakesAlways call Fact p → Called call p x v q → Fact v × MakesAlways call Fact q
-makes_on call Fact p x v q always called = (
-  always.at [] p q x v refl called,
-  record { at = λ xs r s y w calls last. always.at (x ∷ xs) r s y w (q, (v, called), calls) last },
-)
 
 -- the result is an error only if `P`
 abbrev pub IfFails : {A E : Type 0} → Poll (Result A E) → Type 0 → Type 0

@@ -1,5 +1,5 @@
 -- Laws about the runs of a retry.
-use Rattle.std.specs.Prelude.{◌≡◌, ◌≤◌, List, [], ◌∷◌, ◌++◌, length, Some, Result, Err, refl}
+use Rattle.std.specs.Prelude.{◌≡◌, ◌≤◌, List, [], ◌∷◌, ◌++◌, length, None, Option, Some, Result, Err, refl}
 use Rattle.std.specs.Fn.{Mut}
 use Rattle.std.specs.List.{FoldsTo, flat_map}
 use Rattle.std.proofs.Common.{append-nil, append_assoc, arith, inl, inr, subst, sym, ℕ}
@@ -8,7 +8,9 @@ use Rattle.futures_lite.specs.Futures.{FutureLaws}
 use Rattle.futures_lite.specs.Laws.Answers.{strip_join, waiting_gives, waiting_not_gives, waiting_strip}
 use Rattle.futures_lite.specs.Laws.Answers.{waiting_waiting}
 use Rattle.futures_lite.specs.Own.{Runs}
-use Rattle.example_retry.specs.Retry.{LastAttempt, AttemptFails, IsAttempt, LeavesAttempt, Retried, Retries}
+use Rattle.futures_lite.specs.Streams.{MakesAlways, makes_on}
+use denote.Param.Always.{always_mut, mut_next}
+use Rattle.example_retry.specs.Retry.{LastAttempt, AttemptFails, IsAttempt, LeavesAttempt, MayRetry, Retried, Retries}
 use Rattle.example_retry.specs.declared.retry.Retry.{Retry}
 
 module _ {A : Type 0} where
@@ -51,7 +53,7 @@ module _ {V M A E : Type 0} (call : Mut M (ℕ × Unit {0}) V) {run : Runs (Poll
       rw append_assoc (fails_before f.1 (all_before f.0 y z failed out f.2 h))
 
   -- The attempt of `x` was pending, and is held.
-  module _ (laws : FutureLaws run) (x : Retry V M) (future left : V) (make : M) (ins : List (Poll (Result A E)))
+  module _ {can_poll : V → Type 0} (laws : FutureLaws can_poll run) (x : Retry V M) (future left : V) (make : M) (ins : List (Poll (Result A E)))
       (is : IsAttempt call x future make) (waited : Waiting ins) (polled : run future ins left) where
     -- The retry, with the attempt that it holds now.
     abbrev Held : Retry V M
@@ -127,7 +129,7 @@ module _ {V M A E : Type 0} (call : Mut M (ℕ × Unit {0}) V) {run : Runs (Poll
               joined = rw joined (simp append_assoc);
             }
 
-  module _ (laws : FutureLaws run) where
+  module _ {can_poll : V → Type 0} (laws : FutureLaws can_poll run) where
     retried_follow : (x y z : Retry V M) (l m : List (Poll (Result A E))) → Waiting l → Retried call run x l y
         → Retried call run y m z → Retried call run x (l ++ m) z
     retried_follow x y z l m w h k = by h.last.leaves
@@ -145,13 +147,52 @@ module _ {V M A E : Type 0} (call : Mut M (ℕ × Unit {0}) V) {run : Runs (Poll
             rw (h.joined, append_assoc) (all_before x h.after z h.failed _ h.fails more)
         by (inr gone) = absurd (waiting_not_gives (h.first ∷ h.later) gone.0 waited gone.1)
 
-    pub retry_laws : FutureLaws (Retries call run)
+    -- The attempt that is polled may be, and the closure may be called again.
+    attempt_may : (x : Retry V M) (v : V) (q : M) → MayRetry call (always_mut call) can_poll x → IsAttempt call x v q
+        → always_mut call q × MakesAlways call can_poll q × can_poll v
+    attempt_may x v q may is = by x.attempt refl
+      where
+        by : (held : Option V) → x.attempt ≡ held → always_mut call q × MakesAlways call can_poll q × can_poll v
+        by None e =
+            let called = rw e at is in
+            let made = makes_on call can_poll x.make (x.number, tt) v q may.1 called in
+            (mut_next call x.make (x.number, tt) v q q called refl may.0, made.1, made.0)
+        by (Some held) e = let same = rw e at is in rw (same.0, same.1) (may.0, may.1, rw e at may.2)
+
+    -- What may be polled may be polled again after attempts that failed.
+    fails_may : (x y : Retry V M) (failed : List (List (Poll (Result A E))))
+        → MayRetry call (always_mut call) can_poll x → FoldsTo (AttemptFails call run) x failed y
+        → MayRetry call (always_mut call) can_poll y
+    fails_may x y [] may f = rw (← f) may
+    fails_may x y (pendings ∷ failed) may f =
+        let first = f.1 in
+        let next = attempt_may x first.future first.make may first.is_attempt in
+        fails_may f.0 y failed (rw first.gone (next.0, next.1, tt)) f.2
+
+    retried_may : (x y : Retry V M) (l : List (Poll (Result A E))) → Waiting l
+        → MayRetry call (always_mut call) can_poll x → Retried call run x l y
+        → MayRetry call (always_mut call) can_poll y
+    retried_may x y l w may h = by h.last.leaves
+      where
+        waited : Waiting (h.first ∷ h.later)
+        waited = waiting_back (flat_map (λ pendings. pendings) h.failed) _ (subst Waiting h.joined w)
+
+        by : LeavesAttempt call run h.after h.last.make (h.first ∷ h.later) h.last.left y
+            → MayRetry call (always_mut call) can_poll y
+        by (inl held) =
+            let after = fails_may x h.after h.failed may h.fails in
+            let next = attempt_may h.after h.last.future h.last.make after h.last.is_attempt in
+            rw held.1 (next.0, next.1, laws.waits_on _ _ _ waited next.2 h.last.polled)
+        by (inr gone) = absurd (waiting_not_gives (h.first ∷ h.later) gone.0 waited gone.1)
+
+    pub retry_laws : FutureLaws (MayRetry call (always_mut call) can_poll) (Retries call run)
     retry_laws =
         record {
           rests = λ x. inl (refl, refl);
           stays = stays;
           follows = follows;
           once = once;
+          waits_on = waits_on;
         }
       where
         stays : (x y : Retry V M) → Retries call run x [] y → y ≡ x
@@ -169,3 +210,9 @@ module _ {V M A E : Type 0} (call : Mut M (ℕ × Unit {0}) V) {run : Runs (Poll
         once x y l (inr h) =
             rw (h.joined, stripped call run x h.after h.failed _ h.fails)
             (laws.once h.last.future h.last.left _ h.last.polled)
+
+        waits_on : (x y : Retry V M) (l : List (Poll (Result A E))) → Waiting l
+            → MayRetry call (always_mut call) can_poll x → Retries call run x l y
+            → MayRetry call (always_mut call) can_poll y
+        waits_on x y l w may (inl h) = rw h.1 may
+        waits_on x y l w may (inr h) = retried_may x y l w may h

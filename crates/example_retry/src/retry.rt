@@ -38,7 +38,7 @@ impl<T, E, F: Future<Output = Result<T, E>> + Drop, M: FnMut(u32) -> F> Retry<F,
     }
 
     // Makes the next attempt, if none is held.
-    #[tactic(auto, using(crate::proofs::Polls::makes_on))]
+    #[tactic(auto, using(futures_lite::specs::Streams::makes_on))]
     fn make_attempt(&mut self)
         requires may { MayRetry M.FnMut M.IsAlwaysCallable F.can_poll self.old }
         ensures attempt { IfSome self.new.attempt (λ v. IsAttempt M.FnMut self.old v self.new.make) }

@@ -6,7 +6,11 @@ ghost use Rattle.std.specs.Prelude.{◌≡◌};
 mod twice;
 
 use crate::twice::{read_twice, write_twice};
-use futures_lite::io::{Blanks, Books, Cursor, Journal, history, split_journalled};
+use futures_lite::io::{
+    Blanks, Books, Cursor, Journal, JournalReadHalf, JournalWriteHalf, Takings, Tale, history,
+    split_journalled,
+};
+use futures_lite::{AsyncRead, AsyncWrite};
 use std::alloc::AllocGlobal;
 use std::io::ErrorKind;
 use std::marker::Brand;
@@ -41,14 +45,34 @@ where
     ) else {
         return Err(ErrorKind::OutOfMemory.into());
     };
-    let (read, written) = thread::join(
-        &rt,
-        || read_twice(&rt, &mut reader),
-        || write_twice(&rt, &mut writer),
-    );
+    use_both(&rt, &mut reader, &mut writer)?;
+    tell(&rt, &mut reader, &mut writer)
+}
+
+/// Uses each half in a thread of its own.
+fn use_both<R, A, B>(rt: &R, reader: &mut A, writer: &mut B) -> io::Result<()>
+where
+    R: Threads + Wait + RandomSource + AllocGlobal + Sync,
+    A: AsyncRead + Send,
+    B: AsyncWrite + Send,
+{
+    let (read, written) = thread::join(rt, || read_twice(rt, reader), || write_twice(rt, writer));
     read?;
-    written?;
-    let entries = history(&mut reader, &mut writer)?.entries().len();
+    written
+}
+
+/// What the halves and their history tell.
+fn tell<R, T, B>(
+    rt: &R,
+    reader: &mut JournalReadHalf<R, T, B>,
+    writer: &mut JournalWriteHalf<R, T, B>,
+) -> io::Result<String>
+where
+    R: Wait + AllocGlobal,
+    T: Tale + Takings + Clone,
+    B: Books,
+{
+    let entries = history(reader, writer)?.entries().len();
     let (reads, got) = (reader.calls(), reader.bytes());
     let (writes, taken) = (writer.calls(), writer.bytes());
     Ok(format!(in rt.alloc();

@@ -3,7 +3,7 @@ pub use Rattle.lite_io_base.specs.Runs.{Anything}
 pub use Rattle.lite_theorems.specs.Anything.{AnyAnswers, AnyValue}
 pub use Rattle.lite_theorems.specs.Laws.Anything.{anything_future, anything_reads, anything_stream}
 pub use Rattle.lite_theorems.specs.Laws.Anything.{anything_writes}
-pub use Rattle.lite_theorems.specs.Futures.{StepsToValue, future_by_steps}
+pub use Rattle.lite_theorems.specs.Futures.{StepsToValue, future_by_keeping_steps, future_by_steps}
 pub use Rattle.lite_views.specs.Laws.Steps.{lists_after, lists_as, lists_by_relation, lists_by_steps, value_by_steps}
 pub use Rattle.lite_views.specs.Views.{ItemsAfter}
 pub use Rattle.lite_base.specs.Runs.{Hints, NoHint, Question, Runs}
@@ -12,7 +12,8 @@ pub use Rattle.lite_base.specs.Chain.{NextStep, OneStep, Reaches}
 pub use Rattle.lite_base.specs.Ends.{Terminates}
 pub use Rattle.lite_base.specs.Laws.Ends.{Terminates-count, Terminates-map}
 pub use Rattle.lite_theorems.specs.Streams.{HintsAt, ItemsLower, RankLowers}
-pub use Rattle.lite_theorems.specs.Laws.Streams.{stream_by_steps, stream_counting, stream_hinting, stream_ranking}
+pub use Rattle.lite_theorems.specs.Laws.Streams.{stream_by_keeping_steps, stream_by_steps, stream_counting}
+pub use Rattle.lite_theorems.specs.Laws.Streams.{stream_hinting, stream_ranking}
 -- of readers and writers
 pub use Rattle.lite_io_base.specs.Runs.{MarkLaws}
 pub use Rattle.lite_io_base.specs.Steps.{Steps}

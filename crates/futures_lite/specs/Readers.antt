@@ -12,9 +12,10 @@ pub use Rattle.lite_buffered.specs.Chain
 pub use Rattle.lite_buffered.specs.Repeat
 pub use Rattle.lite_buffered.specs.Take
 pub use Rattle.lite_bridge.specs.Cursor
-pub use Rattle.lite_theorems.specs.BothReaders.{BothRead, HasReadMemory, ReadsUp}
+pub use Rattle.lite_theorems.specs.BothReaders.{BothRead, HasReadMemory, LacksNext, ReadsUp}
 -- what one was told while a call was waited for
-pub use Rattle.lite_theorems.specs.Told.{EndsAtFirst, FillsUp, PieceTold, PieceWithin, EndsShort, ToldFewer, ToldStripped, Without}
+pub use Rattle.lite_theorems.specs.Told.{EndsAtFirst, FillsUp, PieceTold, PieceWithin, EndsShort, ToldFewer, VectorLacksRoom}
+pub use Rattle.lite_theorems.specs.Told.{ToldStripped, Without}
 pub use Rattle.lite_views.specs.OneCall.{ReadsFront}
 pub use Rattle.lite_views.specs.YieldsOn.{EachByte}
 unfoldable pub use Rattle.lite_views.specs.YieldsOn.{YieldsOn}

@@ -1,5 +1,5 @@
 -- Runs: what those of each stream and each reader meet, and when two runs agree.
-pub use Rattle.lite_base.specs.StreamLaws.{RunLaws, StreamLaws}
+pub use Rattle.lite_base.specs.StreamLaws.{PollsOn, RunLaws, StreamLaws}
 pub use Rattle.lite_base.specs.Laws.StreamLaws.{laws_of, runs_of}
 pub use Rattle.lite_base.specs.Alike.{Alike, AlikeBy, Either, MadeOf, OptionBy, Optional, Pairwise, SameAnswer, SameErr}
 pub use Rattle.lite_base.specs.Alike.{SameHeld, SameItem, SameList, SameOk, Sameness}

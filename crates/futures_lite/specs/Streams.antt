@@ -31,6 +31,7 @@ pub use Rattle.lite_reshape.specs.declared.step_by.StepBy.{StepBy}
 pub use Rattle.lite_reshape.specs.Chain.{Chains}
 pub use Rattle.lite_reshape.specs.Cloned.{AlikeCloned, ClonedFrom, ClonesAll, ClonesUnrefused, EqualClones}
 pub use Rattle.lite_base.specs.Calling.{MakesAlways}
+pub use Rattle.lite_base.specs.Laws.Promises.{makes_on}
 pub use Rattle.lite_reshape.specs.FlatMap.{FlatMaps}
 pub use Rattle.lite_reshape.specs.Flatten.{Flattens}
 pub use Rattle.lite_reshape.specs.Then.{Thens}
@@ -39,7 +40,7 @@ pub use Rattle.lite_reshape.specs.declared.cloned.Cloned.{Cloned}
 pub use Rattle.lite_reshape.specs.declared.flat_map.FlatMap.{FlatMap}
 pub use Rattle.lite_reshape.specs.declared.flatten.Flatten.{Flatten}
 pub use Rattle.lite_reshape.specs.declared.then.Then.{Then}
-pub use Rattle.lite_merge.specs.Budgeted.{Budgets}
+pub use Rattle.lite_merge.specs.Budgeted.{Budgets, RegistersLeft}
 pub use Rattle.lite_merge.specs.Or.{Ors}
 pub use Rattle.lite_merge.specs.Race.{Races}
 pub use Rattle.lite_merge.specs.Zip.{Zips}

@@ -88,7 +88,7 @@ pub use Rattle.lite_views.proofs.Once.{once_at_once, once_fronts, once_lists}
 pub use Rattle.lite_views.proofs.OnceFuture.{once_future_lists}
 pub use Rattle.lite_views.proofs.Partition.{accepted_made, others_made}
 pub use Rattle.lite_views.proofs.Picking.{or_at_once, or_picked, polled_at_once, polled_returned, race_picked, try_at_once, try_both, try_fails_at_once, try_first_fails}
-pub use Rattle.lite_views.proofs.Picking.{try_second_fails}
+pub use Rattle.lite_views.proofs.Picking.{try_second_fails, zip_both}
 pub use Rattle.lite_views.proofs.Pieces.{pieces_listed}
 pub use Rattle.lite_views.proofs.PollFn.{polled_on}
 pub use Rattle.lite_views.proofs.Position.{position_left, position_made}
@@ -113,7 +113,7 @@ pub use Rattle.lite_views.proofs.WriteAll.{accepted_left, written_left}
 pub use Rattle.lite_views.specs.Acting.{ActsAsOnState}
 pub use Rattle.lite_views.specs.Answering.{HasOk, HasValueAs, PickedValue, ReturnedBy}
 unfoldable pub use Rattle.lite_views.specs.Answering.{AtOnce, NeverReady}
-pub use Rattle.lite_views.specs.Futures.{CountRuns, FindRuns, FoldRuns, LastRuns, NthRuns, RestIfFound, TryFoldRuns, TryZipRuns, behind_match}
+pub use Rattle.lite_views.specs.Futures.{CountRuns, FindRuns, FoldRuns, LastRuns, NthRuns, RestIfFound, TryFoldRuns, TryZipRuns, ZipRuns, behind_match}
 pub use Rattle.lite_views.specs.Iterators.{GivesAll}
 pub use Rattle.lite_views.specs.Lists.{map_while, scan, step_from}
 pub use Rattle.lite_views.specs.OkLists.{AllTaken, OkListsAs}

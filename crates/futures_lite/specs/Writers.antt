@@ -3,8 +3,8 @@ pub use Rattle.lite_io_base.specs.Grows.{Grows}
 pub use Rattle.lite_io_base.specs.Stored.{Arrives, Stored, Stores, unstored}
 pub use Rattle.lite_io_base.specs.SteadyWrite.{CalmWriteLaws, EndsFlushed, NoError, NoPendingWrite, SteadyWriteLaws}
 pub use Rattle.lite_buffered.specs.BufWriter
-pub use Rattle.lite_theorems.specs.BothWriters.{BothWritten, FailsBy, FailsWith, FlushedUp, HandedUp, TakesFront}
-pub use Rattle.lite_theorems.specs.BothWriters.{WrittenUp}
+pub use Rattle.lite_theorems.specs.BothWriters.{BothWritten, FailsAfter, FailsBy, FailsWith, FlushedOnce, FlushedUp, HandedUp}
+pub use Rattle.lite_theorems.specs.BothWriters.{OnlyWrites, TakesFront, WritesAndFlushes, WrittenUp}
 pub use Rattle.lite_views.specs.Accepts.{AllAccepted}
 unfoldable pub use Rattle.lite_views.specs.Accepts.{AcceptsAll}
 pub use Rattle.lite_views.specs.OneCall.{ArrivesAll, WritesFront}

@@ -2,12 +2,12 @@
 ghost use Rattle.std.specs.Prelude.{◌≡◌, Err, IfOk, List, Ok, OnErr, Result, Some};
 ghost use Rattle.futures_lite.specs.Uses.{Poll, Gives, Finishes, try_pair, Asked, LeftAs, LeftSeen, HasValue, Seen, ValueIs, Waited};
 ghost use Rattle.futures_lite.specs.Uses.{AllocError, Called, Context, MutBor, ReturnedBy, ValueHolds};
-ghost use Rattle.futures_lite.specs.Uses.{AtOnce, HasOk, HasValueAs, NeverReady, PickedValue, TryZipRuns};
+ghost use Rattle.futures_lite.specs.Uses.{AtOnce, HasOk, HasValueAs, NeverReady, PickedValue, TryZipRuns, ZipRuns};
 
 pub use lite_base::Future;
 pub use lite_base::future::block_on::BlockOn;
 use lite_base::future::make;
-pub use lite_base::future::make::{fuse, poll_once, yield_now, zip};
+pub use lite_base::future::make::{fuse, poll_once, yield_now};
 pub use lite_base::future::{
     Budgeted, Either, Exhausted, Fuse, Or, Pending, PollFn, PollOnce, Race, Ready, TryZip, Waits,
     YieldNow, Zip,
@@ -245,6 +245,46 @@ where
     ensures picked { PickedValue F1.run future1 F2.run future2 ⟦<Race<F1, F2, Pcg32> as Future>⟧.run result }
 {
     race(future1, future2, Pcg32::seed_from_u64(seed))
+}
+
+/// Returns a future that resolves to the pair of both values, once both futures are ready. Do not poll it after
+/// that.
+///
+/// Each poll polls each future that is not ready yet once, the first before the second. A future is dropped
+/// when its value is there. The values have to be `Drop`. The result is a `Future` only if both futures are
+/// `Drop`, too.
+///
+/// The contract says that the value is the pair of the two values.
+///
+/// # Examples
+///
+/// ```
+/// use futures_lite::future;
+///
+/// fn both<R>(rt: &R) -> Result<(u8, u8), AllocError>
+/// where
+///     R: Wait + RandomSource + AllocGlobal,
+///     ensures { IfOk result (λ v. v ≡ (1, 2)) }
+/// {
+///     future::block_on(rt, future::zip(future::ready(1), future::ready(2)))
+/// }
+///
+/// assert_eq!(rt; both(&rt)?, (1, 2));
+///
+/// let mut later = future::zip(future::yield_now(), future::ready(2u8));
+/// assert_eq!(rt; future::block_on(&rt, future::poll_once(&mut later))?, None);
+/// assert_eq!(rt; future::block_on(&rt, later)?, ((), 2));
+/// ```
+pub fn zip<F1, F2>(future1: F1, future2: F2) -> Zip<F1, F2>
+where
+    F1: Future<Output: Drop>,
+    F2: Future<Output: Drop>,
+    ensures first { result.first ≡ Asked future1 }
+    ensures second { result.second ≡ Asked future2 }
+    ensures both { (a : F1.Output) (b : F2.Output) → HasValue F1.run future1 a → HasValue F2.run future2 b
+        → HasValueAs (ZipRuns F1.run F2.run) result (a, b) }
+{
+    make::zip(future1, future2)
 }
 
 /// Returns a future that resolves to the pair of both values, or to the first error.

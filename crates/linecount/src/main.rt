@@ -1,8 +1,8 @@
 //! `linecount` prints how many lines standard input has.
 #![tactic(auto)]
 
-use futures_lite::io::{AssertAsync, BufReader};
-use futures_lite::{AsyncBufReadExt, AsyncReadExt, StreamExt, future};
+use futures_lite::io::{AssertAsync, BufReader, CountedRead};
+use futures_lite::{AsyncBufRead, AsyncBufReadExt, AsyncReadExt, StreamExt, future};
 use std::alloc::AllocGlobal;
 use std::io;
 use std::io::ErrorKind;
@@ -35,10 +35,20 @@ where
     let Ok(reader) = BufReader::new(host.alloc(), input) else {
         return Err(ErrorKind::OutOfMemory.into());
     };
-    let mut lines = reader.lines(host.alloc()).with_budget(LINES);
+    let count = count_lines(rt, reader)?;
+    println!(host; "{count}")
+}
+
+/// Counts the lines of a reader.
+fn count_lines<R, T>(rt: &R, reader: T) -> io::Result<u64>
+where
+    R: Wait + RandomSource + AllocGlobal,
+    T: AsyncBufRead + CountedRead + Drop,
+    requires counts { T.ranks.counts reader }
+{
+    let mut lines = reader.lines(rt.alloc()).with_budget(LINES);
     let counted = lines.try_fold(0u64, |count: u64, _line: String| {
         Ok::<u64, io::Error>(count.saturating_add(1))
     });
-    let count = future::block_on(rt, counted)??;
-    println!(host; "{count}")
+    future::block_on(rt, counted)?
 }

@@ -6,7 +6,7 @@ use Rattle.std.specs.Prelude.{◌≡◌, List}
 use Rattle.lite_base.specs.Uses.{Poll}
 use Rattle.lite_base.specs.Alike.{AlikeBy, SameAnswer, SameItem, Sameness}
 use Rattle.lite_base.specs.Answers.{Answer}
-use Rattle.lite_base.specs.FutureLaws.{FutureLaws}
+use Rattle.lite_base.specs.FutureLaws.{FutureRunLaws}
 use Rattle.lite_base.specs.StreamLaws.{RunLaws}
 use Rattle.lite_base.specs.Runs.{Runs}
 
@@ -44,7 +44,7 @@ SteadyLaws = SteadyLawsBy Sameness.equal
 -- are the same in them, and every run is ample if no poll needs memory.
 pub record FutureSteadyLawsBy {F A : Type 0} (same : Sameness A) (run ample : Runs (Poll A) F) (needs_none : Type 0)
     (alike : F → F → Type 0) : Type 0 where
-  pub laws : FutureLaws ample
+  pub laws : FutureRunLaws ample
   pub steady : SteadinessBy (SameItem same) ample alike
   pub found : needs_none → TakesNone run ample
 

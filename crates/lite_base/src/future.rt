@@ -124,5 +124,5 @@ pub trait Future {
         ensures registered { Registered result (registers self.new) cx.new }
         ensures context { Keeps cx.old cx.new };
 
-    ghost laws: { FutureLaws run };
+    ghost laws: { FutureLaws can_poll run };
 }

@@ -19,7 +19,7 @@ impl<T: AsyncBufRead> Future for Filling<'_, T> {
 
     ghost registers = { λ x. T.registers x.io.now };
 
-    ghost laws = { polled_laws (FillsLent T.reads T.lent) };
+    ghost laws = { polled_laws (FillsLent T.reads T.lent) (λ x y c h. tt) };
 
     fn poll(&mut self, cx: &mut Context<'_>) -> Poll<io::Result<()>> {
         fill(self.io, cx)

@@ -1,6 +1,6 @@
 -- `with_budget` of a reader: it returns a `Pending` of its own after so many bytes and errors in a row.
-use Rattle.std.specs.Prelude.{◌≡◌, ℕ, ◌-◌, List, [], ◌∷◌, Option, Some, None, take, ⊤, Result}
-use Rattle.lite_buffered.specs.Uses.{ErrorKind, SeekFrom, Poll, Paces, Ranks, Runs, ReadMark, WriteMark}
+use Rattle.std.specs.Prelude.{◌≡◌, ℕ, zero, suc, ◌-◌, List, [], ◌∷◌, Option, Some, None, take, ⊤, Result}
+use Rattle.lite_buffered.specs.Uses.{HoldsWoken, Lasting, ErrorKind, SeekFrom, Poll, Paces, Ranks, Runs, ReadMark, WriteMark}
 use Rattle.lite_buffered.specs.declared.budgeted.Budgeted.{Budgeted}
 
 -- The reader that is read.
@@ -20,8 +20,28 @@ left_noted budget (Some n) = n
 abbrev pub left_of : {R : Type 0} → Budgeted R → ℕ
 left_of x = left_noted x.budget x.left
 
--- The bytes that `fill_buf` may return: at most as many as the budget that is noted. After a `Pending` none is noted,
--- and no byte is returned.
+-- What a `Pending` has registered, by the rest of the budget that is noted after it and by what the inner reader
+-- registers. If no rest is noted, the task is woken.
+abbrev pub RegistersNoted : Option ℕ → (Lasting → Type 0) → Lasting → Type 0
+RegistersNoted None inner = HoldsWoken
+RegistersNoted (Some n) inner = inner
+
+-- The rest of its budget that a reader has noted: none after a `Pending` of its own.
+abbrev pub noted_of : {R : Type 0} → Budgeted R → Option ℕ
+noted_of x = x.left
+
+-- What a `Pending` of a reader with a budget has registered, from what its inner reader registers.
+abbrev pub BudgetRegisters : {R : Type 0} → (R → Lasting → Type 0) → Budgeted R → Lasting → Type 0
+BudgetRegisters registers x = RegistersNoted (noted_of x) (registers x.reader)
+
+-- What a `Pending` has registered, by how much of the budget was left before it and by what the inner reader registers.
+-- If nothing was left, the `Pending` is the budget's own, and the task is woken. Otherwise it is the inner reader's.
+abbrev pub RegistersRest : ℕ → (Lasting → Type 0) → Lasting → Type 0
+RegistersRest zero inner = HoldsWoken
+RegistersRest (suc n) inner = inner
+
+-- The bytes that `fill_buf` may return: at most as many as the budget that is noted. After a `Pending` of the budget
+-- none is noted, and no byte is returned.
 abbrev pub lent_noted : Option ℕ → List ℕ → List ℕ
 lent_noted None bytes = []
 lent_noted (Some n) bytes = take n bytes

@@ -22,8 +22,8 @@ use std::io::{IoSlice, SeekFrom};
 pub struct Budgeted<R> {
     reader: R,
     budget: usize,
-    // How many bytes and errors may come before it returns `Pending` by itself. `None` after a `Pending`: the
-    // budget is whole, and the buffer shown is empty.
+    // How many bytes and errors may come before it returns `Pending` by itself. `None` after that `Pending`:
+    // the budget is whole, and the buffer shown is empty.
     left: Option<usize>,
 }
 
@@ -144,22 +144,25 @@ impl<R: Takings> Takings for Budgeted<R> {
 }
 
 impl<R: AsyncRead> AsyncRead for Budgeted<R> {
-    ghost use Rattle.lite_buffered.specs.Budgeted.{BudgetsMarks, budgeted_inner, left_of};
+    ghost use Rattle.lite_buffered.specs.Budgeted.{BudgetRegisters, BudgetsMarks, RegistersRest, budgeted_inner, left_of};
 
-    ghost registers = { λ x fact. R.registers (budgeted_inner x) fact × HoldsWoken fact };
+    ghost registers = { BudgetRegisters R.registers };
 
     fn poll_read(&mut self, cx: &mut Context<'_>, buf: &mut [u8]) -> Poll<io::Result<usize>>
         ensures bound { IfReady result (λ r. IfOk r (λ n. n ≤ length buf.new)) }
         ensures ran { BudgetsMarks R.reads self.old (read_marks result buf.new) self.new }
-        ensures registered { Registered result (λ fact. R.registers (budgeted_inner self.new) fact × HoldsWoken fact) cx.new }
+        ensures registered { Registered result (BudgetRegisters R.registers self.new) cx.new }
         ensures context { Keeps cx.old cx.new }
 
         // Without room nothing is polled.
         ensures idle { length buf.old ≡ 0 → (result ≡ Poll.Ready (Ok 0)) × (self.new ≡ self.old) }
 
-        // If the budget is used up, the inner reader is not polled.
+        // At the inner reader's `Pending` all is registered that the reader registers.
+        ensures registered_by { Registered result (RegistersRest (left_of self.old) (R.registers (budgeted_inner self.new))) cx.new }
+
+        // If the budget is used up, the inner reader is not polled, and the task is woken.
         ensures pauses { 0 < length buf.old → left_of self.old ≡ 0
-            → (result ≡ Poll.Pending) × (budgeted_inner self.new ≡ budgeted_inner self.old) }
+            → (result ≡ Poll.Pending) × (budgeted_inner self.new ≡ budgeted_inner self.old) × Registered result HoldsWoken cx.new }
     {
         if buf.is_empty() {
             return Poll::Ready(Ok(0));
@@ -173,14 +176,14 @@ impl<R: AsyncRead> AsyncRead for Budgeted<R> {
         self.left = match &polled {
             Poll::Ready(Ok(n)) => Some(left - *n),
             Poll::Ready(Err(_)) => Some(left - 1),
-            Poll::Pending => None,
+            Poll::Pending => Some(self.budget),
         };
         polled
     }
 }
 
 impl<R: AsyncBufRead> Budgeted<R> {
-    ghost use Rattle.lite_buffered.specs.Budgeted.{BudgetsMarks, budgeted_inner, budgeted_lent};
+    ghost use Rattle.lite_buffered.specs.Budgeted.{BudgetRegisters, BudgetsMarks, RegistersRest, budgeted_inner, budgeted_lent, left_of};
 
     fn show(&self) -> &[u8]
         ensures { result.now ≡ budgeted_lent R.lent self.now }
@@ -197,8 +200,9 @@ impl<R: AsyncBufRead> Budgeted<R> {
     fn fill(&mut self, cx: &mut Context<'_>) -> Poll<io::Result<()>>
         ensures ran { BudgetsMarks R.reads self.old (fill_marks result (budgeted_lent R.lent self.new)) self.new }
         ensures lends { OnlyOkLends result (budgeted_lent R.lent self.new) }
-        ensures registered { Registered result (λ fact. R.registers (budgeted_inner self.new) fact × HoldsWoken fact) cx.new }
+        ensures registered { Registered result (BudgetRegisters R.registers self.new) cx.new }
         ensures context { Keeps cx.old cx.new }
+        ensures registered_by { Registered result (RegistersRest (left_of self.old) (R.registers (budgeted_inner self.new))) cx.new }
     {
         let allowed = self.allowed();
         if allowed == 0 {
@@ -208,7 +212,7 @@ impl<R: AsyncBufRead> Budgeted<R> {
         self.left = match &polled {
             Poll::Ready(Ok(())) => Some(allowed),
             Poll::Ready(Err(_)) => Some(allowed - 1),
-            Poll::Pending => None,
+            Poll::Pending => Some(self.budget),
         };
         polled
     }

@@ -1,9 +1,9 @@
 //! The stream of the values of a reader.
 ghost use Rattle.std.specs.Prelude.{⊤, ◌≡◌, ◌≤◌, ◌<◌, ◌↔◌, IsTrue, ◌++◌, ◌∷◌, ◌-◌, ◌==◌, [], IfOk, length, take};
-ghost use Rattle.lite_codec.specs.Uses.{IfReady, Keeps, NoHint, OneStep, Registered, TakesPieceIn, Terminates-map, bytes, fill_marks, flow_laws, takes_given};
+ghost use Rattle.lite_codec.specs.Uses.{IfReady, Keeps, NoHint, OneStep, Registered, TakesPieceIn, Terminates-map, bytes, fill_marks, takes_given};
 ghost use Rattle.lite_codec.specs.Codec.{DecodedAs};
 ghost use Rattle.lite_codec.specs.Values.{AtLast, AtValue, Decodes, HeldAfter, decoding, values_over};
-ghost use Rattle.lite_codec.specs.Laws.Values.{value_goes_on};
+ghost use Rattle.lite_codec.specs.Laws.Values.{value_goes_on, values_laws};
 
 use crate::codec::{Codec, Decoded};
 use crate::error::DecodeError;
@@ -156,7 +156,7 @@ impl<R: AsyncBufRead + CountedRead, C: Codec> Stream for Values<R, C> {
 
     ghost hints = { NoHint };
 
-    ghost laws = { flow_laws values_over (λ c. decoding (C.encodes c) (C.refuses c) ⊤) R.read_laws };
+    ghost laws = { values_laws C.codec_laws R.read_laws R.counting };
 
     fn poll_next(&mut self, cx: &mut Context<'_>) -> Poll<Option<Self::Item>> {
         drive(self, cx)

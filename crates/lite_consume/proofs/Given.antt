@@ -1,6 +1,6 @@
 -- What is given of a part, and of a stream that is lent.
-use Rattle.std.specs.Prelude.{Result, Ok, Err, IfOk, List, [], ◌∷◌}
-use Rattle.lite_consume.specs.Uses.{FoldsTo, Poll, MutBor, Answer, Gives, Lent, Runs, items_in}
+use Rattle.std.specs.Prelude.{Result, Ok, Err, IfOk, IsOk, List, [], ◌∷◌}
+use Rattle.lite_consume.specs.Uses.{FoldsTo, Poll, MutBor, Answer, Gives, Hints, Lent, Runs, StreamLaws, items_in}
 use Rattle.lite_consume.specs.Consume.{Folds}
 use Rattle.lite_consume.specs.Consuming.{Consumes, Fold, TakesIn, fold_of}
 use Rattle.lite_consume.specs.Laws.Agreeing.{within_itself}
@@ -77,3 +77,10 @@ module _ {S M A R : Type 0} (run : Runs (Answer A) S) (fold : Fold M A R) where
   lent_each can_take s p h = record {
     at = λ ins x t q came asked. h.at ins x t.now q.now came.0 (asked_of now fold p q (items_in ins) asked);
   }
+
+-- the stream that is left may be polled again
+pub given_on : {S M A R E : Type 0} {can_poll : S → Type 0} {run : Runs (Answer A) S} {hints : Hints S} (fold : Fold M A R)
+    → StreamLaws can_poll run hints → (s t : S) (p : M) (r : Result R E) → IsOk r → can_poll s
+    → IfOk r (λ v. BlockGives fold run s p v t) → can_poll t
+given_on fold laws s t p (Ok v) k c h = laws.polls_on s t h.3.ins c h.3.came
+given_on fold laws s t p (Err e) k c h = absurd (cc k)

@@ -59,6 +59,7 @@ impl<R: Wait + RandomSource + AllocGlobal, S: Stream> BlockOn<R, S> {
         requires open { F.is_open folder }
         requires asks { MayTakeEach S.run F.fold F.can_take self.old.stream folder }
         ensures gave { IfOk result (λ value. BlockGives F.fold S.run self.old.stream folder value self.new.stream) }
+        ensures again { S.can_poll self.new.stream }
         ensures unchanged { OnErr result (self.new.stream ≡ self.old.stream) }
         ensures first { OnErr result (NeverWaited self.old) }
         ensures used { OnOk result (NeverWaited self.new → ⊥) }
@@ -89,6 +90,7 @@ impl<R: Wait + RandomSource + AllocGlobal, S: Stream> BlockOn<R, S> {
     pub fn next(&mut self) -> Result<Option<S::Item>, AllocError>
         requires polls { S.can_poll self.old.stream }
         ensures gave { IfOk result (λ value. BlockGives nexts S.run self.old.stream nothing value self.new.stream) }
+        ensures again { S.can_poll self.new.stream }
         ensures unchanged { OnErr result (self.new.stream ≡ self.old.stream) }
         ensures first { OnErr result (NeverWaited self.old) }
         ensures used { OnOk result (NeverWaited self.new → ⊥) }
@@ -117,6 +119,7 @@ impl<R: Wait + RandomSource + AllocGlobal, S: Stream> BlockOn<R, S> {
         S: Stream<Item: Drop>,
         requires polls { S.can_poll self.old.stream }
         ensures gave { IfOk result (λ value. BlockGives nths S.run self.old.stream n value self.new.stream) }
+        ensures again { S.can_poll self.new.stream }
         ensures unchanged { OnErr result (self.new.stream ≡ self.old.stream) }
         ensures first { OnErr result (NeverWaited self.old) }
         ensures used { OnOk result (NeverWaited self.new → ⊥) }
@@ -269,6 +272,7 @@ impl<R: Wait + RandomSource + AllocGlobal, S: Stream> BlockOn<R, S> {
         requires asks { MayTakeEach S.run (alls (Calls P.FnMut)) (MayCall P.FnMut) self.old.stream predicate }
         ensures gave { IfOk result
             (λ value. BlockGives (alls (Calls P.FnMut)) S.run self.old.stream predicate value self.new.stream) }
+        ensures again { S.can_poll self.new.stream }
         ensures unchanged { OnErr result (self.new.stream ≡ self.old.stream) }
         ensures first { OnErr result (NeverWaited self.old) }
         ensures used { OnOk result (NeverWaited self.new → ⊥) }
@@ -302,6 +306,7 @@ impl<R: Wait + RandomSource + AllocGlobal, S: Stream> BlockOn<R, S> {
         requires asks { MayTakeEach S.run (anys (Calls P.FnMut)) (MayCall P.FnMut) self.old.stream predicate }
         ensures gave { IfOk result
             (λ value. BlockGives (anys (Calls P.FnMut)) S.run self.old.stream predicate value self.new.stream) }
+        ensures again { S.can_poll self.new.stream }
         ensures unchanged { OnErr result (self.new.stream ≡ self.old.stream) }
         ensures first { OnErr result (NeverWaited self.old) }
         ensures used { OnOk result (NeverWaited self.new → ⊥) }
@@ -336,6 +341,7 @@ impl<R: Wait + RandomSource + AllocGlobal, S: Stream> BlockOn<R, S> {
         requires asks { MayTakeEach S.run (finds (CalledAt P.FnMut)) (TakesAt P.FnMut) self.old.stream predicate }
         ensures gave { IfOk result
             (λ value. BlockGives (finds (CalledAt P.FnMut)) S.run self.old.stream predicate value self.new.stream) }
+        ensures again { S.can_poll self.new.stream }
         ensures unchanged { OnErr result (self.new.stream ≡ self.old.stream) }
         ensures first { OnErr result (NeverWaited self.old) }
         ensures used { OnOk result (NeverWaited self.new → ⊥) }
@@ -370,6 +376,7 @@ impl<R: Wait + RandomSource + AllocGlobal, S: Stream> BlockOn<R, S> {
         requires asks { MayTakeEach S.run (finds_map (Calls F.FnMut)) (MayCall F.FnMut) self.old.stream f }
         ensures gave { IfOk result
             (λ value. BlockGives (finds_map (Calls F.FnMut)) S.run self.old.stream f value self.new.stream) }
+        ensures again { S.can_poll self.new.stream }
         ensures unchanged { OnErr result (self.new.stream ≡ self.old.stream) }
         ensures first { OnErr result (NeverWaited self.old) }
         ensures used { OnOk result (NeverWaited self.new → ⊥) }
@@ -406,6 +413,7 @@ impl<R: Wait + RandomSource + AllocGlobal, S: Stream> BlockOn<R, S> {
         ensures gave { IfOk result
             (λ value. BlockGives (positions (Calls P.FnMut)) S.run self.old.stream
             (predicate, 0) value self.new.stream) }
+        ensures again { S.can_poll self.new.stream }
         ensures unchanged { OnErr result (self.new.stream ≡ self.old.stream) }
         ensures first { OnErr result (NeverWaited self.old) }
         ensures used { OnOk result (NeverWaited self.new → ⊥) }

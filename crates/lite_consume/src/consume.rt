@@ -1,4 +1,4 @@
-ghost use Rattle.lite_consume.specs.Uses.{Terminates-map, runs_of};
+ghost use Rattle.lite_consume.specs.Uses.{Terminates-map};
 ghost use Rattle.lite_consume.specs.Consume.{CanFold, ConsumePollStep, Folds};
 ghost use Rattle.lite_consume.specs.Laws.Consuming.{consumed_laws};
 
@@ -61,7 +61,7 @@ impl<S: Stream, F: Folder<S>> Future for Consume<S, F> {
 
     ghost registers = { λ m. S.registers m.stream };
 
-    ghost laws = { consumed_laws F.fold (runs_of S.laws) };
+    ghost laws = { consumed_laws F.returns S.laws };
 
     fn poll(&mut self, cx: &mut Context<'_>) -> Poll<F::Output> {
         drive(self, cx)

@@ -1,6 +1,6 @@
 -- `with_budget`: the stream returns a `Pending` of its own after a number of items in a row.
-use Rattle.std.specs.Prelude.{ℕ, ⊤, [], ◌∷◌}
-use Rattle.lite_merge.specs.Uses.{Pending, Answer, Paces, left_behind, Ranks, Runs, AdapterParts, Through, parts_of}
+use Rattle.std.specs.Prelude.{ℕ, zero, suc, ⊤, [], ◌∷◌}
+use Rattle.lite_merge.specs.Uses.{HoldsWoken, Lasting, Pending, Answer, Paces, left_behind, Ranks, Runs, AdapterParts, Through, parts_of}
 use Rattle.lite_merge.specs.declared.budgeted.Budgeted.{Budgeted}
 
 -- The source's results, with one more `Pending` whenever the budget of items in a row is used up. After each `Pending`
@@ -17,3 +17,9 @@ budget_parts =
 -- The rank is what is left of the budget. It counts at each value. It is never firm, because a `Pending` raises it.
 abbrev pub budget_ranks : {S : Type 0} → Ranks (Budgeted S)
 budget_ranks = record { width = 1; rank = λ m. m.left ∷ []; counts = λ _. ⊤; firm = λ _. ⊥ }
+
+-- What a `Pending` has registered, if so much of the budget was left before it and the source registers `source`. If
+-- nothing was left, the `Pending` is the stream's own, and the task is woken. Otherwise it is the source's.
+abbrev pub RegistersLeft : ℕ → (Lasting → Type 0) → Lasting → Type 0
+RegistersLeft zero source = HoldsWoken
+RegistersLeft (suc n) source = source

@@ -7,7 +7,7 @@ pub use Rattle.lite_base.specs.Answers.{Answer, ComparableBy, Endless, Waiting, 
 pub use Rattle.lite_base.specs.Calm.{CalmLaws, NoPending, waits}
 pub use Rattle.lite_base.specs.Future.Finishes.{Finishes}
 pub use Rattle.lite_base.specs.Future.Race.{Words, is_first}
-pub use Rattle.lite_base.specs.FutureLaws.{FutureLaws}
+pub use Rattle.lite_base.specs.FutureLaws.{FutureLaws, FutureRunLaws}
 pub use Rattle.lite_base.specs.Laws.Alike.{both_items, comparable_nil, ends_same, held_same, item_same, pairs_same, same_answer}
 pub use Rattle.lite_base.specs.Laws.All.{all_append}
 pub use Rattle.lite_base.specs.Laws.Answers.{waiting_waiting}
@@ -16,6 +16,7 @@ pub use Rattle.lite_base.specs.Laws.Calm.{calm_both, no_pending_front, no_pendin
 pub use Rattle.lite_base.specs.Laws.Endless.{endless_join}
 pub use Rattle.lite_base.specs.Laws.Falling.{AtMost-both, AtMost-length, Below-after, Below-first, Lowers-at_most, Lowers-below}
 pub use Rattle.lite_base.specs.Laws.Future.Finishes.{finishes_later}
+pub use Rattle.lite_base.specs.Laws.FutureLaws.{future_runs_of}
 pub use Rattle.lite_base.specs.Laws.Hint.{same_hint}
 pub use Rattle.lite_base.specs.Laws.Items.{IsItem, items_each}
 pub use Rattle.lite_base.specs.Laws.Lent.{lent_counting, lent_laws}
@@ -32,19 +33,19 @@ pub use Rattle.lite_base.specs.Registered.{Registered}
 pub use Rattle.lite_base.specs.Rows.{Rows}
 pub use Rattle.lite_base.specs.Runs.{Hints, NoHint, Runs}
 pub use Rattle.lite_base.specs.Steady.{SteadyLawsBy}
-pub use Rattle.lite_base.specs.StreamLaws.{RunLaws, StreamLaws}
+pub use Rattle.lite_base.specs.StreamLaws.{PollsOn, RunLaws, StreamLaws}
 pub use Rattle.lite_base.specs.Woken.{HoldsWoken}
 pub use Rattle.lite_stream.specs.Fuse.{AllEnds, Fuses, fuse_parts}
 pub use Rattle.lite_stream.specs.Laws.Agreeing.{through_alike}
 pub use Rattle.lite_stream.specs.Laws.Calming.{Calming, calm_two, through_calm}
 pub use Rattle.lite_stream.specs.Laws.Fuse.{fuses_calming, fuses_relating}
 pub use Rattle.lite_stream.specs.Laws.Held.{held_falls, held_first, held_less, held_level, held_sized}
-pub use Rattle.lite_stream.specs.Laws.Through.{Relating, laws_capped, laws_hinted, laws_unhinted, through_counting, through_runs}
+pub use Rattle.lite_stream.specs.Laws.Through.{Relating, laws_capped, laws_hinted, laws_unhinted, through_counting, through_on, through_runs}
 pub use Rattle.lite_stream.specs.Relates.{Relates}
 pub use Rattle.lite_stream.specs.Through.{AdapterParts, Through, parts_of}
 pub use Rattle.lite_stream.specs.declared.fuse.Fuse.{Fuse}
 pub use Rattle.rand_core.specs.Stream.{Stream, next_u32}
-pub use Rattle.std.proofs.Common.{ap, append-nil, append_assoc, arith, inl, inr, length-append, refl, sym, ◌∙◌}
+pub use Rattle.std.proofs.Common.{ap, append-nil, append_assoc, arith, inl, inr, length-append, refl, subst, sym, ◌∙◌}
 pub use Rattle.std.proofs.lemmas.List.{map-append}
 pub use Rattle.std.specs.Borrow.{Lends, sem}
 pub use Rattle.std.specs.List.{AllByRecursion}

@@ -1,5 +1,6 @@
-ghost use Rattle.lite_merge.specs.Uses.{HoldsWoken, laws_hinted};
-ghost use Rattle.lite_merge.specs.Budgeted.{Budgets, budget_parts, budget_ranks};
+ghost use Rattle.std.specs.Prelude.{◌∷◌, []};
+ghost use Rattle.lite_merge.specs.Uses.{HoldsWoken, Keeps, Registered, laws_hinted, through_on};
+ghost use Rattle.lite_merge.specs.Budgeted.{RegistersLeft, Budgets, budget_parts, budget_ranks};
 ghost use Rattle.lite_merge.specs.Laws.Budgeted.{budget_counting, paces_relating};
 
 use lite_base::{Context, Counted, Poll, Stream};
@@ -29,9 +30,18 @@ impl<S: Stream> Stream for Budgeted<S> {
 
     ghost hints = { λ m. S.hints m.stream };
 
-    ghost laws = { laws_hinted budget_parts S.laws paces_relating };
+    ghost laws = { laws_hinted budget_parts S.laws paces_relating (through_on budget_parts S.laws) };
 
-    fn poll_next(&mut self, cx: &mut Context<'_>) -> Poll<Option<S::Item>> {
+    fn poll_next(&mut self, cx: &mut Context<'_>) -> Poll<Option<S::Item>>
+        requires { S.can_poll self.old.stream }
+        ensures ran { Budgets S.run self.old (result ∷ []) self.new }
+        ensures again { S.can_poll self.new.stream }
+        ensures registered { Registered result (λ fact. S.registers self.new.stream fact × HoldsWoken fact) cx.new }
+        ensures context { Keeps cx.old cx.new }
+
+        // Its own `Pending` wakes the task. At its source's `Pending` all is registered that the source registers.
+        ensures registered_by { Registered result (RegistersLeft self.old.left (S.registers self.new.stream)) cx.new }
+    {
         if self.left == 0 {
             self.left = self.budget;
             return cx.yield_now();

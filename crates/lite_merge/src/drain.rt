@@ -1,5 +1,5 @@
 ghost use Rattle.std.specs.Prelude.{◌≡◌, ℕ, Option};
-ghost use Rattle.lite_merge.specs.Uses.{Lends, sem, lent_counting, lent_laws, ranks_of, laws_capped, through_counting};
+ghost use Rattle.lite_merge.specs.Uses.{Lends, laws_capped, lent_counting, lent_laws, ranks_of, sem, through_counting, through_on};
 ghost use Rattle.lite_merge.specs.Drain.{Drains, drain_parts};
 ghost use Rattle.lite_merge.specs.Laws.Drain.{drained_relating};
 
@@ -106,7 +106,8 @@ impl<'a, S: Stream> Stream for Drain<'a, S> {
 
     ghost hints = { λ m hint. (inner : ℕ × Option ℕ) × S.hints m.stream.now inner × (hint ≡ (0, inner.1)) };
 
-    ghost laws = { laws_capped drain_parts (lent_laws S.laws) drained_relating };
+    ghost laws = { laws_capped drain_parts (lent_laws S.laws) drained_relating
+        (through_on drain_parts (lent_laws S.laws)) };
 
     fn poll_next(&mut self, cx: &mut Context<'_>) -> Poll<Option<S::Item>> {
         match self.stream.poll_next(cx) {

@@ -153,14 +153,14 @@ module _ {R A : Type 0} (m : Type 0) (reads : Runs ReadMark R) where
 
 module _ {R A : Type 0} {reads : Runs ReadMark R} (x y : ReadToEndFuture R A) where
   -- a value
-  pub gives_value : {v : Result ℕ Error} → AnswersUntrimmed (ToEndLacksRoom x.filled x y) reads x (Ready v) y
+  pub gives_value : {v : Result ℕ Error} → y.filled ≤ length y.buf.now.items → AnswersUntrimmed (ToEndLacksRoom x.filled y.filled x) reads x (Ready v) y
       → AnswersByRoom reads x (Ready v) y
-  gives_value h = record { gathered = h; grows = λ w. absurd w }
+  gives_value within h = (record { gathered = h; grows = λ w. absurd w }, within)
 
   -- a pending
-  pub gives_pending : ToEndGrows x y → AnswersUntrimmed (ToEndLacksRoom x.filled x y) reads x Pending y
+  pub gives_pending : ToEndGrows x y → AnswersUntrimmed (ToEndLacksRoom x.filled y.filled x) reads x Pending y
       → AnswersByRoom reads x Pending y
-  gives_pending grows h = record { gathered = h; grows = λ w. grows }
+  gives_pending grows h = (record { gathered = h; grows = λ w. grows }, grows.within)
 
 -- room was made, and nothing was read into it
 pub room_made : {R A : Type 0} (x w : ReadToEndFuture R A) (r : R) (old new : List ℕ)
@@ -179,8 +179,8 @@ room_made {R} {A} x w r old new same within is long grows =
 
 module _ {R A : Type 0} where
   -- where there was no room after a step that goes on there was none before
-  lacks_sooner : (x y z : ReadToEndFuture R A) → ToEndGrows x y → ToEndLacksRoom y.filled y z
-      → ToEndLacksRoom x.filled x z
+  lacks_sooner : (x y z : ReadToEndFuture R A) → ToEndGrows x y → ToEndLacksRoom y.filled z.filled y
+      → ToEndLacksRoom x.filled z.filled x
   lacks_sooner x y z h full = (
     full.0 + (y.filled - x.filled),
     omega (arith, h.filled, full.1),
@@ -203,15 +203,18 @@ module _ {R A : Type 0} where
       → AnswersByRoom reads x a z
   to_end_full {reads} laws =
       steps_answer {answers = AnswersByRoom reads} (λ x y z a t h.
-      let m = ToEndLacksRoom y.filled y z in
-      let n = ToEndLacksRoom x.filled x z in
-      record {
-        gathered =
-            step_before n laws x y z a (takes_alike (λ v p q b h. h) x y t)
-            (gathers_weaker (λ v. appends_weaker v.start (λ g. m) (λ g. n) (λ g. lacks_sooner x y z t.stays.1))
-            y z (a ∷ []) h.gathered);
-        grows = λ w. grows_join x y z t.stays.1 (h.grows w);
-      })
+      let m = ToEndLacksRoom y.filled z.filled y in
+      let n = ToEndLacksRoom x.filled z.filled x in
+      let ran = h.0 in (
+        record {
+          gathered =
+              step_before n laws x y z a (takes_alike (λ v p q b h. h) x y t)
+              (gathers_weaker (λ v. appends_weaker v.start (λ g. m) (λ g. n) (λ g. lacks_sooner x y z t.stays.1))
+              y z (a ∷ []) ran.gathered);
+          grows = λ w. grows_join x y z t.stays.1 (ran.grows w);
+        },
+        h.1,
+      ))
 
 -- the vector after a poll that was pending, behind which the room is cut off
 pub vector_grows : {R A : Type 0} (x z : ReadToEndFuture R A) (n : ℕ) (v : Vec ℕ A) → n ≡ length x.buf.now.items

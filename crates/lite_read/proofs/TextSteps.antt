@@ -82,7 +82,7 @@ module _ {X R A : Type 0} (over : TextOver X R A) (fold : (List ℕ → Type 0) 
   -- a pending
   pub text_pending : (x y : X) → over.grows x y → AnswersText over (fold (lacks x y)) reads x Pending y
       → AnswersTextByRoom over fold lacks reads x Pending y
-  text_pending x y grows h = (record { gathered = h.0; grows = λ w. grows }, h.1)
+  text_pending x y grows h = (record { gathered = h.0; grows = λ w. (grows, λ k. h.1) }, h.1)
 
   -- an answer after some steps
   pub text_ran : TextRoom over fold lacks → MarkLaws reads → {x z : X} {a : Poll (Result ℕ Error)}
@@ -94,7 +94,7 @@ module _ {X R A : Type 0} (over : TextOver X R A) (fold : (List ℕ → Type 0) 
       step_before over (fold (lacks x z)) laws x y z a
       (takes_alike (λ v. r.alike.takes (λ read. ⊤) (lacks x z)) x y t)
       (text_weaker_run r.alike (lacks y z) (lacks x z) (r.sooner x y z t.stays.3) y z (a ∷ []) h.0.gathered, h.1) in
-      (record { gathered = ran.0; grows = λ w. r.join x y z t.stays.3 (h.0.grows w) }, ran.1))
+      (record { gathered = ran.0; grows = λ w. (r.join x y z t.stays.3 (h.0.grows w).0, λ k. ran.1) }, ran.1))
 
   -- after a pending the future can be polled again
   pub text_on : {r : Ranks R} → ReadCounting reads r → (x z : X) (a : Poll (Result ℕ Error))

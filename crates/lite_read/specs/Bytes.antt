@@ -1,6 +1,6 @@
 -- The `bytes` stream: each mark of its reader becomes one poll result.
-use Rattle.std.specs.Prelude.{◌≡◌, ℕ, List, [], ◌∷◌, ⊤, Some, None, Result, Ok, Err}
-use Rattle.lite_read.specs.Uses.{error_kind, Error, Interrupted, Ready, Pending, Answer, Runs, ReadMark}
+use Rattle.std.specs.Prelude.{◌≡◌, ◌⊎◌, ℕ, List, [], ◌∷◌, ⊤, Some, None, Result, Ok, Err}
+use Rattle.lite_read.specs.Uses.{error_kind, Error, Interrupted, Context, Holds, HoldsWoken, Lasting, Ready, Pending, Answer, Runs, ReadMark}
 use Rattle.lite_read.specs.declared.bytes.Bytes.{Bytes}
 
 -- The poll result that one mark of the reader becomes. A byte is an item, end of file is the end of the stream, and
@@ -27,3 +27,10 @@ pub record TellsBytes {R : Type 0} (reads : Runs ReadMark R) (x : Bytes R) (out 
   pub came : reads x.inner marks y.inner
   pub told : TellsEach marks out
   pub idle : out ≡ [] → y ≡ x
+
+-- Why a poll returned `Pending`, and what the context `cx` holds then. The reader returned `Pending`, and what it
+-- registers is there. Or the reader was interrupted, and the task is woken.
+abbrev pub BytesPend : {R : Type 0} → Runs ReadMark R → (R → Lasting → Type 0) → R → R → Context → Type 0
+BytesPend reads registers x y cx =
+    (reads x (ReadMark.pending ∷ []) y × ((fact : Lasting) → registers y fact → Holds cx fact))
+    ⊎ (reads x (ReadMark.fault Interrupted ∷ []) y × ((fact : Lasting) → HoldsWoken fact → Holds cx fact))

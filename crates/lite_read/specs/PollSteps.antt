@@ -1,6 +1,6 @@
 -- The steps within one poll of a future that reads: those that do not yet return, and how a poll of `read_to_end`
 -- returns.
-use Rattle.std.specs.Prelude.{◌<◌, ℕ, List, [], ◌∷◌, length, Result}
+use Rattle.std.specs.Prelude.{◌≤◌, ◌<◌, ℕ, List, [], ◌∷◌, length, Result}
 use Rattle.lite_read.specs.Uses.{FoldsTo, Error, Poll, ReadMark, bytes, Runs}
 use Rattle.lite_read.specs.Appending as appending
 use Rattle.lite_read.specs.Appending.{read_front}
@@ -40,8 +40,9 @@ module _ {R A : Type 0} (may_refuse : Type 0) (reads : Runs ReadMark R) where
       Gathers (λ x. x.reader.now) read_front (λ x. appends may_refuse x.start) appending.ToEndStays reads x (a ∷ [])
 
 module _ {R A : Type 0} (reads : Runs ReadMark R) where
-  -- Like `AnswersUntrimmed`, and an allocation fails only if the vector lacked room (`ToEndLacksRoom`).
+  -- Like `AnswersUntrimmed`, and an allocation fails only if the vector lacked room (`ToEndLacksRoom`). The bytes read
+  -- are within the vector.
   abbrev pub AnswersByRoom : ReadToEndFuture R A → Poll (Result ℕ Error) → ReadToEndFuture R A → Type 0
-  AnswersByRoom x a =
-      GathersByRoom (λ x. x.reader.now) read_front (λ x y v. appends (ToEndLacksRoom x.filled x y) v.start)
-      appending.ToEndStays appending.ToEndGrows reads x (a ∷ [])
+  AnswersByRoom x a y =
+      GathersByRoom (λ x. x.reader.now) read_front (λ x y v. appends (ToEndLacksRoom x.filled y.filled x) v.start)
+      appending.ToEndStays appending.ToEndGrows reads x (a ∷ []) y × (y.filled ≤ length y.buf.now.items)

@@ -33,11 +33,9 @@ appends may_refuse = appends_where (λ g. may_refuse)
 abbrev pub next_read : ℕ → ℕ → ℕ
 next_read room n = max 32 (max room (2 * n))
 
--- The vector of `x` is too small for the bytes that `y`'s vector is filled with, of which `from` were there before, and
--- for the next read.
-abbrev pub ToEndLacksRoom : {R A : Type 0} → ℕ → ReadToEndFuture R A → ReadToEndFuture R A → Type 0
-ToEndLacksRoom from x y =
-    (n : ℕ) × (y.filled ≡ from + n) × (vec_capacity x.buf.now < y.filled + next_read x.room n)
+-- The vector of `x` held `from` bytes, and is too small for `to` bytes and for the next read.
+abbrev pub ToEndLacksRoom : {R A : Type 0} → ℕ → ℕ → ReadToEndFuture R A → Type 0
+ToEndLacksRoom from to x = (n : ℕ) × (to ≡ from + n) × (vec_capacity x.buf.now < to + next_read x.room n)
 
 module _ {R A : Type 0} (may_refuse : Type 0) (reads : Runs ReadMark R) where
   -- The run of `read_to_end`: the reader's marks are gathered into its vector. An allocation may fail if `may_refuse`
@@ -47,8 +45,10 @@ module _ {R A : Type 0} (may_refuse : Type 0) (reads : Runs ReadMark R) where
       Gathers (λ x. x.reader.now) (λ x. x.buf.now.items) (λ x. appends may_refuse x.start) ToEndStays reads
 
 module _ {R A : Type 0} (reads : Runs ReadMark R) where
-  -- The run of `read_to_end`, in which an allocation fails only if the vector lacked room (`ToEndLacksRoom`).
+  -- The run of `read_to_end`, in which an allocation fails only if the vector lacked room (`ToEndLacksRoom`) for the
+  -- bytes that are in it now and for the next read.
   abbrev pub ReadsToEndByRoom : Runs (Poll (Result ℕ Error)) (ReadToEndFuture R A)
   ReadsToEndByRoom =
       GathersByRoom (λ x. x.reader.now) (λ x. x.buf.now.items)
-      (λ x y v. appends (ToEndLacksRoom (length x.buf.now.items) x y) v.start) ToEndStays VectorGrows reads
+      (λ x y v. appends (ToEndLacksRoom (length x.buf.now.items) (length y.buf.now.items) x) v.start) ToEndStays
+      VectorGrows reads

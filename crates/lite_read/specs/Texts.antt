@@ -40,13 +40,17 @@ module _ {X R A : Type 0} (over : TextOver X R A) where
   abbrev pub ReadsText : ReadFold (List ℕ) (Result ℕ Error) → Runs ReadMark R → Runs (Poll (Result ℕ Error)) X
   ReadsText fold = Gathers (λ x. (over.reader x).now) reading (λ x. in_text fold) (TextStays over)
 
+  -- From `x` to `y` the memory does not shrink, and what is true before each poll stays true.
+  abbrev pub TextGrows : X → X → Type 0
+  TextGrows x y = over.grows x y × (over.holds x → over.holds y)
+
   -- The run of a future that reads into its text, in which an allocation fails only if `lacks` is true of both values
   -- of the run and of the bytes read.
   abbrev pub ReadsTextByRoom : ((List ℕ → Type 0) → ReadFold (List ℕ) (Result ℕ Error)) → (X → X → List ℕ → Type 0)
       → Runs ReadMark R → Runs (Poll (Result ℕ Error)) X
   ReadsTextByRoom fold lacks =
       GathersByRoom (λ x. (over.reader x).now) reading (λ x y v. in_text (fold (lacks x y))) (TextStays over)
-      over.grows
+      TextGrows
 
   -- The future `x` ends with the value `r`, and leaves `y`. `v` is the value of reading the bytes. They are appended to
   -- the text if they are UTF-8, and the future holds none afterwards. Both references stay.

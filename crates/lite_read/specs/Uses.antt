@@ -1,14 +1,15 @@
 -- What this crate's files take from other crates. The prelude, and a name that two modules have, are imported from where they are.
 pub use Rattle.futures.specs.Poll.{IfReady, OnPending}
-pub use Rattle.futures.specs.Task.{Keeps}
+pub use Rattle.futures.specs.Task.{Holds, Keeps, Lasting}
 pub use Rattle.futures.specs.declared.task.Poll.{Poll}
 pub use Rattle.futures.specs.declared.task.Poll.TheVariants.{Pending, Ready}
+pub use Rattle.futures.specs.declared.task.context.Context.{Context}
 pub use Rattle.lite_base.specs.Alike.{OptionBy, Sameness}
 pub use Rattle.lite_base.specs.Answers.{Answer, Comparable, ComparableBy, UpToValue, Waiting, item, items, strip}
 pub use Rattle.lite_base.specs.Calm.{CalmLaws, CalmRuns, NoPending}
 pub use Rattle.lite_base.specs.Chain.{OneStep, Reaches}
 pub use Rattle.lite_base.specs.Ends.{Terminates}
-pub use Rattle.lite_base.specs.FutureLaws.{FutureLaws}
+pub use Rattle.lite_base.specs.FutureLaws.{FutureLaws, FutureRunLaws, WaitsOn}
 pub use Rattle.lite_base.specs.Laws.Alike.{comparable_nil}
 pub use Rattle.lite_base.specs.Laws.Answers.{up_to_once, up_to_one, waiting_up_to}
 pub use Rattle.lite_base.specs.Laws.Calls.{folds_follow}
@@ -16,6 +17,7 @@ pub use Rattle.lite_base.specs.Laws.Calm.{calm_part}
 pub use Rattle.lite_base.specs.Laws.Chain.{Reaches-back}
 pub use Rattle.lite_base.specs.Laws.Ends.{Terminates-count, Terminates-map}
 pub use Rattle.lite_base.specs.Laws.Falling.{Lowers-below}
+pub use Rattle.lite_base.specs.Laws.FutureLaws.{future_laws_of}
 pub use Rattle.lite_base.specs.Laws.Hint.{same_hint}
 pub use Rattle.lite_base.specs.Laws.OkRanks.{ok_counting}
 pub use Rattle.lite_base.specs.Laws.Segments.{segment_alone, segment_before, segment_front, segment_gives, segments_before, segments_join, segments_map}
@@ -28,7 +30,7 @@ pub use Rattle.lite_base.specs.Registered.{Registered}
 pub use Rattle.lite_base.specs.Runs.{NoHint, Question, Runs}
 pub use Rattle.lite_base.specs.Segments.{Segment, Segments, SegmentsToValue}
 pub use Rattle.lite_base.specs.Steady.{FutureSteadyLawsBy, SteadyLawsBy, TakesNone}
-pub use Rattle.lite_base.specs.StreamLaws.{StreamLaws}
+pub use Rattle.lite_base.specs.StreamLaws.{PollsOn, RunLaws, StreamLaws}
 pub use Rattle.lite_base.specs.Woken.{HoldsWoken}
 pub use Rattle.lite_io_base.specs.Counting.{ReadCounting}
 pub use Rattle.lite_io_base.specs.Falls.{Falls}

@@ -1,6 +1,6 @@
-ghost use Rattle.std.specs.Prelude.{None};
-ghost use Rattle.lite_read.specs.Uses.{ranks_of, NoHint, idle_laws, Idle, HoldsWoken};
-ghost use Rattle.lite_read.specs.Bytes.{TellsBytes};
+ghost use Rattle.std.specs.Prelude.{None, ◌∷◌, [], ⊤};
+ghost use Rattle.lite_read.specs.Uses.{ranks_of, NoHint, idle_laws, Idle, HoldsWoken, Keeps, OnPending, Registered};
+ghost use Rattle.lite_read.specs.Bytes.{BytesPend, TellsBytes};
 ghost use Rattle.lite_read.specs.Laws.Bytes.{bytes_counting, bytes_laws, inner_counting, inner_laws};
 
 use lite_base::{Context, Counted, OkCounted, Poll, Stream};
@@ -30,7 +30,15 @@ impl<R: AsyncRead> Stream for Bytes<R> {
 
     ghost laws = { bytes_laws R.read_laws };
 
-    fn poll_next(&mut self, cx: &mut Context<'_>) -> Poll<Option<io::Result<u8>>> {
+    fn poll_next(&mut self, cx: &mut Context<'_>) -> Poll<Option<io::Result<u8>>>
+        ensures ran { TellsBytes R.reads self.old (result ∷ []) self.new }
+        ensures again { ⊤ }
+        ensures registered { Registered result (λ fact. R.registers self.new.inner fact × HoldsWoken fact) cx.new }
+        ensures context { Keeps cx.old cx.new }
+
+        // An interruption wakes the task. At its reader's `Pending` all is registered that the reader registers.
+        ensures registered_by { OnPending result (BytesPend R.reads R.registers self.old.inner self.new.inner cx.new) }
+    {
         let mut byte = [0];
         match self.inner.poll_read(cx, &mut byte) {
             Poll::Ready(Ok(0)) => Poll::Ready(None),

@@ -1,4 +1,4 @@
-ghost use Rattle.std.specs.Prelude.{◌≡◌, IsSome, IfSome};
+ghost use Rattle.std.specs.Prelude.{◌≡◌, IsSome, IfSome, refl};
 ghost use Rattle.lite_read.specs.FillBuf.{FillsOnce};
 ghost use Rattle.lite_read.specs.Laws.Polled.{polled_laws};
 ghost use Rattle.lite_read.specs.Polled.{PolledByCalls};
@@ -28,7 +28,7 @@ impl<'a, R: AsyncBufRead> Future for FillBuf<'a, R> {
 
     ghost registers = { λ x fact. IfSome x.reader (λ r. R.registers r.now fact) };
 
-    ghost laws = { polled_laws (FillsOnce R.reads R.lent) };
+    ghost laws = { polled_laws (FillsOnce R.reads R.lent) (λ x y c h. rw h.after refl) };
 
     fn poll(&mut self, cx: &mut Context<'_>) -> Poll<io::Result<&'a [u8]>> {
         let Some(reader) = self.reader.take() else {

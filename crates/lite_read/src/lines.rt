@@ -1,7 +1,7 @@
 ghost use Rattle.std.specs.Prelude.{⊤, ◌≡◌, ◌≤◌, ◌<◌, ◌++◌, ◌+◌, [], ◌∷◌, None, length, take, vec_capacity, IfErr, IfOk};
 ghost use Rattle.lite_read.specs.Uses.{is_ascii, error_kind, list_all, OutOfMemory, OneStep, Terminates-map, NoHint, bytes, Keeps, Registered};
 ghost use Rattle.lite_read.specs.Laws.PollSteps.{takes_given};
-ghost use Rattle.lite_read.specs.Laws.Segments.{flow_laws};
+ghost use Rattle.lite_read.specs.Laws.Segments.{flow_counting_laws};
 ghost use Rattle.lite_read.specs.Lines.{GivesLines, LineLacksRoom, lines_over, lining};
 ghost use Rattle.lite_read.specs.PieceSteps.{TakesPieceIn};
 
@@ -116,7 +116,7 @@ impl<R: AsyncBufRead + CountedRead> Stream for Lines<R> {
 
     ghost hints = { NoHint };
 
-    ghost laws = { flow_laws lines_over (lining ⊤) R.read_laws };
+    ghost laws = { flow_counting_laws lines_over (lining ⊤) R.read_laws R.counting };
 
     fn poll_next(&mut self, cx: &mut Context<'_>) -> Poll<Option<io::Result<String>>>
         requires { R.ranks.counts self.old.reader }

@@ -23,7 +23,7 @@ impl<R: AsyncRead> Future for ReadFuture<'_, R> {
 
     ghost registers = { λ x. R.registers x.reader.now };
 
-    ghost laws = { polled_laws (Reads R.reads) };
+    ghost laws = { polled_laws (Reads R.reads) (λ x y c h. tt) };
 
     fn poll(&mut self, cx: &mut Context<'_>) -> Poll<io::Result<usize>> {
         self.reader.poll_read(cx, self.buf)

@@ -178,7 +178,7 @@ impl<R: AsyncBufRead + CountedRead, A: Allocator + Copy> Future for ReadLineFutu
 
     ghost registers = { λ x. R.registers x.reader.now };
 
-    ghost laws = { text_room_laws (line_room R.lent) R.read_laws };
+    ghost laws = { text_room_laws (line_room R.lent) R.read_laws R.counting };
 
     fn poll(&mut self, cx: &mut Context<'_>) -> Poll<io::Result<usize>> {
         drive(self, cx)

@@ -93,7 +93,7 @@ impl<R: CountedRead, A: Allocator> Future for ReadToEndFuture<'_, R, A> {
 
     ghost registers = { λ x. R.registers x.reader.now };
 
-    ghost laws = { to_end_room_laws R.read_laws };
+    ghost laws = { to_end_room_laws R.read_laws R.counting };
 
     fn poll(&mut self, cx: &mut Context<'_>) -> Poll<io::Result<usize>> {
         self.filled = self.buf.len();

@@ -115,7 +115,7 @@ impl<R: CountedRead, A: Allocator + Copy> Future for ReadToStringFuture<'_, R, A
 
     ghost registers = { λ x. R.registers x.reader.now };
 
-    ghost laws = { text_room_laws string_room R.read_laws };
+    ghost laws = { text_room_laws string_room R.read_laws R.counting };
 
     fn poll(&mut self, cx: &mut Context<'_>) -> Poll<io::Result<usize>> {
         drive(self, cx)

@@ -71,7 +71,7 @@ impl<R: AsyncBufRead + CountedRead> Future for ReadUntilFuture<'_, R> {
 
     ghost registers = { λ x. R.registers x.reader.now };
 
-    ghost laws = { until_room_laws R.lent R.read_laws };
+    ghost laws = { until_room_laws R.lent R.read_laws R.counting };
 
     fn poll(&mut self, cx: &mut Context<'_>) -> Poll<io::Result<usize>> {
         drive(self, cx)

@@ -1,4 +1,4 @@
-ghost use Rattle.std.specs.Prelude.{IsSome};
+ghost use Rattle.std.specs.Prelude.{IsSome, refl};
 ghost use Rattle.lite_read.specs.Laws.Polled.{polled_laws};
 ghost use Rattle.lite_read.specs.Polled.{PolledByCalls};
 ghost use Rattle.lite_read.specs.ReadVectored.{ReadsVectored};
@@ -29,7 +29,7 @@ impl<R: AsyncRead> Future for ReadVectoredFuture<'_, '_, R> {
 
     ghost registers = { λ x. R.registers x.reader.now };
 
-    ghost laws = { polled_laws (ReadsVectored R.reads) };
+    ghost laws = { polled_laws (ReadsVectored R.reads) (λ x y c h. rw h.stays refl) };
 
     fn poll(&mut self, cx: &mut Context<'_>) -> Poll<io::Result<usize>> {
         let Some(bufs) = self.bufs.take() else {

@@ -24,7 +24,7 @@ impl<S: AsyncSeek> Future for SeekFuture<'_, S> {
 
     ghost registers = { λ x. S.seek_registers x.seeker.now };
 
-    ghost laws = { polled_laws (Seeks S.seeks) };
+    ghost laws = { polled_laws (Seeks S.seeks) (λ x y c h. tt) };
 
     fn poll(&mut self, cx: &mut Context<'_>) -> Poll<io::Result<u64>> {
         self.seeker.poll_seek(cx, self.pos)

@@ -1,7 +1,7 @@
 ghost use Rattle.std.specs.Prelude.{⊤, ◌≡◌, ◌≤◌, ◌<◌, ◌++◌, ◌+◌, Option, None, [], ◌∷◌, length, take, vec_capacity, IfErr, IfOk};
 ghost use Rattle.lite_read.specs.Uses.{error_kind, OutOfMemory, OneStep, Terminates-map, NoHint, bytes, Keeps, Registered};
 ghost use Rattle.lite_read.specs.Laws.PollSteps.{takes_given};
-ghost use Rattle.lite_read.specs.Laws.Segments.{flow_laws};
+ghost use Rattle.lite_read.specs.Laws.Segments.{flow_counting_laws};
 ghost use Rattle.lite_read.specs.Pieces.{AtEnd};
 ghost use Rattle.lite_read.specs.Split.{IsVec, PieceLacksRoom, Splits, split_over, splitting};
 ghost use Rattle.lite_read.specs.PieceSteps.{TakesPieceIn};
@@ -124,7 +124,7 @@ impl<R: AsyncBufRead + CountedRead> Stream for Split<R> {
 
     ghost hints = { NoHint };
 
-    ghost laws = { flow_laws split_over (splitting ⊤) R.read_laws };
+    ghost laws = { flow_counting_laws split_over (splitting ⊤) R.read_laws R.counting };
 
     fn poll_next(&mut self, cx: &mut Context<'_>) -> Poll<Option<io::Result<Vec<u8>>>>
         requires { R.ranks.counts self.old.reader }

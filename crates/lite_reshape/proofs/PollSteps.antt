@@ -40,7 +40,7 @@ module _ {S F A B : Type 0} (call : Question F A (Option B)) (run : Runs (Answer
 
 -- after a step that asked about an item another may be made
 pub steps_on : {S F A O : Type 0} {run : Runs (Answer A) S} {call : Question F A O} {P : F → A → Type 0}
-    {hints : Hints S} {r : Ranks S} {s t : S} {f g : F} {x : A} {o : O} → StreamLaws run hints → Counting run r
+    {can_poll : S → Type 0} {hints : Hints S} {r : Ranks S} {s t : S} {f g : F} {x : A} {o : O} → StreamLaws can_poll run hints → Counting run r
     → {Q R : Type 0}
     → Q × r.counts s × AtEachItem run call P s f → run s (item x ∷ []) t → call f x o g → R
     → R × r.counts t × AtEachItem run call P t g

@@ -11,7 +11,7 @@ pub use Rattle.lite_base.specs.Ends.{Terminates}
 pub use Rattle.lite_base.specs.Falling.{ItemRun}
 pub use Rattle.lite_base.specs.Future.Handed.{handed}
 pub use Rattle.lite_base.specs.Future.Spent.{Spends}
-pub use Rattle.lite_base.specs.FutureLaws.{FutureLaws}
+pub use Rattle.lite_base.specs.FutureLaws.{FutureLaws, FutureRunLaws}
 pub use Rattle.lite_base.specs.Laws.Alike.{alike_agrees, answer_items, both_items, comparable_as, comparable_nil, either_first, either_second, ends_same}
 pub use Rattle.lite_base.specs.Laws.Alike.{gives_strip, item_answers, same_answer}
 pub use Rattle.lite_base.specs.Laws.All.{all_any, all_append, all_split}
@@ -24,6 +24,7 @@ pub use Rattle.lite_base.specs.Laws.Ends.{Terminates-count, Terminates-map}
 pub use Rattle.lite_base.specs.Laws.Falling.{AtMost-both, AtMost-length, Below-after, Below-first, Below-then, Lowers-at_most, Lowers-below, waiting_lowers}
 pub use Rattle.lite_base.specs.Laws.Future.Handed.{handed_no_pending, handed_waiting}
 pub use Rattle.lite_base.specs.Laws.Future.Spent.{shown_gives, spends_follow, spends_found, spends_rest, spends_stay}
+pub use Rattle.lite_base.specs.Laws.FutureLaws.{future_runs_of}
 pub use Rattle.lite_base.specs.Laws.Hint.{same_hint}
 pub use Rattle.lite_base.specs.Laws.Items.{IsItem, OfItem, each_items, each_of, first_item, items_each}
 pub use Rattle.lite_base.specs.Laws.OkRanks.{ok_counting}
@@ -38,18 +39,18 @@ pub use Rattle.lite_base.specs.Registered.{Registered}
 pub use Rattle.lite_base.specs.Runs.{Hints, NoHint, Question, Runs}
 pub use Rattle.lite_base.specs.Segments.{OneAnswer, Segment, Segments}
 pub use Rattle.lite_base.specs.Steady.{FutureSteadyLawsBy, SteadinessBy, SteadyLawsBy, TakesNone}
-pub use Rattle.lite_base.specs.StreamLaws.{RunLaws, StreamLaws}
+pub use Rattle.lite_base.specs.StreamLaws.{PollsOn, RunLaws, StreamLaws}
 pub use Rattle.lite_stream.specs.Cutting.{Cuts}
-pub use Rattle.lite_stream.specs.EachItem.{AtEachItem, MayCallEach, MayShowEach}
+pub use Rattle.lite_stream.specs.EachItem.{AtEachItem, MayCallEach, MayShowEach, items_in}
 pub use Rattle.lite_stream.specs.Laws.Agreeing.{AgreeingOver, through_alike, through_steady_by, through_steady_over}
 pub use Rattle.lite_stream.specs.Laws.Calming.{Calming, calm_two, through_calm}
 pub use Rattle.lite_stream.specs.Laws.Cutting.{CutsStripped, cut_same, cuts_calming, cuts_relating, cuts_steps, cuts_stripped}
-pub use Rattle.lite_stream.specs.Laws.EachItem.{each_asked, each_end, each_here}
+pub use Rattle.lite_stream.specs.Laws.EachItem.{each_along, each_asked, each_end, each_here}
 pub use Rattle.lite_stream.specs.Laws.Held.{held_falls, held_first, held_less, held_level, held_sized}
 pub use Rattle.lite_stream.specs.Laws.Lower.{at_most_below, lowers_after, lowers_at_most}
 pub use Rattle.lite_stream.specs.Laws.Placed.{AlikeInPlace, Placed, PlacedFrom, placed_agreeing, placed_from_same}
-pub use Rattle.lite_stream.specs.Laws.Pointwise.{exchanges_steps, replaces_agreeing, replaces_answering, replaces_calming, replaces_relating}
-pub use Rattle.lite_stream.specs.Laws.Through.{AlsoBefore, Entails, Following, Relating, bounded_by, laws_bounded, laws_capped, laws_following, laws_hinted}
+pub use Rattle.lite_stream.specs.Laws.Pointwise.{asks_always, asks_testing, exchanges_on, exchanges_steps, replaces_agreeing, replaces_answering, replaces_calming, replaces_relating}
+pub use Rattle.lite_stream.specs.Laws.Through.{AlsoBefore, Entails, Following, Relating, bounded_by, laws_bounded, laws_capped, laws_following, laws_hinted, through_on}
 pub use Rattle.lite_stream.specs.Laws.Through.{laws_unhinted, through_counting, through_runs}
 pub use Rattle.lite_stream.specs.Map.{Maps, map_parts}
 pub use Rattle.lite_stream.specs.Pointwise.{Replaces}
@@ -61,5 +62,5 @@ pub use Rattle.std.proofs.Math.Nat.{add-mod-mod, mod-add-mod, mod-eq_of_lt, mod_
 pub use Rattle.std.proofs.lemmas.Fn.{called_at}
 pub use Rattle.std.proofs.lemmas.List.{length-replicate}
 pub use Rattle.std.specs.Fn.{Called, CalledAt, Mut, TakesAt}
-pub use Rattle.std.specs.List.{AllByRecursion}
+pub use Rattle.std.specs.List.{AllByRecursion, FoldsTo}
 pub use denote.Ref.{Bor}

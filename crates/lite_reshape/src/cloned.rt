@@ -1,5 +1,5 @@
 ghost use Rattle.std.specs.Prelude.{[], ◌∷◌, None};
-ghost use Rattle.lite_reshape.specs.Uses.{NoHint};
+ghost use Rattle.lite_reshape.specs.Uses.{NoHint, through_on};
 ghost use Rattle.lite_reshape.specs.Cloned.{Clones, ClonesAll, cloned_parts};
 ghost use Rattle.lite_reshape.specs.Laws.Cloned.{cloned_laws, cloned_ok_counting};
 ghost use Rattle.lite_reshape.specs.Laws.Expanding.{held_ranks};

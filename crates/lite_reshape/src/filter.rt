@@ -1,8 +1,8 @@
 ghost use Rattle.std.specs.Prelude.{Option, ℕ, ◌≡◌, []};
-ghost use Rattle.lite_reshape.specs.Uses.{ranks_of, CalledAt, Terminates-map, MayShowEach, Accepts, laws_capped, through_counting};
+ghost use Rattle.lite_reshape.specs.Uses.{asks_testing, ranks_of, CalledAt, Terminates-map, MayShowEach, Accepts, laws_capped, through_counting};
 ghost use Rattle.lite_reshape.specs.Filter.{CanFilter, Filters, filter_parts};
 ghost use Rattle.lite_reshape.specs.Leaving.{Sifts};
-ghost use Rattle.lite_reshape.specs.Laws.Leaving.{leaves_relating};
+ghost use Rattle.lite_reshape.specs.Laws.Leaving.{leaves_on, leaves_relating};
 
 use lite_base::{Context, Counted, Poll, PollSteps, Stream, drive};
 
@@ -57,7 +57,8 @@ impl<S: Counted<Item: Drop>, P: FnMut(&S::Item) -> bool> Stream for Filter<S, P>
 
     ghost hints = { λ m hint. (inner : ℕ × Option ℕ) × S.hints m.stream inner × (hint ≡ (0, inner.1)) };
 
-    ghost laws = { laws_capped filter_parts S.laws (leaves_relating (Accepts (CalledAt P.FnMut))) };
+    ghost laws = { laws_capped filter_parts S.laws (leaves_relating (Accepts (CalledAt P.FnMut)))
+        (leaves_on _ (CalledAt P.FnMut) (asks_testing _) filter_parts S.laws S.counting) };
 
     fn poll_next(&mut self, cx: &mut Context<'_>) -> Poll<Option<S::Item>> {
         drive(self, cx)

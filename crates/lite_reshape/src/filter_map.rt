@@ -2,7 +2,7 @@ ghost use Rattle.std.specs.Prelude.{[], None};
 ghost use Rattle.lite_reshape.specs.Uses.{ranks_of, Terminates-map, MayCallEach, Calls, NoHint, laws_unhinted, through_counting};
 ghost use Rattle.lite_reshape.specs.FilterMap.{CanFilterMap, FilterMaps, filter_map_parts};
 ghost use Rattle.lite_reshape.specs.Leaving.{Sifts};
-ghost use Rattle.lite_reshape.specs.Laws.Leaving.{leaves_relating};
+ghost use Rattle.lite_reshape.specs.Laws.Leaving.{leaves_on, leaves_relating};
 
 use lite_base::{Context, Counted, Poll, PollSteps, Stream, drive};
 
@@ -55,7 +55,8 @@ impl<B, S: Counted, F: FnMut(S::Item) -> Option<B>> Stream for FilterMap<S, F> {
 
     ghost hints = { NoHint };
 
-    ghost laws = { laws_unhinted filter_map_parts S.laws (leaves_relating (Calls F.FnMut)) };
+    ghost laws = { laws_unhinted filter_map_parts S.laws (leaves_relating (Calls F.FnMut))
+        (leaves_on (Calls F.FnMut) _ (λ p q x y c. (y, c)) filter_map_parts S.laws S.counting) };
 
     fn poll_next(&mut self, cx: &mut Context<'_>) -> Poll<Option<B>> {
         drive(self, cx)

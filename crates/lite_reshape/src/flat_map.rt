@@ -53,7 +53,7 @@ impl<S: Counted, U: Stream + Drop, F: FnMut(S::Item) -> U> Stream for FlatMap<S,
 
     ghost hints = { NoHint };
 
-    ghost laws = { flat_map_laws F.FnMut S.laws U.laws };
+    ghost laws = { flat_map_laws F.FnMut S.laws S.counting U.laws };
 
     fn poll_next(&mut self, cx: &mut Context<'_>) -> Poll<Option<U::Item>> {
         drive(self, cx)

@@ -3,7 +3,7 @@ ghost use Rattle.lite_reshape.specs.Uses.{runs_of, NoHint, laws_following};
 ghost use Rattle.lite_reshape.specs.Flatten.{Flattens};
 ghost use Rattle.lite_reshape.specs.Inner.{CanStepFlat, FlatSteps, flatten_parts, flattening_ranks};
 ghost use Rattle.lite_reshape.specs.HeldRegisters.{HeldRegisters};
-ghost use Rattle.lite_reshape.specs.Laws.Flatten.{flat_ends, flattening, flattening_counting};
+ghost use Rattle.lite_reshape.specs.Laws.Flatten.{flat_ends, flattening, flattening_counting, flattening_on};
 
 use crate::inner::poll_part;
 use lite_base::{Context, Counted, Poll, PollSteps, Stream, drive};
@@ -48,7 +48,8 @@ impl<B: Stream + Drop, S: Counted<Item = B>> Stream for Flatten<S> {
 
     ghost hints = { NoHint };
 
-    ghost laws = { laws_following flatten_parts S.laws (flattening (runs_of B.laws)) };
+    ghost laws = { laws_following flatten_parts S.laws (flattening (runs_of B.laws))
+        (flattening_on flatten_parts S.laws S.counting B.laws.polls_on) };
 
     fn poll_next(&mut self, cx: &mut Context<'_>) -> Poll<Option<B::Item>> {
         drive(self, cx)

@@ -1,5 +1,5 @@
 ghost use Rattle.std.specs.Prelude.{None};
-ghost use Rattle.lite_reshape.specs.Uses.{ranks_of, Terminates-count, NoHint, laws_unhinted, through_counting};
+ghost use Rattle.lite_reshape.specs.Uses.{NoHint, Terminates-count, laws_unhinted, ranks_of, through_counting, through_on};
 ghost use Rattle.lite_reshape.specs.Skip.{Skips, SkipsFirst, skip_parts};
 ghost use Rattle.lite_reshape.specs.Laws.Counting.{one_less};
 ghost use Rattle.lite_reshape.specs.Leaving.{Sifts};
@@ -52,7 +52,8 @@ impl<S: Stream<Item: Drop>> Stream for Skip<S> {
 
     ghost hints = { NoHint };
 
-    ghost laws = { laws_unhinted skip_parts S.laws (leaves_relating Skips) };
+    ghost laws = { laws_unhinted skip_parts S.laws (leaves_relating Skips)
+        (through_on skip_parts S.laws) };
 
     fn poll_next(&mut self, cx: &mut Context<'_>) -> Poll<Option<S::Item>> {
         drive(self, cx)

@@ -2,7 +2,7 @@ ghost use Rattle.std.specs.Prelude.{[], None};
 ghost use Rattle.lite_reshape.specs.Uses.{ranks_of, CalledAt, Terminates-map, NoHint, laws_unhinted, through_counting};
 ghost use Rattle.lite_reshape.specs.SkipWhile.{CanSkip, MayAskUntil, SkipsUntil, SkipsWhile, skip_while_parts};
 ghost use Rattle.lite_reshape.specs.Leaving.{Sifts};
-ghost use Rattle.lite_reshape.specs.Laws.Leaving.{leaves_relating};
+ghost use Rattle.lite_reshape.specs.Laws.Leaving.{leaves_on, leaves_relating};
 
 use lite_base::{Context, Counted, Poll, PollSteps, Stream, drive};
 
@@ -63,7 +63,8 @@ impl<S: Counted<Item: Drop>, P: FnMut(&S::Item) -> bool + Drop> Stream for SkipW
 
     ghost hints = { NoHint };
 
-    ghost laws = { laws_unhinted skip_while_parts S.laws (leaves_relating (SkipsUntil (CalledAt P.FnMut))) };
+    ghost laws = { laws_unhinted skip_while_parts S.laws (leaves_relating (SkipsUntil (CalledAt P.FnMut)))
+        (leaves_on (SkipsUntil (CalledAt P.FnMut)) _ (λ p q x y c. (y, c)) skip_while_parts S.laws S.counting) };
 
     fn poll_next(&mut self, cx: &mut Context<'_>) -> Poll<Option<S::Item>> {
         drive(self, cx)

@@ -3,7 +3,7 @@ ghost use Rattle.lite_reshape.specs.Uses.{ranks_of, Terminates-count, NoHint, la
 ghost use Rattle.lite_reshape.specs.StepBy.{CanStep, StepsBy, step_by_parts};
 ghost use Rattle.lite_reshape.specs.Laws.Counting.{one_less};
 ghost use Rattle.lite_reshape.specs.Leaving.{Sifts};
-ghost use Rattle.lite_reshape.specs.Laws.StepBy.{Countdown, steps_relating};
+ghost use Rattle.lite_reshape.specs.Laws.StepBy.{Countdown, steps_on, steps_relating};
 
 use lite_base::{Context, Counted, Poll, PollSteps, Stream, drive};
 
@@ -60,7 +60,8 @@ impl<S: Stream<Item: Drop>> Stream for StepBy<S> {
 
     ghost hints = { NoHint };
 
-    ghost laws = { laws_unhinted step_by_parts S.laws steps_relating };
+    ghost laws = { laws_unhinted step_by_parts S.laws steps_relating
+        (steps_on S.laws) };
 
     fn poll_next(&mut self, cx: &mut Context<'_>) -> Poll<Option<S::Item>> {
         drive(self, cx)

@@ -52,7 +52,7 @@ impl<S: Stream, F: FnMut(S::Item) -> Fut, Fut: Future + Drop> Stream for Then<S,
 
     ghost hints = { λ m hint. (inner : ℕ × Option ℕ) × S.hints m.stream inner × (hint ≡ then_hint m.future inner) };
 
-    ghost laws = { then_laws (Calls F.FnMut) S.laws Fut.laws };
+    ghost laws = { then_laws F.FnMut S.laws Fut.laws };
 
     #[tactic(auto, using(lite_stream::specs::Laws::EachItem::each_rules))]
     fn poll_next(&mut self, cx: &mut Context<'_>) -> Poll<Option<Fut::Output>> {

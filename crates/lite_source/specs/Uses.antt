@@ -10,7 +10,7 @@ pub use Rattle.lite_base.specs.Future.Calls.{AlwaysObeys, CallAnswers, CallRegis
 pub use Rattle.lite_base.specs.Future.Finishes.{Finishes}
 pub use Rattle.lite_base.specs.Future.Handed.{handed}
 pub use Rattle.lite_base.specs.Future.Spent.{Spends}
-pub use Rattle.lite_base.specs.FutureLaws.{FutureLaws}
+pub use Rattle.lite_base.specs.FutureLaws.{FutureLaws, FutureRunLaws}
 pub use Rattle.lite_base.specs.Laws.Alike.{alike_agrees, comparable_nil, ends_same, equal_options, same_answer}
 pub use Rattle.lite_base.specs.Laws.All.{all_append}
 pub use Rattle.lite_base.specs.Laws.Answers.{strip_join}
@@ -21,19 +21,20 @@ pub use Rattle.lite_base.specs.Laws.Falling.{Below-one, Lowers-at_most, Lowers-b
 pub use Rattle.lite_base.specs.Laws.Future.Calls.{never_pends_on, obeys_on}
 pub use Rattle.lite_base.specs.Laws.Future.Finishes.{finishes_found, finishes_later}
 pub use Rattle.lite_base.specs.Laws.Future.Handed.{handed_gives, handed_no_pending, handed_waiting, handed_waits}
-pub use Rattle.lite_base.specs.Laws.Future.Spent.{spends_follow, spends_found, spends_rest, spends_stay}
+pub use Rattle.lite_base.specs.Laws.Future.Spent.{spends_follow, spends_found, spends_on, spends_rest, spends_stay}
+pub use Rattle.lite_base.specs.Laws.FutureLaws.{future_runs_of}
 pub use Rattle.lite_base.specs.Laws.Hint.{same_hint}
 pub use Rattle.lite_base.specs.Laws.OkRanks.{ok_counting}
 pub use Rattle.lite_base.specs.Laws.Promises.{makes_on}
 pub use Rattle.lite_base.specs.Laws.Ranks.{number_counting}
 pub use Rattle.lite_base.specs.Laws.Steady.{steady_always}
-pub use Rattle.lite_base.specs.Laws.StreamLaws.{runs_of}
+pub use Rattle.lite_base.specs.Laws.StreamLaws.{laws_of, runs_of}
 pub use Rattle.lite_base.specs.Rank.{AtMost, Below, Lowers}
 pub use Rattle.lite_base.specs.Ranks.{Counting, Ranks, number_ranks}
 pub use Rattle.lite_base.specs.Registered.{Registered}
 pub use Rattle.lite_base.specs.Runs.{Hints, NoHint, Question, Runs}
 pub use Rattle.lite_base.specs.Steady.{FutureSteadyLawsBy, Steadiness, SteadinessBy, SteadyLaws, SteadyLawsBy, TakesNone}
-pub use Rattle.lite_base.specs.StreamLaws.{StreamLaws}
+pub use Rattle.lite_base.specs.StreamLaws.{PollsOn, RunLaws, StreamLaws}
 pub use Rattle.std.proofs.Common.{ap, append-nil, append_assoc, arith, inl, inr, refl, rules, subst, sym, ℕ, ◌∙◌}
 pub use Rattle.std.proofs.lemmas.Grind.{flat_map-append}
 pub use Rattle.std.proofs.lemmas.List.{nil_from_length}
@@ -52,3 +53,4 @@ pub use Rattle.std.specs.VecDeque.Iter.{deque_iter_rest}
 pub use Rattle.std.specs.declared.iter.Copied.{Copied}
 pub use Rattle.std.specs.declared.ops.Range.{Range}
 pub use Rattle.std.specs.declared.vec.IntoIter.{IntoIter}
+pub use denote.Param.Always.{always_mut, mut_next}

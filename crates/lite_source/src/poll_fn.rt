@@ -1,6 +1,6 @@
 ghost use Rattle.std.specs.Prelude.{⊤, None};
 ghost use Rattle.lite_source.specs.Uses.{FoldsTo, ap, AlwaysObeys, CallAnswers, CallRegisters, NoHint};
-ghost use Rattle.lite_source.specs.Laws.Folds.{folds_laws};
+ghost use Rattle.lite_source.specs.Laws.Folds.{folds_laws, obeys_still};
 
 use lite_base::{Context, Poll, Stream};
 use std::fmt;
@@ -30,7 +30,8 @@ impl<T, F: FnMut(&mut Context<'_>) -> Poll<Option<T>>> Stream for PollFn<F> {
 
     ghost hints = { NoHint };
 
-    ghost laws = { folds_laws (λ x. x.f) (CallAnswers F.FnMut) (λ x y. ap (λ v. record x { f = v })) 0 };
+    ghost laws = { folds_laws (λ x. x.f) (CallAnswers F.FnMut) (λ x y. ap (λ v. record x { f = v })) 0
+        (λ x y. obeys_still F.FnMut x.f y.f) };
 
     fn poll_next(&mut self, cx: &mut Context<'_>) -> Poll<Option<T>> {
         (self.f)(cx)

@@ -1,6 +1,6 @@
 ghost use Rattle.std.specs.Prelude.{◌≡◌, ◌-◌, ◌^◌, None};
 ghost use Rattle.lite_source.specs.Uses.{ap};
-ghost use Rattle.lite_source.specs.Laws.Folds.{folds_laws};
+ghost use Rattle.lite_source.specs.Laws.Folds.{calls_on, folds_laws};
 ghost use Rattle.lite_source.specs.RepeatWith.{Call, RepeatsWith};
 
 use lite_base::{Context, Poll, Stream};
@@ -22,7 +22,8 @@ impl<T, F: FnMut() -> T> Stream for RepeatWith<F> {
 
     ghost hints = { λ x hint. hint ≡ (2 ^ 64 - 1, None) };
 
-    ghost laws = { folds_laws (λ x. x.f) (Call F.FnMut) (λ x y. ap (λ v. record x { f = v })) (2 ^ 64 - 1) };
+    ghost laws = { folds_laws (λ x. x.f) (Call F.FnMut) (λ x y. ap (λ v. record x { f = v })) (2 ^ 64 - 1)
+        (λ x y. calls_on F.FnMut x.f y.f) };
 
     fn poll_next(&mut self, _cx: &mut Context<'_>) -> Poll<Option<T>> {
         Poll::Ready(Some((self.f)()))

@@ -10,8 +10,8 @@ ghost use Rattle.lite_source.specs.Laws.OnceFuture.{once_future_steady};
 ghost use Rattle.lite_source.specs.Laws.Pending.{pending_laws, pending_steady};
 ghost use Rattle.lite_source.specs.Laws.Repeat.{repeat_steady};
 ghost use Rattle.lite_source.specs.Laws.Script.{gives_steady, script_laws};
-ghost use Rattle.lite_source.specs.Laws.TryUnfold.{try_unfold_laws};
-ghost use Rattle.lite_source.specs.Laws.Unfold.{unfold_laws};
+ghost use Rattle.lite_source.specs.Laws.TryUnfold.{try_unfold_runs};
+ghost use Rattle.lite_source.specs.Laws.Unfold.{unfold_runs};
 ghost use Rattle.lite_source.specs.Laws.Unfolded.{unfolds_steady};
 ghost use Rattle.lite_source.specs.Once.{GivesOnce};
 ghost use Rattle.lite_source.specs.OnceFuture.{GivesFuture};
@@ -122,7 +122,7 @@ where
     ghost alike = { λ x y. UnfoldAlike Fut.same Fut.alike (Calls F.FnMut) try_seed_of try_item_of (x.f, x.state) (y.f, y.state) };
 
     ghost steady = { unfolds_steady F.FnMut try_seed_of try_item_of Fut.same (λ x. (x.f, x.state))
-        (try_unfold_laws F.FnMut Fut.ample) Fut.steady };
+        (try_unfold_runs F.FnMut Fut.ample) Fut.steady };
 }
 
 impl<T, F, Fut, Item> SteadyStream for Unfold<T, F, Fut>
@@ -140,5 +140,5 @@ where
     ghost alike = { λ x y. UnfoldAlike Fut.same Fut.alike (Calls F.FnMut) seed_of item_of (x.f, x.state) (y.f, y.state) };
 
     ghost steady = { unfolds_steady F.FnMut seed_of item_of Fut.same (λ x. (x.f, x.state))
-        (unfold_laws F.FnMut Fut.ample) Fut.steady };
+        (unfold_runs F.FnMut Fut.ample) Fut.steady };
 }

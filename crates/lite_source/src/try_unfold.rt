@@ -43,7 +43,7 @@ where
 
     ghost hints = { NoHint };
 
-    ghost laws = { try_unfold_laws F.FnMut Fut.run };
+    ghost laws = { try_unfold_laws F.FnMut Fut.run Fut.laws };
 
     #[tactic(auto, using(crate::specs::Laws::Unfolding::unfolds_rules))]
     fn poll_next(&mut self, cx: &mut Context<'_>) -> Poll<Option<Result<Item, E>>> {

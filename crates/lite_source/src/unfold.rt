@@ -42,7 +42,7 @@ where
 
     ghost hints = { NoHint };
 
-    ghost laws = { unfold_laws F.FnMut Fut.run };
+    ghost laws = { unfold_laws F.FnMut Fut.run Fut.laws };
 
     #[tactic(auto, using(crate::specs::Laws::Unfolding::unfolds_rules))]
     fn poll_next(&mut self, cx: &mut Context<'_>) -> Poll<Option<Item>> {

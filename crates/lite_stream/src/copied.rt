@@ -2,7 +2,7 @@ ghost use Rattle.std.specs.Prelude.{None};
 ghost use Rattle.lite_stream.specs.Uses.{ranks_of, NoHint};
 ghost use Rattle.lite_stream.specs.Copied.{CopiesAll, CopiesItem, copied_parts};
 ghost use Rattle.lite_stream.specs.Laws.Pointwise.{replaces_relating};
-ghost use Rattle.lite_stream.specs.Laws.Through.{laws_unhinted, through_counting};
+ghost use Rattle.lite_stream.specs.Laws.Through.{laws_unhinted, through_counting, through_on};
 
 use lite_base::{Context, Counted, Poll, Stream, ready};
 
@@ -25,7 +25,7 @@ impl<'a, T: Copy + 'a, S: Stream<Item = &'a T>> Stream for Copied<S> {
 
     ghost hints = { NoHint };
 
-    ghost laws = { laws_unhinted copied_parts S.laws (replaces_relating CopiesItem) };
+    ghost laws = { laws_unhinted copied_parts S.laws (replaces_relating CopiesItem) (through_on copied_parts S.laws) };
 
     fn poll_next(&mut self, cx: &mut Context<'_>) -> Poll<Option<T>> {
         match ready!(self.stream.poll_next(cx)) {

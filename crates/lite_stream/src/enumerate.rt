@@ -2,7 +2,7 @@ ghost use Rattle.std.specs.Prelude.{None};
 ghost use Rattle.lite_stream.specs.Uses.{ranks_of, NoHint};
 ghost use Rattle.lite_stream.specs.Enumerate.{Enumerates, Numbers, enumerate_parts};
 ghost use Rattle.lite_stream.specs.Laws.Pointwise.{replaces_relating};
-ghost use Rattle.lite_stream.specs.Laws.Through.{laws_unhinted, through_counting};
+ghost use Rattle.lite_stream.specs.Laws.Through.{laws_unhinted, through_counting, through_on};
 
 use lite_base::{Context, Counted, Poll, Stream, ready};
 
@@ -27,7 +27,8 @@ impl<S: Stream> Stream for Enumerate<S> {
 
     ghost hints = { NoHint };
 
-    ghost laws = { laws_unhinted enumerate_parts S.laws (replaces_relating Numbers) };
+    ghost laws = { laws_unhinted enumerate_parts S.laws (replaces_relating Numbers)
+        (through_on enumerate_parts S.laws) };
 
     fn poll_next(&mut self, cx: &mut Context<'_>) -> Poll<Option<(usize, S::Item)>> {
         match ready!(self.stream.poll_next(cx)) {

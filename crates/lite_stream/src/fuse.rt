@@ -2,7 +2,7 @@ ghost use Rattle.std.specs.Prelude.{None};
 ghost use Rattle.lite_stream.specs.Uses.{ranks_of, NoHint};
 ghost use Rattle.lite_stream.specs.Fuse.{Fuses, fuse_parts};
 ghost use Rattle.lite_stream.specs.Laws.Fuse.{fuses_relating};
-ghost use Rattle.lite_stream.specs.Laws.Through.{laws_unhinted, through_counting};
+ghost use Rattle.lite_stream.specs.Laws.Through.{laws_unhinted, through_counting, through_on};
 
 use lite_base::{Context, Counted, Poll, Stream, ready};
 
@@ -26,7 +26,7 @@ impl<S: Stream> Stream for Fuse<S> {
 
     ghost hints = { NoHint };
 
-    ghost laws = { laws_unhinted fuse_parts S.laws fuses_relating };
+    ghost laws = { laws_unhinted fuse_parts S.laws fuses_relating (through_on fuse_parts S.laws) };
 
     fn poll_next(&mut self, cx: &mut Context<'_>) -> Poll<Option<S::Item>> {
         if self.done {

@@ -2,7 +2,7 @@ ghost use Rattle.std.specs.Prelude.{None};
 ghost use Rattle.lite_stream.specs.Uses.{ranks_of, NoHint, CalledAt};
 ghost use Rattle.lite_stream.specs.EachItem.{MayShowEach};
 ghost use Rattle.lite_stream.specs.Inspect.{Inspects, ShowsItem, inspect_parts};
-ghost use Rattle.lite_stream.specs.Laws.Pointwise.{replaces_relating};
+ghost use Rattle.lite_stream.specs.Laws.Pointwise.{asks_showing, exchanges_on, replaces_relating};
 ghost use Rattle.lite_stream.specs.Laws.Through.{laws_unhinted, through_counting};
 
 use lite_base::{Context, Counted, Poll, Stream, ready};
@@ -27,7 +27,8 @@ impl<S: Stream, F: FnMut(&S::Item)> Stream for Inspect<S, F> {
 
     ghost hints = { NoHint };
 
-    ghost laws = { laws_unhinted inspect_parts S.laws (replaces_relating (ShowsItem (CalledAt F.FnMut))) };
+    ghost laws = { laws_unhinted inspect_parts S.laws (replaces_relating (ShowsItem (CalledAt F.FnMut)))
+        (exchanges_on _ (CalledAt F.FnMut) (asks_showing _) inspect_parts S.laws) };
 
     #[tactic(auto, using(crate::specs::Laws::EachItem::each_rules))]
     fn poll_next(&mut self, cx: &mut Context<'_>) -> Poll<Option<S::Item>> {

@@ -1,7 +1,7 @@
 ghost use Rattle.lite_stream.specs.Uses.{ranks_of, Calls};
 ghost use Rattle.lite_stream.specs.EachItem.{MayCallEach};
 ghost use Rattle.lite_stream.specs.Map.{Maps, map_parts};
-ghost use Rattle.lite_stream.specs.Laws.Pointwise.{replaces_relating};
+ghost use Rattle.lite_stream.specs.Laws.Pointwise.{asks_always, exchanges_on, replaces_relating};
 ghost use Rattle.lite_stream.specs.Laws.Through.{laws_hinted, through_counting};
 
 use lite_base::{Context, Counted, Poll, Stream, ready};
@@ -26,7 +26,8 @@ impl<U, S: Stream, F: FnMut(S::Item) -> U> Stream for Map<S, F> {
 
     ghost hints = { λ m hint. S.hints m.stream hint };
 
-    ghost laws = { laws_hinted map_parts S.laws (replaces_relating (Calls F.FnMut)) };
+    ghost laws = { laws_hinted map_parts S.laws (replaces_relating (Calls F.FnMut))
+        (exchanges_on _ (Calls F.FnMut) (asks_always _) map_parts S.laws) };
 
     #[tactic(auto, using(crate::specs::Laws::EachItem::each_rules))]
     fn poll_next(&mut self, cx: &mut Context<'_>) -> Poll<Option<U>> {

@@ -2,7 +2,7 @@ ghost use Rattle.std.specs.Prelude.{None};
 ghost use Rattle.lite_stream.specs.Uses.{ranks_of, Calls, NoHint};
 ghost use Rattle.lite_stream.specs.EachItem.{MayCallEach};
 ghost use Rattle.lite_stream.specs.MapWhile.{MapsWhile, map_while_parts};
-ghost use Rattle.lite_stream.specs.Laws.Pointwise.{exchanges_relating};
+ghost use Rattle.lite_stream.specs.Laws.Pointwise.{exchanges_on, exchanges_relating};
 ghost use Rattle.lite_stream.specs.Laws.Through.{laws_unhinted, through_counting};
 
 use lite_base::{Context, Counted, Poll, Stream, ready};
@@ -29,7 +29,8 @@ impl<B, S: Stream, F: FnMut(S::Item) -> Option<B>> Stream for MapWhile<S, F> {
 
     ghost hints = { NoHint };
 
-    ghost laws = { laws_unhinted map_while_parts S.laws (exchanges_relating (Calls F.FnMut)) };
+    ghost laws = { laws_unhinted map_while_parts S.laws (exchanges_relating (Calls F.FnMut))
+        (exchanges_on (Calls F.FnMut) _ (λ p q x y c. (y, c)) map_while_parts S.laws) };
 
     #[tactic(auto, using(crate::specs::Laws::EachItem::each_rules))]
     fn poll_next(&mut self, cx: &mut Context<'_>) -> Poll<Option<B>> {

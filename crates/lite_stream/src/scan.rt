@@ -2,7 +2,7 @@ ghost use Rattle.std.specs.Prelude.{None};
 ghost use Rattle.lite_stream.specs.Uses.{ranks_of, CallsWith, NoHint};
 ghost use Rattle.lite_stream.specs.EachItem.{MayCallEachWith};
 ghost use Rattle.lite_stream.specs.Scan.{Scans, scan_parts};
-ghost use Rattle.lite_stream.specs.Laws.Pointwise.{exchanges_relating};
+ghost use Rattle.lite_stream.specs.Laws.Pointwise.{exchanges_on, exchanges_relating};
 ghost use Rattle.lite_stream.specs.Laws.Through.{laws_unhinted, through_counting};
 
 use lite_base::{Context, Counted, Poll, Stream, ready};
@@ -29,7 +29,8 @@ impl<St, B, S: Stream, F: FnMut(&mut St, S::Item) -> Option<B>> Stream for Scan<
 
     ghost hints = { NoHint };
 
-    ghost laws = { laws_unhinted scan_parts S.laws (exchanges_relating (CallsWith F.FnMut)) };
+    ghost laws = { laws_unhinted scan_parts S.laws (exchanges_relating (CallsWith F.FnMut))
+        (exchanges_on (CallsWith F.FnMut) _ (λ p q x y c. (y, c)) scan_parts S.laws) };
 
     #[tactic(auto, using(crate::specs::Laws::EachItem::each_rules))]
     fn poll_next(&mut self, cx: &mut Context<'_>) -> Poll<Option<B>> {

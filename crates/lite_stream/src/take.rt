@@ -3,7 +3,7 @@ ghost use Rattle.lite_stream.specs.Uses.{number_ranks, number_counting, NoHint};
 ghost use Rattle.lite_stream.specs.Take.{Takes, is_none_left, left_after, take_parts};
 ghost use Rattle.lite_stream.specs.Laws.Cutting.{cuts_relating};
 ghost use Rattle.lite_stream.specs.Laws.Take.{takes_lowers};
-ghost use Rattle.lite_stream.specs.Laws.Through.{laws_unhinted};
+ghost use Rattle.lite_stream.specs.Laws.Through.{laws_unhinted, through_on};
 
 use lite_base::{Context, Counted, Poll, Stream, ready};
 
@@ -29,7 +29,8 @@ impl<S: Stream> Stream for Take<S> {
 
     ghost hints = { NoHint };
 
-    ghost laws = { laws_unhinted take_parts S.laws (cuts_relating is_none_left left_after) };
+    ghost laws = { laws_unhinted take_parts S.laws (cuts_relating is_none_left left_after)
+        (through_on take_parts S.laws) };
 
     fn poll_next(&mut self, cx: &mut Context<'_>) -> Poll<Option<S::Item>> {
         if self.n == 0 {

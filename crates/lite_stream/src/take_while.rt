@@ -2,7 +2,7 @@ ghost use Rattle.std.specs.Prelude.{None};
 ghost use Rattle.lite_stream.specs.Uses.{ranks_of, CalledAt, Accepts, NoHint};
 ghost use Rattle.lite_stream.specs.EachItem.{MayShowEach};
 ghost use Rattle.lite_stream.specs.TakeWhile.{TakesWhile, take_while_parts};
-ghost use Rattle.lite_stream.specs.Laws.Pointwise.{exchanges_relating};
+ghost use Rattle.lite_stream.specs.Laws.Pointwise.{asks_testing, exchanges_on, exchanges_relating};
 ghost use Rattle.lite_stream.specs.Laws.Through.{laws_unhinted, through_counting};
 
 use lite_base::{Context, Counted, Poll, Stream, ready};
@@ -29,7 +29,8 @@ impl<S: Stream<Item: Drop>, P: FnMut(&S::Item) -> bool> Stream for TakeWhile<S, 
 
     ghost hints = { NoHint };
 
-    ghost laws = { laws_unhinted take_while_parts S.laws (exchanges_relating (Accepts (CalledAt P.FnMut))) };
+    ghost laws = { laws_unhinted take_while_parts S.laws (exchanges_relating (Accepts (CalledAt P.FnMut)))
+        (exchanges_on _ (CalledAt P.FnMut) (asks_testing _) take_while_parts S.laws) };
 
     #[tactic(auto, using(crate::specs::Laws::EachItem::each_rules))]
     fn poll_next(&mut self, cx: &mut Context<'_>) -> Poll<Option<S::Item>> {

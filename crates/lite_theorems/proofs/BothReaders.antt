@@ -1,10 +1,10 @@
 -- A reader that is read up to a value, pendings aside; and two that are alike.
-use Rattle.std.specs.Prelude.{⊤, IfErr, IfOk, ◌≡◌, ℕ, List, [], ◌∷◌, ◌++◌, length, Result, Ok, Err}
+use Rattle.std.specs.Prelude.{IfErr, IfOk, ◌≡◌, ◌<◌, ◌+◌, vec_capacity, ℕ, List, [], ◌∷◌, ◌++◌, length, Result, Ok, Err}
 use Rattle.lite_theorems.specs.Uses.{◌∙◌, refl, sym, ap, subst, arith, append_assoc, append-nil, length-append, FoldsTo, Error, Vec, MutBor, Poll, Comparable}
 use Rattle.lite_theorems.specs.Uses.{Gives, Runs, comparable_swapped, ReadMark, bytes, NoPendingRead, SteadyReadLaws, strip_marks, ToEndStays}
-use Rattle.lite_theorems.specs.Uses.{appends_deterministic, Appended, ReadsToEnd, appends, SameByKind, ReadToEndFuture}
+use Rattle.lite_theorems.specs.Uses.{appends_deterministic, Appended, ReadsToEndByRoom, ToEndLacksRoom, appends, next_read, SameByKind, ReadToEndFuture}
 use Rattle.lite_theorems.proofs.Waited.{WaitedFor, read_folds_once}
-use Rattle.lite_theorems.specs.BothReaders.{BothRead, HasReadMemory, ReadsUp}
+use Rattle.lite_theorems.specs.BothReaders.{BothRead, HasReadMemory, LacksNext, ReadsUp}
 
 abbrev ReadResult : Type 0
 ReadResult = Result ℕ Error
@@ -28,12 +28,20 @@ from_none m p xs (ReadMark.end ∷ []) (Ok n) h = omega (arith, h, length-append
 from_none m p xs (ReadMark.fault kind ∷ []) (Err e) h = h
 from_none m p xs _ _ h = absurd h
 
-found_up : (xs : List ℕ) (l : List ReadMark) (v : ReadResult) → HasReadMemory v → Appended ⊤ 0 xs l v
+found_up : (m : Type 0) (xs : List ℕ) (l : List ReadMark) (v : ReadResult) → HasReadMemory v → Appended m 0 xs l v
     → Appended ⊥ 0 xs l v
-found_up xs [] (Err e) f h = absurd (f h.1)
-found_up xs (ReadMark.end ∷ []) (Ok n) f h = h
-found_up xs (ReadMark.fault kind ∷ []) (Err e) f h = h
-found_up xs _ _ f h = absurd h
+found_up m xs [] (Err e) f h = absurd (f h.1)
+found_up m xs (ReadMark.end ∷ []) (Ok n) f h = h
+found_up m xs (ReadMark.fault kind ∷ []) (Err e) f h = h
+found_up m xs _ _ f h = absurd h
+
+-- where one thing allows a refusal, another does that follows from it
+appended_by : (m n : Type 0) → (m → n) → (xs : List ℕ) (l : List ReadMark) (v : ReadResult) → Appended m 0 xs l v
+    → Appended n 0 xs l v
+appended_by m n so xs [] (Err e) h = (so h.0, h.1)
+appended_by m n so xs (ReadMark.end ∷ []) (Ok k) h = h
+appended_by m n so xs (ReadMark.fault kind ∷ []) (Err e) h = h
+appended_by m n so xs _ _ h = absurd h
 
 -- bytes and a value that begin one another
 same_told : (p xs ys : List ℕ) (l m : List ReadMark) (v w : ReadResult) → Appended ⊥ 0 (p ++ xs) l v
@@ -59,42 +67,70 @@ same_told p (a ∷ xs) (b ∷ ys) l m v w h k c =
     let rest = same_told (p ++ a ∷ []) xs ys l m v w one other c.1 in
     (rest.0, rw (byte, rest.1))
 
-module _ {R A : Type 0} (m : Type 0) (reads : Runs ReadMark R) where
+module _ {R A : Type 0} (reads : Runs ReadMark R) where
   -- what is known of a wait for the future
   abbrev ReadWaited : {E : Type 0} → ReadToEndFuture R A → Result ReadResult E → ReadToEndFuture R A → Type 0
-  ReadWaited = WaitedFor (ReadsToEnd m reads)
+  ReadWaited = WaitedFor (ReadsToEndByRoom reads)
 
   stays_lent : {E : Type 0} (x y : ReadToEndFuture R A) (r : Result ReadResult E) → ReadWaited x r y → ToEndStays x y
-  stays_lent x y (Ok v) h = h.0.2.stays
+  stays_lent x y (Ok v) h = h.0.2.gathered.stays
   stays_lent x y (Err e) h = rw h.1 (record { reader = refl; buf = refl; start = refl })
 
-  reads_up : (x y : ReadToEndFuture R A) (l : List (Poll ReadResult)) (v : ReadResult)
-      → x.start ≡ length x.buf.now.items → Gives l v → ReadsToEnd m reads x l y
-      → (xs : List ℕ) × (y.buf.now.items ≡ x.buf.now.items ++ xs) × ReadsUp m reads x.reader.now xs v y.reader.now
-  reads_up x y l v begun g h =
+  -- the vector lacked room for these bytes and the next read
+  lacks_next : (x : ReadToEndFuture R A) (xs items : List ℕ) → x.room ≡ 0 → items ≡ x.buf.now.items ++ xs
+      → ToEndLacksRoom (length x.buf.now.items) (length items) x
+      → LacksNext (vec_capacity x.buf.now) items (length xs)
+  lacks_next x xs items none is h =
+      let long = ap length is ∙ length-append x.buf.now.items xs in
+      let all : h.0 ≡ length xs = omega (arith, long, h.1) in
+      subst (λ n. vec_capacity x.buf.now < length items + next_read 0 n) all
+      (subst (λ r. vec_capacity x.buf.now < length items + next_read r h.0) none h.2)
+
+  -- what a wait left: the bytes behind those that were there, and why there was no memory for more
+  abbrev ReadOn : ReadToEndFuture R A → ReadResult → R → List ℕ → Type 0
+  ReadOn x v t ts = (xs : List ℕ) × (ts ≡ x.buf.now.items ++ xs)
+      × ReadsUp (LacksNext (vec_capacity x.buf.now) ts (length xs)) reads x.reader.now xs v t
+
+  reads_up : (x y : ReadToEndFuture R A) (l : List (Poll ReadResult)) (v : ReadResult) → x.room ≡ 0
+      → x.start ≡ length x.buf.now.items → Gives l v → ReadsToEndByRoom reads x l y
+      → ReadOn x v y.reader.now y.buf.now.items
+  reads_up x y l v empty begun g by_room =
+      let h = by_room.gathered in
       let p = x.buf.now.items in
       let q = y.buf.now.items in
+      let m = ToEndLacksRoom (length p) (length q) x in
       let c =
       read_folds_once (appends m x.start) (λ p q l v h. no_wait m x.start p l v h.0) p q h.folded.marks l v
       (h.folded.cut, h.ends) g in
       let all = folded m x.start p c.between c.taken c.folds in
+      let whole : q ≡ p ++ c.taken = c.given.1 ∙ all in
       let last = subst (λ g. Appended m x.start g c.last v) all c.given.0 in
-      let value = from_none m p c.taken c.last v (rw (← begun) last) in (
+      let counted = subst (λ k. Appended m k (p ++ c.taken) c.last v) begun last in
+      let value = from_none m p c.taken c.last v counted in
+      let lacks = lacks_next x c.taken q empty whole in (
         c.taken,
-        c.given.1 ∙ all,
-        record { told = h.folded.marks; last = c.last; came = h.folded.came; cut = c.cut; value = value },
+        whole,
+        record {
+          told = h.folded.marks;
+          last = c.last;
+          came = h.folded.came;
+          cut = c.cut;
+          value = appended_by m _ lacks c.taken c.last v value;
+        },
       )
 
   -- a future that was waited for, by what it leaves
-  waited_up : {E : Type 0} (x y : ReadToEndFuture R A) (r : Result ReadResult E) (t : R) (ts : List ℕ)
+  waited_up : {E : Type 0} (x y : ReadToEndFuture R A) (r : Result ReadResult E) (t : R) (ts : List ℕ) → x.room ≡ 0
       → x.start ≡ length x.buf.now.items
       → t ≡ y.reader.now → ts ≡ y.buf.now.items → ReadWaited x r y
-      → (xs : List ℕ) × (ts ≡ x.buf.now.items ++ xs) × IfOk r (λ v. ReadsUp m reads x.reader.now xs v t)
+      → (xs : List ℕ) × (ts ≡ x.buf.now.items ++ xs)
+      × IfOk r (λ v. ReadsUp (LacksNext (vec_capacity x.buf.now) ts (length xs)) reads x.reader.now xs v t)
       × IfErr r (λ _. (xs ≡ []) × (t ≡ x.reader.now))
-  waited_up x y (Ok v) t ts begun e d h =
-      let up = reads_up x y h.0.0 v begun h.0.1 h.0.2 in
-      (up.0, d ∙ up.1, rw e up.2, tt)
-  waited_up x y (Err e) t ts begun f d h = (
+  waited_up x y (Ok v) t ts empty begun e d h =
+      let up = subst (ReadOn x v t) (sym d)
+      (subst (λ u. ReadOn x v u y.buf.now.items) (sym e) (reads_up x y h.0.0 v empty begun h.0.1 h.0.2)) in
+      (up.0, up.1, up.2, tt)
+  waited_up x y (Err e) t ts empty begun f d h = (
     [],
     d ∙ ap (λ z. z.buf.now.items) h.1 ∙ sym (append-nil x.buf.now.items),
     tt,
@@ -114,9 +150,10 @@ module _ {R A : Type 0} (m : Type 0) (reads : Runs ReadMark R) where
         )
 
     pub read_up : (t : R) (ts : List ℕ) → t ≡ y.reader.now → ts ≡ y.buf.now.items
-        → (xs : List ℕ) × (ts ≡ c.now.items ++ xs) × IfOk r (λ v. ReadsUp m reads b.now xs v t)
+        → (xs : List ℕ) × (ts ≡ c.now.items ++ xs)
+        × IfOk r (λ v. ReadsUp (LacksNext (vec_capacity c.now) ts (length xs)) reads b.now xs v t)
         × IfErr r (λ _. (xs ≡ []) × (t ≡ b.now))
-    read_up t ts e d = rw begins at (waited_up x y r t ts (rw begins) e d waited)
+    read_up t ts e d = rw begins at (waited_up x y r t ts (rw begins refl) (rw begins) e d waited)
 
 module _ {R : Type 0} {reads : Runs ReadMark R} where
   module _ {ample : Runs ReadMark R} {needs_none : Type 0} {alike : R → R → Type 0}
@@ -128,23 +165,24 @@ module _ {R : Type 0} {reads : Runs ReadMark R} where
         subst (λ t. Comparable t (strip_marks k.told)) h.cut (s.steady x y x' y' h.told k.told e h.came k.came) in
         same_told [] xs ys h.last k.last v w h.value k.value (rw (← k.cut) tales)
 
-    ample_up : needs_none → (x x' : R) (xs : List ℕ) (v : ReadResult) → HasReadMemory v → ReadsUp ⊤ reads x xs v x'
-        → ReadsUp ⊥ ample x xs v x'
-    ample_up n x x' xs v f h = record {
+    ample_up : needs_none → (m : Type 0) (x x' : R) (xs : List ℕ) (v : ReadResult) → HasReadMemory v
+        → ReadsUp m reads x xs v x' → ReadsUp ⊥ ample x xs v x'
+    ample_up n m x x' xs v f h = record {
       told = h.told;
       last = h.last;
       came = s.found n x x' h.told h.came;
       cut = h.cut;
-      value = found_up xs h.last v f h.value;
+      value = found_up m xs h.last v f h.value;
     }
 
-    pub both_read : (x x' y y' : R) (xs ys : List ℕ) (v w : ReadResult) → alike x y → ReadsUp ⊤ reads x xs v x'
-        → ReadsUp ⊤ reads y ys w y'
-        → BothRead reads ample needs_none x xs v x' y ys w y'
-    both_read x x' y y' xs ys v w e h k =
+    pub both_read : (m n : Type 0) (x x' y y' : R) (xs ys : List ℕ) (v w : ReadResult) → alike x y
+        → ReadsUp m reads x xs v x' → ReadsUp n reads y ys w y'
+        → BothRead reads ample needs_none m n x xs v x' y ys w y'
+    both_read m n x x' y y' xs ys v w e h k =
         record {
           first = h;
           second = k;
           found = agree_up x x' y y' xs ys v w e;
-          always = λ n f g. agree_up x x' y y' xs ys v w e (ample_up n x x' xs v f h) (ample_up n y y' ys w g k);
+          always = λ needs f g.
+              agree_up x x' y y' xs ys v w e (ample_up needs m x x' xs v f h) (ample_up needs n y y' ys w g k);
         }

@@ -2,11 +2,12 @@
 use Rattle.std.specs.Prelude.{IfErr, IfOk, IsOk, ◌≡◌, ℕ, List, [], ◌∷◌, ◌++◌, Result, Ok, Err, map}
 use Rattle.lite_theorems.specs.Uses.{◌∙◌, inl, inr, refl, sym, ap, subst, arith, append_assoc, append-nil, error_kind, FoldsTo, Error, Bor, Poll, Ready}
 use Rattle.lite_theorems.specs.Uses.{Pending, Gives, segment_front, to_value_last, Runs, MarkLaws, StandsFirst, NoError, SteadyWriteLaws, WriteMark}
-use Rattle.lite_theorems.specs.Uses.{bytes_taken, taken_both, PolledByCalls, Flushes, no_failure_both, NoFailure, Hands, Ended, HandsMarks, HandsOver}
+use Rattle.lite_theorems.specs.Uses.{bytes_taken, taken_both, PolledByCalls, Flushes, Hands, Ended, HandsMarks, HandsOver}
 use Rattle.lite_theorems.specs.Uses.{WritesAll, FlushFuture, WriteAllFuture}
 use denote.Ref.{MutBor}
 use Rattle.lite_theorems.proofs.Waited.{WaitedFor}
-use Rattle.lite_theorems.specs.BothWriters.{BothWritten, FailsBy, FailsWith, FlushedUp, HandedUp, TakesFront, WrittenUp}
+use Rattle.lite_theorems.specs.BothWriters.{BothWritten, FailsAfter, FailsBy, FailsWith, FlushedOnce, FlushedUp, HandedUp, OnlyWrites, TakesFront}
+use Rattle.lite_theorems.specs.BothWriters.{WritesAndFlushes, WrittenUp}
 
 abbrev WriteResult : Type 0
 WriteResult = Result (Unit {0}) Error
@@ -14,22 +15,67 @@ WriteResult = Result (Unit {0}) Error
 later : (b m : List WriteMark) (t : WriteMark) (l : List WriteMark) → l ≡ m ++ t ∷ [] → b ++ l ≡ (b ++ m) ++ t ∷ []
 later b m t l e = ap (λ k. b ++ k) e ∙ sym (append_assoc b m (t ∷ []))
 
-fails_by : (b m l : List WriteMark) (e : Error) → NoFailure b → NoFailure m → FailsBy m l e
-    → FailsBy (b ++ m) (b ++ l) e
-fails_by b m l e p q (inl h) = inl (later b m _ l h)
-fails_by b m l e p q (inr h) = inr (later b m _ l h.0, h.1)
+only_both : (l m : List WriteMark) → OnlyWrites l → OnlyWrites m → OnlyWrites (l ++ m)
+only_both [] m h k = k
+only_both (WriteMark.pending ∷ l) m h k = only_both l m h k
+only_both (WriteMark.wrote (x ∷ xs) ∷ l) m h k = only_both l m h k
+only_both (WriteMark.wrote [] ∷ l) m h k = absurd h
+only_both (WriteMark.fault kind ∷ l) m h k = absurd h
+only_both (WriteMark.flushed ∷ l) m h k = absurd h
+only_both (WriteMark.closed ∷ l) m h k = absurd h
+only_both (WriteMark.nothing ∷ l) m h k = absurd h
 
-pub fails_later : (b l : List WriteMark) (e : Error) → NoFailure b → FailsWith l e → FailsWith (b ++ l) e
+pub flushes_both : (l m : List WriteMark) → WritesAndFlushes l → WritesAndFlushes m → WritesAndFlushes (l ++ m)
+flushes_both [] m h k = k
+flushes_both (WriteMark.pending ∷ l) m h k = flushes_both l m h k
+flushes_both (WriteMark.wrote (x ∷ xs) ∷ l) m h k = flushes_both l m h k
+flushes_both (WriteMark.flushed ∷ l) m h k = flushes_both l m h k
+flushes_both (WriteMark.wrote [] ∷ l) m h k = absurd h
+flushes_both (WriteMark.fault kind ∷ l) m h k = absurd h
+flushes_both (WriteMark.closed ∷ l) m h k = absurd h
+flushes_both (WriteMark.nothing ∷ l) m h k = absurd h
+
+-- writes are writes and flushes
+pub only_flushes : (l : List WriteMark) → OnlyWrites l → WritesAndFlushes l
+only_flushes [] h = tt
+only_flushes (WriteMark.pending ∷ l) h = only_flushes l h
+only_flushes (WriteMark.wrote (x ∷ xs) ∷ l) h = only_flushes l h
+only_flushes (WriteMark.wrote [] ∷ l) h = absurd h
+only_flushes (WriteMark.fault kind ∷ l) h = absurd h
+only_flushes (WriteMark.flushed ∷ l) h = absurd h
+only_flushes (WriteMark.closed ∷ l) h = absurd h
+only_flushes (WriteMark.nothing ∷ l) h = absurd h
+
+pub once_flushes : (l : List WriteMark) → FlushedOnce l → WritesAndFlushes l
+once_flushes l h = rw h.2 (flushes_both h.0 (WriteMark.flushed ∷ []) (only_flushes h.0 h.1) tt)
+
+pub only_fails : (l : List WriteMark) (e : Error) → FailsAfter OnlyWrites l e → FailsWith l e
+only_fails l e h = record { before = h.before; fine = only_flushes h.before h.fine; last = h.last }
+
+fails_by : (b m l : List WriteMark) (e : Error) → FailsBy m l e → FailsBy (b ++ m) (b ++ l) e
+fails_by b m l e (inl h) = inl (later b m _ l h)
+fails_by b m l e (inr h) = inr (later b m _ l h.0, h.1)
+
+fails_more : (b l : List WriteMark) (e : Error) → OnlyWrites b → FailsAfter OnlyWrites l e
+    → FailsAfter OnlyWrites (b ++ l) e
+fails_more b l e p h =
+    record {
+      before = b ++ h.before;
+      fine = only_both b h.before p h.fine;
+      last = fails_by b h.before l e h.last;
+    }
+
+pub fails_later : (b l : List WriteMark) (e : Error) → WritesAndFlushes b → FailsWith l e → FailsWith (b ++ l) e
 fails_later b l e p h =
     record {
       before = b ++ h.before;
-      no_failure = no_failure_both b h.before p h.no_failure;
-      last = fails_by b h.before l e p h.no_failure h.last;
+      fine = flushes_both b h.before p h.fine;
+      last = fails_by b h.before l e h.last;
     }
 
 -- marks that each took some of the bytes, from the front
 hands_front : (p q : List ℕ) (l : List (List ℕ)) → FoldsTo Hands p l q
-    → NoFailure (map WriteMark.wrote l) × (p ≡ bytes_taken (map WriteMark.wrote l) ++ q)
+    → OnlyWrites (map WriteMark.wrote l) × (p ≡ bytes_taken (map WriteMark.wrote l) ++ q)
 hands_front p q [] h = (tt, h)
 hands_front p q ([] ∷ l) h = absurd (omega (arith, h.1.0))
 hands_front p q ((x ∷ xs) ∷ l) h =
@@ -50,21 +96,21 @@ ended_up p (WriteMark.wrote [] ∷ []) (Err e) h = (
   (p, refl),
   record {
     before = [];
-    no_failure = tt;
+    fine = tt;
     last = inr (refl, h.1);
   },
 )
 ended_up p (WriteMark.fault kind ∷ []) (Err e) h =
-    ((p, refl), record { before = []; no_failure = tt; last = inl (rw (sym h.1)) })
+    ((p, refl), record { before = []; fine = tt; last = inl (rw (sym h.1)) })
 ended_up p _ v h = absurd h
 
-value_later : (p q : List ℕ) (b l : List WriteMark) (v : WriteResult) → NoFailure b → p ≡ bytes_taken b ++ q
+value_later : (p q : List ℕ) (b l : List WriteMark) (v : WriteResult) → OnlyWrites b → p ≡ bytes_taken b ++ q
     → HandedUp q l v → HandedUp p (b ++ l) v
 value_later p q b l (Ok u) a front h =
-    (no_failure_both b l a h.0, taken_both b l ∙ ap (λ k. bytes_taken b ++ k) h.1 ∙ sym front)
-value_later p q b l (Err e) a front h = fails_later b l e a h
+    (only_both b l a h.0, taken_both b l ∙ ap (λ k. bytes_taken b ++ k) h.1 ∙ sym front)
+value_later p q b l (Err e) a front h = fails_more b l e a h
 
-handed_later : (p q : List ℕ) (b l : List WriteMark) (v : WriteResult) → NoFailure b → p ≡ bytes_taken b ++ q
+handed_later : (p q : List ℕ) (b l : List WriteMark) (v : WriteResult) → OnlyWrites b → p ≡ bytes_taken b ++ q
     → Handed q l v → Handed p (b ++ l) v
 handed_later p q b l v a front h =
     let rest = h.0.0 in
@@ -91,10 +137,10 @@ handed_up p q i (Ready r ∷ l) v h g =
     subst (λ k. Handed p k v) (sym c.cut)
     (handed_later p c.between (map WriteMark.wrote c.taken) c.last v front.0 front.1 last)
 
-flushed_later : (m : WriteMark) (l : List WriteMark) (v : WriteResult) → NoFailure (m ∷ []) → FlushedUp l v
+flushed_later : (m : WriteMark) (l : List WriteMark) (v : WriteResult) → OnlyWrites (m ∷ []) → FlushedUp l v
     → FlushedUp (m ∷ l) v
-flushed_later m l (Ok u) a h = (no_failure_both (m ∷ []) l a h.0, (m ∷ h.1.0, ap (λ k. m ∷ k) h.1.1))
-flushed_later m l (Err e) a h = fails_later (m ∷ []) l e a h
+flushed_later m l (Ok u) a h = (m ∷ h.0, only_both (m ∷ []) h.0 a h.1, ap (λ k. m ∷ k) h.2)
+flushed_later m l (Err e) a h = fails_more (m ∷ []) l e a h
 
 module _ {W : Type 0} (writes : Runs WriteMark W) where
   handed_name : {E : Type 0} (x y : WriteAllFuture W) (r : Result WriteResult E) → WaitedFor (WritesAll writes) x r y
@@ -134,10 +180,10 @@ module _ {W : Type 0} (writes : Runs WriteMark W) where
         (WriteMark.pending ∷ []) rest.0 h.1.came rest.1 in
         (WriteMark.pending ∷ rest.0, ran, rest.2, flushed_later WriteMark.pending rest.0 v tt rest.3)
     flushed_up x y (Ready (Ok u) ∷ l) v h g =
-        (WriteMark.flushed ∷ [], h.0.came, refl, subst (FlushedUp (WriteMark.flushed ∷ [])) g.0 (tt, ([], refl)))
+        (WriteMark.flushed ∷ [], h.0.came, refl, subst (FlushedUp (WriteMark.flushed ∷ [])) g.0 ([], tt, refl))
     flushed_up x y (Ready (Err e) ∷ l) v h g =
-        let last : FailsWith (WriteMark.fault (error_kind e) ∷ []) e =
-        record { before = []; no_failure = tt; last = inl refl } in (
+        let last : FailsAfter OnlyWrites (WriteMark.fault (error_kind e) ∷ []) e =
+        record { before = []; fine = tt; last = inl refl } in (
           WriteMark.fault (error_kind e) ∷ [],
           h.0.came,
           refl,
@@ -181,14 +227,14 @@ none_after : (p : List ℕ) (b l : List WriteMark) → bytes_taken b ≡ p → b
 none_after p b l all none = taken_both b l ∙ ap (λ k. bytes_taken b ++ k) none ∙ append-nil (bytes_taken b) ∙ all
 
 -- all was taken, and then flushed
-written_later : (p : List ℕ) (b l : List WriteMark) (v : WriteResult) → NoFailure b → bytes_taken b ≡ p
+written_later : (p : List ℕ) (b l : List WriteMark) (v : WriteResult) → OnlyWrites b → bytes_taken b ≡ p
     → bytes_taken l ≡ [] → FlushedUp l v
     → WrittenUp p (b ++ l) v
 written_later p b l (Ok u) a all none h =
-    (no_failure_both b l a h.0, (b ++ h.1.0, later b h.1.0 WriteMark.flushed l h.1.1), none_after p b l all none)
-written_later p b l (Err e) a all none h = fails_later b l e a h
+    ((b ++ h.0, only_both b h.0 a h.1, later b h.0 WriteMark.flushed l h.2), none_after p b l all none)
+written_later p b l (Err e) a all none h = fails_more b l e a h
 
-written_wait : {E : Type 0} (p : List ℕ) (b l : List WriteMark) (r : Result WriteResult E) → NoFailure b
+written_wait : {E : Type 0} (p : List ℕ) (b l : List WriteMark) (r : Result WriteResult E) → OnlyWrites b
     → bytes_taken b ≡ p → bytes_taken l ≡ []
     → IfOk r (λ v. FlushedUp l v) → IfOk r (λ v. WrittenUp p (b ++ l) v)
 written_wait p b l (Ok v) a all none up = written_later p b l v a all none up
@@ -196,17 +242,21 @@ written_wait p b l (Err e) a all none up = tt
 
 pub flush_after : {W E : Type 0} {writes : Runs WriteMark W} → MarkLaws writes
     → (x y z : W) (p : List ℕ) (b l : List WriteMark) (r : Result WriteResult E)
-    → writes x b y → writes y l z → NoFailure b → bytes_taken b ≡ p → bytes_taken l ≡ [] → IfOk r (λ v. FlushedUp l v)
+    → writes x b y → writes y l z → OnlyWrites b → bytes_taken b ≡ p → bytes_taken l ≡ [] → IfOk r (λ v. FlushedUp l v)
     → (took : List WriteMark) × TakesFront writes x p took z × IfOk r (λ v. WrittenUp p took v)
 flush_after laws x y z p b l r h k a all none up =
     let front = sym (append-nil (bytes_taken (b ++ l)) ∙ none_after p b l all none) in
     (b ++ l, (laws.follows x y z b l h k, ([], front)), written_wait p b l r a all none up)
 
-no_error : (l : List WriteMark) → NoFailure l → NoError l
+no_error : (l : List WriteMark) → WritesAndFlushes l → NoError l
 no_error [] h = tt
+no_error (WriteMark.pending ∷ l) h = no_error l h
+no_error (WriteMark.wrote (x ∷ xs) ∷ l) h = no_error l h
+no_error (WriteMark.flushed ∷ l) h = no_error l h
 no_error (WriteMark.wrote [] ∷ l) h = absurd h
 no_error (WriteMark.fault kind ∷ l) h = absurd h
-no_error (_ ∷ l) h = no_error l h
+no_error (WriteMark.closed ∷ l) h = absurd h
+no_error (WriteMark.nothing ∷ l) h = absurd h
 
 all_well : (p : List ℕ) (l : List WriteMark) (v : WriteResult) → IsOk v → WrittenUp p l v → WrittenUp p l (Ok tt)
 all_well p l (Ok u) ok h = h
@@ -224,6 +274,6 @@ module _ {W : Type 0} {writes : Runs WriteMark W} {alike : W → W → Type 0} {
         same = λ ok well.
             let one = all_well p took v ok up in
             let two = all_well p more w well again in
-            s.steady x y x' y' took more e h.0 k.0 (no_error took one.0) (no_error more two.0) one.1 two.1
-            (one.2 ∙ sym two.2);
+            s.steady x y x' y' took more e h.0 k.0 (no_error took (once_flushes took one.0))
+            (no_error more (once_flushes more two.0)) (one.0.0, one.0.2) (two.0.0, two.0.2) (one.1 ∙ sym two.1);
       }

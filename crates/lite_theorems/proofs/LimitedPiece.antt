@@ -1,9 +1,9 @@
 -- What a `read_until` of the first bytes of a reader was told is told of the reader.
-use Rattle.std.specs.Prelude.{IfErr, IfOk, ◌≡◌, ◌<◌, ◌+◌, ℕ, zero, suc, List, [], ◌∷◌, ◌++◌, length, Result, Ok, Err}
-use Rattle.lite_theorems.specs.Uses.{◌∙◌, ap, append-nil, arith, inl, inr, refl, subst, sym, Error, ErrorKind, Lent, LimitEnds, MutBor, ReadMark, Runs, Take, TakesMarks}
+use Rattle.std.specs.Prelude.{IfErr, IfOk, ◌≡◌, ◌<◌, ◌+◌, ◌-◌, ℕ, zero, suc, List, [], ◌∷◌, ◌++◌, length, Result, Ok, Err}
+use Rattle.lite_theorems.specs.Uses.{◌∙◌, ap, append-nil, arith, inl, inr, refl, subst, sym, take, Error, ErrorKind, Lent, LimitEnds, MutBor, ReadMark, Runs, Take, TakesMarks}
 use Rattle.lite_theorems.specs.Uses.{WithinLimit, bytes, strip_marks, strip_marks-append}
-use Rattle.lite_theorems.specs.Told.{PieceTold, PieceWithin, ToldStripped}
-use Rattle.lite_theorems.proofs.Waited.{ToldByUntil}
+use Rattle.lite_theorems.specs.Told.{VectorLacksRoom, PieceTold, PieceWithin, ToldStripped}
+use Rattle.lite_theorems.proofs.Waited.{LacksBy, ToldByUntil}
 
 -- `Pending`s use nothing of a limit.
 fits_stripped : (n rest : ℕ) (l : List ReadMark) → WithinLimit n l rest → WithinLimit n (strip_marks l) rest
@@ -60,13 +60,14 @@ no_fault : {A : Type 0} {kind : ErrorKind} (ys es : List ReadMark) → ReadMark.
 no_fault [] es e = cc e
 no_fault (y ∷ ys) es e = let rest : [] ≡ ys ++ ReadMark.end ∷ es = cc e in nothing_behind ys es rest
 
-module _ (limit rest at : ℕ) (xs : List ℕ) (m : List ReadMark) (fits : WithinLimit limit m rest) where
+-- `lacks` says when an allocation may fail, by what is left of the limit
+module _ (lacks : ℕ → Type 0) (limit rest at : ℕ) (xs : List ℕ) (m : List ReadMark) (fits : WithinLimit limit m rest) where
   within : (last : List ReadMark) → m ≡ bytes xs ++ last
       → (left : ℕ) × (limit ≡ length xs + left) × WithinLimit left last rest
   within last e = uses_bytes limit rest xs last (rw e at fits)
 
   -- The limit was not used up, or nothing was read behind it.
-  not_used_up : (v : Result ℕ Error) → PieceTold at xs m v → PieceWithin limit at xs m v
+  not_used_up : (v : Result ℕ Error) → PieceTold (lacks rest) at xs m v → PieceWithin (lacks (limit - length xs)) limit at xs m v
   not_used_up (Ok n) (count, inl (ends, told)) =
       let w = within [] (told ∙ sym (append-nil (bytes xs))) in
       (count, inl (ends, told, omega (arith, w.1)))
@@ -75,11 +76,13 @@ module _ (limit rest at : ℕ) (xs : List ℕ) (m : List ReadMark) (fits : Withi
       (count, inr (inr (without, told, omega (arith, w.1, left_some w.0 rest ReadMark.end [] w.2))))
   not_used_up (Err e) (without, inl told) =
       let w = within _ told in ((without, inl told), omega (arith, w.1))
-  not_used_up (Err e) (without, inr told) =
-      let w = within [] (told.0 ∙ sym (append-nil (bytes xs))) in ((without, inr told), omega (arith, w.1))
+  not_used_up (Err e) (without, inr (lacking, told, kind)) =
+      let w = within [] (told ∙ sym (append-nil (bytes xs))) in
+      let left : rest ≡ limit - length xs = omega (arith, w.1, w.2) in
+      ((without, inr (subst lacks left lacking, told, kind)), omega (arith, w.1))
 
-  used_up : (es : List ReadMark) → rest ≡ 0 → (v : Result ℕ Error) → PieceTold at xs (m ++ ReadMark.end ∷ es) v
-      → PieceWithin limit at xs m v
+  used_up : (es : List ReadMark) → rest ≡ 0 → (v : Result ℕ Error)
+      → PieceTold (lacks rest) at xs (m ++ ReadMark.end ∷ es) v → PieceWithin (lacks (limit - length xs)) limit at xs m v
   used_up es none (Ok n) (count, inl (ends, told)) =
       let b = behind_bytes xs [] m es (append-nil (bytes xs) ∙ sym told) in nothing_behind b.0 es b.2
   used_up es none (Ok n) (count, inr (without, told)) =
@@ -90,12 +93,12 @@ module _ (limit rest at : ℕ) (xs : List ℕ) (m : List ReadMark) (fits : Withi
   used_up es none (Err e) (without, inl told) =
       let b = behind_bytes xs _ m es (sym told) in no_fault b.0 es b.2
   used_up es none (Err e) (without, inr told) =
-      let b = behind_bytes xs [] m es (append-nil (bytes xs) ∙ sym told.0) in nothing_behind b.0 es b.2
+      let b = behind_bytes xs [] m es (append-nil (bytes xs) ∙ sym told.1) in nothing_behind b.0 es b.2
 
-  by_ends : (ends : List ReadMark) (v : Result ℕ Error) → LimitEnds rest ends → PieceTold at xs (m ++ ends) v
-      → PieceWithin limit at xs m v
-  by_ends [] v h told = not_used_up v (subst (λ l. PieceTold at xs l v) (append-nil m) told)
-  by_ends (e ∷ es) v h told = used_up es h.0 v (subst (λ f. PieceTold at xs (m ++ f ∷ es) v) h.1 told)
+  by_ends : (ends : List ReadMark) (v : Result ℕ Error) → LimitEnds rest ends → PieceTold (lacks rest) at xs (m ++ ends) v
+      → PieceWithin (lacks (limit - length xs)) limit at xs m v
+  by_ends [] v h told = not_used_up v (subst (λ l. PieceTold (lacks rest) at xs l v) (append-nil m) told)
+  by_ends (e ∷ es) v h told = used_up es h.0 v (subst (λ f. PieceTold (lacks rest) at xs (m ++ f ∷ es) v) h.1 told)
 
 -- What was told through a `Take` of a reader that is lent.
 module _ {S : Type 0} (reads : Runs ReadMark S) (x y : Take (MutBor S)) (at : ℕ) where
@@ -105,29 +108,36 @@ module _ {S : Type 0} (reads : Runs ReadMark S) (x y : Take (MutBor S)) (at : �
       sym is ∙ ap strip_marks ran.cut ∙ strip_marks-append ran.front ran.ends
       ∙ ap (λ k. strip_marks ran.front ++ k) (ends_stripped y.limit ran.ends ran.used_up)
 
-  piece_of_taken : (xs : List ℕ) (l : List ReadMark) (v : Result ℕ Error) → ToldStripped (TakesMarks (Lent reads)) x l y
-      → PieceTold at xs l v
-      → (m : List ReadMark) × ToldStripped reads x.inner.now m y.inner.now × PieceWithin x.limit at xs m v
-  piece_of_taken xs l v (told, ran, is) piece =
+  piece_of_taken : (lacks : ℕ → Type 0) (xs : List ℕ) (l : List ReadMark) (v : Result ℕ Error)
+      → ToldStripped (TakesMarks (Lent reads)) x l y → PieceTold (lacks y.limit) at xs l v
+      → (m : List ReadMark) × ToldStripped reads x.inner.now m y.inner.now
+      × PieceWithin (lacks (x.limit - length xs)) x.limit at xs m v
+  piece_of_taken lacks xs l v (told, ran, is) piece =
       let m = strip_marks ran.front in (
         m,
         (ran.front, ran.ran.0, refl),
-        by_ends x.limit y.limit at xs m (fits_stripped x.limit y.limit ran.front ran.fits) ran.ends v ran.used_up
-            (subst (λ k. PieceTold at xs k v) (cut_of l (told, ran, is)) piece),
+        by_ends lacks x.limit y.limit at xs m (fits_stripped x.limit y.limit ran.front ran.fits) ran.ends v ran.used_up
+            (subst (λ k. PieceTold (lacks y.limit) at xs k v) (cut_of l (told, ran, is)) piece),
       )
 
   pub taken_lent : (l : List ReadMark) → ToldStripped (TakesMarks (Lent reads)) x l y → y.inner.ghost_name ≡ x.inner.ghost_name
   taken_lent l (told, ran, is) = ap (λ r. r.ghost_name) ran.ran.1
 
   -- What a wait for a `read_until` of the `Take` was told.
-  pub told_of_taken : {E : Type 0} (before after : List ℕ) (r : Result (Result ℕ Error) E) (b : MutBor S) (limit : ℕ) (t : S)
-      → x.inner ≡ b → x.limit ≡ limit → t ≡ y.inner.now → ToldByUntil (TakesMarks (Lent reads)) at x before r y after
-      → (m : List ReadMark) × (xs : List ℕ) × ToldStripped reads b.now m t × (after ≡ before ++ xs)
-      × IfOk r (λ v. PieceWithin limit at xs m v) × IfErr r (λ _. (m ≡ []) × (xs ≡ []))
-  told_of_taken before after (Ok v) b limit t inner is left (l, xs, told, appended, piece, none) =
-      let (m, ran, within) = piece_of_taken xs l v told piece in
-      (m, xs, rw (← inner, left) ran, appended, rw (← is) within, tt)
-  told_of_taken before after (Err e) b limit t inner is left (l, xs, told, appended, piece, none) =
-      let m = strip_marks told.1.front in
-      let empty = none_in_front m told.1.ends (sym (cut_of l told) ∙ none.0) in
-      (m, xs, rw (← inner, left) (told.1.front, told.1.ran.0, refl), appended, tt, (empty, none.1))
+  module _ (lent : S → List ℕ) (capacity : ℕ) (before after : List ℕ) where
+    -- what is lacking if so much is left of the limit
+    abbrev pub LacksAt : ℕ → S → Type 0
+    LacksAt left t = VectorLacksRoom at capacity after (take left (lent t))
+
+    pub told_of_taken : {E : Type 0} (r : Result (Result ℕ Error) E) (b : MutBor S) (limit : ℕ) (t : S)
+        → x.inner ≡ b → x.limit ≡ limit → t ≡ y.inner.now
+        → ToldByUntil (TakesMarks (Lent reads)) at (LacksBy at capacity (λ u. take u.limit (lent u.inner.now))) x before r y after
+        → (m : List ReadMark) × (xs : List ℕ) × ToldStripped reads b.now m t × (after ≡ before ++ xs)
+        × IfOk r (λ v. PieceWithin (LacksAt (limit - length xs) t) limit at xs m v) × IfErr r (λ _. (m ≡ []) × (xs ≡ []))
+    told_of_taken (Ok v) b limit t inner is left (l, xs, told, appended, piece, none) =
+        let (m, ran, within) = piece_of_taken (λ n. LacksAt n y.inner.now) xs l v told piece in
+        (m, xs, rw (← inner, left) ran, appended, rw (← is, left) within, tt)
+    told_of_taken (Err e) b limit t inner is left (l, xs, told, appended, piece, none) =
+        let m = strip_marks told.1.front in
+        let empty = none_in_front m told.1.ends (sym (cut_of l told) ∙ none.0) in
+        (m, xs, rw (← inner, left) (told.1.front, told.1.ran.0, refl), appended, tt, (empty, none.1))

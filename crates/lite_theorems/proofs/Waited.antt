@@ -1,13 +1,13 @@
 -- What a reader tells while a call of it is waited for, pendings aside.
-use Rattle.std.specs.Prelude.{⊤, IfErr, IfOk, OnErr, ◌≡◌, ◌≤◌, ℕ, List, [], ◌∷◌, ◌++◌, length, Result, Ok, Err}
+use Rattle.std.specs.Prelude.{IfErr, IfOk, OnErr, vec_capacity, ◌≡◌, ◌≤◌, ℕ, List, [], ◌∷◌, ◌++◌, length, Result, Ok, Err}
 use Rattle.lite_theorems.specs.Uses.{◌∙◌, take, drop, inl, inr, ap, append-nil, append_assoc, arith, refl, subst, sym, take-append-drop, drop-length}
 use Rattle.lite_theorems.specs.Uses.{take-length, length-take, map-append, take_all, FoldsTo, Error, MutBor, Poll, Ready, Pending, Gives, segment_before}
 use Rattle.lite_theorems.specs.Uses.{segment_front, to_value_last, Runs, no_wait_moved, stripped_no_pending, ReadMark, bytes, read_marks, MarkLaws}
 use Rattle.lite_theorems.specs.Uses.{NoPendingRead, strip_marks, Filling, filling_of, past_pending, past_value, filled_by, Cut, CutsPiece, PolledByCalls, Reads}
-use Rattle.lite_theorems.specs.Uses.{Fulfils, ReadsExactly, fills, AnswerMarks, Gathers, ReadFold, ReadFolds, CountsPiece, ReadsUntil, until, read_of}
+use Rattle.lite_theorems.specs.Uses.{Fulfils, ReadsExactly, fills, AnswerMarks, Gathers, ReadFold, ReadFolds, CountsPiece, ReadsUntilByRoom, StandsFirst, UntilLacksRoom, until, read_of}
 use Rattle.lite_theorems.specs.Uses.{ReadFuture, ReadExactFuture, ReadUntilFuture}
 use Rattle.lite_theorems.specs.Laws.Told.{told_follow, told_none}
-use Rattle.lite_theorems.specs.Told.{FillsUp, PieceTold, EndsShort, ToldStripped, Without}
+use Rattle.lite_theorems.specs.Told.{FillsUp, VectorLacksRoom, PieceTold, EndsShort, ToldStripped, Without}
 
 -- what is gathered up to a value, pendings aside
 pub read_folds_once : {M R : Type 0} (fold : ReadFold M R)
@@ -44,12 +44,6 @@ WaitedFor {F} {A} run x r y = IfOk r (λ v. (l : List (Poll A)) × Gives l v × 
 abbrev pub done : {A : Type 0} → A → Result A (Unit {0})
 done v = Ok v
 
--- what is known of waits by some runs is known of waits by more of them
-pub waited_more : {F A E : Type 0} (some all : Runs (Poll A) F) (x y : F) (r : Result A E)
-    → ((l : List (Poll A)) → some x l y → all x l y) → WaitedFor some x r y → WaitedFor all x r y
-waited_more some all x y (Ok v) more h = ((h.0.0, h.0.1, more h.0.0 h.0.2), h.1)
-waited_more some all x y (Err e) more h = h
-
 -- what was told gave the value
 gathers_told : {X S M R : Type 0} {reader : X → S} {held : X → M} {fold : X → ReadFold M R} {Keeps : X → X → Type 0}
     {reads : Runs ReadMark S} {x y : X} {l : List (Poll R)} {v : R} → Gathers reader held fold Keeps reads x l y
@@ -73,16 +67,16 @@ no_wait_full g (ReadMark.end ∷ []) v h = tt
 no_wait_full g (ReadMark.fault kind ∷ []) v h = tt
 no_wait_full g _ v h = absurd h
 
-fills_up : (xs new : List ℕ) (last : List ReadMark) (v : Filled) → (length xs ≡ length new → xs ≡ new)
-    → Fulfils (xs, length new) last v → FillsUp new (bytes xs ++ last) v
-fills_up xs new [] (Ok u) all h = append-nil (bytes xs) ∙ ap bytes (all h.0)
-fills_up xs new [] (Err e) all h = absurd (cc h.1)
-fills_up xs new (ReadMark.end ∷ []) (Err e) all h =
-    record { front = xs; last = ReadMark.end ∷ []; fewer = h.0; stops = inl (refl, h.1); cut = refl }
-fills_up xs new (ReadMark.fault kind ∷ []) (Err e) all h =
+fills_up : (xs new : List ℕ) (last : List ReadMark) (v : Filled) → StandsFirst xs new
+    → (length xs ≡ length new → xs ≡ new) → Fulfils (xs, length new) last v → FillsUp new (bytes xs ++ last) v
+fills_up xs new [] (Ok u) held all h = append-nil (bytes xs) ∙ ap bytes (all h.0)
+fills_up xs new [] (Err e) held all h = absurd (cc h.1)
+fills_up xs new (ReadMark.end ∷ []) (Err e) held all h =
+    record { front = xs; last = ReadMark.end ∷ []; fewer = h.0; held = held; stops = inl (refl, h.1); cut = refl }
+fills_up xs new (ReadMark.fault kind ∷ []) (Err e) held all h =
     let stops : EndsShort (ReadMark.fault kind ∷ []) e = inr (ap (λ k. ReadMark.fault k ∷ []) (sym h.1)) in
-    record { front = xs; last = ReadMark.fault kind ∷ []; fewer = h.0; stops = stops; cut = refl }
-fills_up xs new _ v all h = absurd h
+    record { front = xs; last = ReadMark.fault kind ∷ []; fewer = h.0; held = held; stops = stops; cut = refl }
+fills_up xs new _ v held all h = absurd h
 
 exact_value : (k n : ℕ) (new : List ℕ) (l : List ReadMark) (v : Filled)
     → AnswerMarks fills ([], n) l (Ready v) (take k new, length new) → (length new ≡ n) × FillsUp new l v
@@ -90,10 +84,11 @@ exact_value k n new l v w =
     let taken = filled_by w.taken ([], n) w.between w.folds in
     let front : take k new ≡ w.taken = ap (λ (z : Filling). z.0) w.given.1 ∙ taken.0 in
     let room : length new ≡ n = ap (λ (z : Filling). z.1) w.given.1 ∙ taken.1 in
-    let held : w.between ≡ (w.taken, length new) = cc in
+    let between : w.between ≡ (w.taken, length new) = cc in
     let all : length w.taken ≡ length new → w.taken ≡ new = λ e. sym front ∙ take_all k new
     (omega (arith, length-take k new, ap length front, e)) in
-    (room, rw w.cut (fills_up w.taken new w.last v all (rw held at w.given.0)))
+    let held : StandsFirst w.taken new = (drop k new, sym (take-append-drop k new) ∙ ap (λ z. z ++ drop k new) front) in
+    (room, rw w.cut (fills_up w.taken new w.last v held all (rw between at w.given.0)))
 
 -- `read`
 no_wait_read : (v : Result ℕ Error) (buf : List ℕ) → NoPendingRead (read_marks (Ready v) buf)
@@ -133,21 +128,21 @@ polled_told E laws x y (Ready r ∷ l) v g h =
       (ap (λ z. z.reader.ghost_name) last.stays, ap (λ z. z.buf.ghost_name) last.stays),
     )
 
--- `read_until`
-module _ (at : ℕ) where
-  no_wait_cut : (p : List ℕ) (l : List ReadMark) (cut : Cut) → CutsPiece at ⊤ p l cut → NoPendingRead l
+-- `read_until`, in which an allocation may fail if `m` is true
+module _ (at : ℕ) (m : Type 0) where
+  no_wait_cut : (p : List ℕ) (l : List ReadMark) (cut : Cut) → CutsPiece at m p l cut → NoPendingRead l
   no_wait_cut p l (Cut.failed e) (inl h) = rw h tt
   no_wait_cut p l (Cut.failed e) (inr h) = rw h.0 tt
   no_wait_cut p l _ h = rw h.0 tt
 
-  held_without : (xs p q : List ℕ) → FoldsTo (until at ⊤).takes p xs q → (q ≡ p ++ xs) × Without at xs
+  held_without : (xs p q : List ℕ) → FoldsTo (until at m).takes p xs q → (q ≡ p ++ xs) × Without at xs
   held_without [] p q h = (sym h ∙ sym (append-nil p), tt)
   held_without (x ∷ xs) p q (r, t, more) =
       let rest = held_without xs r q more in
       (rest.0 ∙ ap (λ z. z ++ xs) t.1 ∙ append_assoc p (x ∷ []) xs, (t.0, rest.1))
 
   piece_cut : (xs after : List ℕ) (last : List ReadMark) (v : Result ℕ Error) (cut : Cut) → Without at xs
-      → CutsPiece at ⊤ xs last cut → CountsPiece at cut xs v after → PieceTold at after (bytes xs ++ last) v
+      → CutsPiece at m xs last cut → CountsPiece at cut xs v after → PieceTold m at after (bytes xs ++ last) v
   piece_cut xs after last v (Cut.piece ys) w c k =
       let whole : after ≡ xs ++ at ∷ [] = rw c.1 at k.0 in
       let told : bytes xs ++ last ≡ bytes after = rw (c.0, whole) (sym (map-append ReadMark.byte xs (at ∷ []))) in
@@ -161,10 +156,10 @@ module _ (at : ℕ) where
   piece_cut xs after last v (Cut.failed e) w (inl c) k =
       rw (k.1, k.0) (w, inl (rw c refl))
   piece_cut xs after last v (Cut.failed e) w (inr c) k =
-      rw (k.1, k.0) (w, inr (rw c.0 (append-nil (bytes xs)), c.2))
+      rw (k.1, k.0) (w, inr (c.1, rw c.0 (append-nil (bytes xs)), c.2))
 
-  piece_value : (l : List ReadMark) (v : Result ℕ Error) (q : List ℕ) → AnswerMarks (until at ⊤) [] l (Ready v) q
-      → PieceTold at q l v
+  piece_value : (l : List ReadMark) (v : Result ℕ Error) (q : List ℕ) → AnswerMarks (until at m) [] l (Ready v) q
+      → PieceTold m at q l v
   piece_value l v q w =
       let held = held_without w.taken [] w.between w.folds in
       let g = w.given in
@@ -175,12 +170,16 @@ abbrev pub ToldByExact : {S E : Type 0} → Runs ReadMark S → S → List ℕ �
 ToldByExact reads s before r t ts = ((l : List ReadMark) × ToldStripped reads s l t
     × IfOk r (λ v. FillsUp ts l v) × IfErr r (λ _. l ≡ [])) × (length ts ≡ length before)
 
--- a `read_until` likewise, which left these bytes in its vector
-abbrev pub ToldByUntil : {S E : Type 0} → Runs ReadMark S → ℕ → S → List ℕ → Result (Result ℕ Error) E → S → List ℕ
-    → Type 0
-ToldByUntil reads at s before r t ts =
+-- a `read_until` likewise, which left these bytes in its vector; `lacks` says when an allocation may fail
+abbrev pub ToldByUntil : {S E : Type 0} → Runs ReadMark S → ℕ → (List ℕ → S → Type 0) → S → List ℕ
+    → Result (Result ℕ Error) E → S → List ℕ → Type 0
+ToldByUntil reads at lacks s before r t ts =
     (l : List ReadMark) × (xs : List ℕ) × ToldStripped reads s l t × (ts ≡ before ++ xs)
-    × IfOk r (λ v. PieceTold at xs l v) × IfErr r (λ _. (l ≡ []) × (xs ≡ []))
+    × IfOk r (λ v. PieceTold (lacks ts t) at xs l v) × IfErr r (λ _. (l ≡ []) × (xs ≡ []))
+
+-- the vector had so much room, and what the reader has at hand is too much for it
+abbrev pub LacksBy : {S : Type 0} → ℕ → ℕ → (S → List ℕ) → List ℕ → S → Type 0
+LacksBy at capacity lent ts t = VectorLacksRoom at capacity ts (lent t)
 
 module _ {S E : Type 0} {reads : Runs ReadMark S} (laws : MarkLaws reads) where
   -- `read`: what was told, and the references
@@ -206,26 +205,28 @@ module _ {S E : Type 0} {reads : Runs ReadMark S} (laws : MarkLaws reads) where
   exact_waited x y (Err e) begun w = rw w.1 ((([], told_none laws x.reader.now, tt, refl), refl), (refl, refl))
 
   -- `read_until` likewise
-  pub until_waited : (x y : ReadUntilFuture S) (r : Result (Result ℕ Error) E) → x.start ≡ length x.buf.now.items
-      → WaitedFor (ReadsUntil reads ⊤) x r y
-      → ToldByUntil reads x.byte x.reader.now x.buf.now.items r y.reader.now y.buf.now.items
+  pub until_waited : (lent : S → List ℕ) (x y : ReadUntilFuture S) (r : Result (Result ℕ Error) E)
+      → x.start ≡ length x.buf.now.items → WaitedFor (ReadsUntilByRoom reads lent) x r y
+      → ToldByUntil reads x.byte (LacksBy x.byte (vec_capacity x.buf.now) lent) x.reader.now x.buf.now.items r
+      y.reader.now y.buf.now.items
       × SameTwo y.reader y.buf x.reader x.buf
-  until_waited x y (Ok v) begun w =
-      let h = w.0.2 in
+  until_waited lent x y (Ok v) begun w =
+      let h = w.0.2.gathered in
+      let m = UntilLacksRoom lent x y in
       let old = x.buf.now.items in
       let new = y.buf.now.items in
-      let told = gathers_told h (λ p q l v h. no_wait_cut x.byte p l h.0 h.1) w.0.1 in
+      let told = gathers_told h (λ p q l v h. no_wait_cut x.byte m p l h.0 h.1) w.0.1 in
       let none : read_of x ≡ [] = rw begun (drop-length old) in
       let some : read_of y ≡ drop (length old) new = rw (h.stays.start, begun) refl in
       let xs = drop (length old) new in
-      let piece = piece_value x.byte told.0 v xs (subst (AnswerMarks (until x.byte ⊤) [] told.0 (Ready v)) some
-      (subst (λ p. AnswerMarks (until x.byte ⊤) p told.0 (Ready v) (read_of y)) none told.2)) in
+      let piece = piece_value x.byte m told.0 v xs (subst (AnswerMarks (until x.byte m) [] told.0 (Ready v)) some
+      (subst (λ p. AnswerMarks (until x.byte m) p told.0 (Ready v) (read_of y)) none told.2)) in
       let kept : take (length old) new ≡ old = rw begun at h.stays.before ∙ take-length old in
       let whole : new ≡ old ++ xs = sym (take-append-drop (length old) new) ∙ ap (λ z. z ++ xs) kept in (
         (told.0, xs, told.1, whole, piece, tt),
         (ap (λ z. z.ghost_name) h.stays.reader, ap (λ z. z.ghost_name) h.stays.buf),
       )
-  until_waited x y (Err e) begun w =
+  until_waited lent x y (Err e) begun w =
       rw w.1 (([], [], told_none laws x.reader.now, sym (append-nil x.buf.now.items), tt, (refl, refl)), (refl, refl))
 
 -- what is told of two values is told of values that equal them

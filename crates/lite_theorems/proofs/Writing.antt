@@ -1,10 +1,11 @@
 -- What a service replied and what a writer took, first to some requests and then to others.
 use Rattle.std.specs.Prelude.{◌≡◌, ℕ, Bool, List, [], ◌∷◌, ◌++◌, Result, Ok, Err}
-use Rattle.lite_theorems.specs.Uses.{◌∙◌, AllZip, ap, append-nil, append_assoc, concat, concat-append, EndsFlushed, Error, NoFailure}
-use Rattle.lite_theorems.specs.Uses.{no_failure_both, refl, StandsFirst, sym, WriteMark, bytes_taken}
+use Rattle.lite_theorems.specs.Uses.{◌∙◌, AllZip, ap, append-nil, append_assoc, concat, concat-append, EndsFlushed, Error}
+use Rattle.lite_theorems.specs.Uses.{refl, StandsFirst, sym, WriteMark, bytes_taken}
 use Rattle.lite_theorems.specs.Laws.Taken.{taken_both}
+use Rattle.lite_theorems.specs.BothWriters.{FlushedUp, WritesAndFlushes}
 use Rattle.lite_theorems.specs.Services.{AllWritten, Replies, ServiceStep, Wrote}
-use Rattle.lite_theorems.proofs.BothWriters.{fails_later}
+use Rattle.lite_theorems.proofs.BothWriters.{fails_later, flushes_both, once_flushes, only_fails}
 
 module _ {L A B : Type 0} (serves : ServiceStep L A B) where
   pub replies_both : (x y z : L) (l m : List A) (r s : List B) → Replies serves x l r y → Replies serves y m s z
@@ -28,7 +29,7 @@ module _ (took more : List WriteMark) where
   module _ (replies : List (List ℕ)) (all : AllWritten took replies) where
     pub all_both : (others : List (List ℕ)) → AllWritten more others → AllWritten (took ++ more) (replies ++ others)
     all_both others a = (
-      no_failure_both took more all.0 a.0,
+      flushes_both took more all.0 a.0,
       rw (taken_both took more, all.1, a.1) (sym (concat-append replies others)),
     )
 
@@ -42,17 +43,17 @@ module _ (took more : List WriteMark) where
     )
 
     -- no more bytes
-    pub still_all : NoFailure more → bytes_taken more ≡ [] → AllWritten (took ++ more) replies
+    pub still_all : WritesAndFlushes more → bytes_taken more ≡ [] → AllWritten (took ++ more) replies
     still_all fine none = (
-      no_failure_both took more all.0 fine,
+      flushes_both took more all.0 fine,
       taken_both took more ∙ ap (λ k. bytes_taken took ++ k) none ∙ append-nil (bytes_taken took) ∙ all.1,
     )
 
 -- bytes, and then others or a flush
-pub wrote_both : (xs : List ℕ) (flushes : Bool) (l m : List WriteMark) (r : Result (Unit {0}) Error) → NoFailure l
+pub wrote_both : (xs : List ℕ) (flushes : Bool) (l m : List WriteMark) (r : Result (Unit {0}) Error) → WritesAndFlushes l
     → bytes_taken l ≡ xs → Wrote [] flushes m r → Wrote xs flushes (l ++ m) r
 wrote_both xs flushes l m (Ok u) fine all h = (
-  no_failure_both l m fine h.0,
+  flushes_both l m fine h.0,
   taken_both l m ∙ ap (λ k. bytes_taken l ++ k) h.1 ∙ append-nil (bytes_taken l) ∙ all,
   λ now. ends_later l m (h.2 now),
 )
@@ -65,3 +66,9 @@ wrote_both xs flushes l m (Err e) fine all h =
     nothing_before : (p q : List ℕ) → [] ≡ p ++ q → p ≡ []
     nothing_before [] q e = refl
     nothing_before (b ∷ p) q e = cc e
+
+-- a flush
+pub wrote_flush : (took : List WriteMark) (now : Bool) (v : Result (Unit {0}) Error) → bytes_taken took ≡ []
+    → FlushedUp took v → Wrote [] now took v
+wrote_flush took now (Ok u) none h = (once_flushes took h, none, λ is. (h.0, h.2))
+wrote_flush took now (Err e) none h = (([], sym (append-nil (bytes_taken took) ∙ none)), only_fails took e h)

@@ -1,6 +1,6 @@
 -- What a writer accepted once a future of `write_value` returned.
 use Rattle.std.specs.Prelude.{◌≡◌, ℕ, List, [], ◌∷◌, map, Result, Ok, Err}
-use Rattle.lite_theorems.specs.Uses.{◌∙◌, refl, subst, sym, Error, Poll, Pending, Ready, Gives, MarkLaws, Runs, WriteAllFuture, WriteMark, WritesAll, all_laws}
+use Rattle.lite_theorems.specs.Uses.{◌∙◌, refl, subst, sym, Error, Poll, Pending, Ready, Gives, MarkLaws, Runs, WriteAllFuture, WriteMark, WritesAll, all_runs}
 use Rattle.lite_theorems.specs.BothWriters.{HandedUp, TakesFront}
 use Rattle.lite_theorems.specs.ValueWriter.{InFirstPoll, HoldsValue, ReturnsWritten, TakesValue, as_written, written_value}
 use Rattle.lite_theorems.specs.Values.{ValueTaken}
@@ -38,7 +38,7 @@ module _ {W V : Type 0} {writes : Runs WriteMark W} (laws : MarkLaws writes) (en
       (e : EncodeError) → WritesAll writes a w b → w ≡ [] → v ≡ Err e → ValueTaken encodes value [] [] (Err e)
       → Accepts a b v
   unwritten a b w v e came none is taken =
-      let same = (all_laws laws).stays a b (rw none at came) in
+      let same = (all_runs laws).stays a b (rw none at came) in
       ([], [], (rw same (laws.rests a.writer.now), ([], refl)), rw is taken)
 
   refused_value : (a b : WriteAllFuture W) (w : List (Poll (Result (Unit {0}) Error)))

@@ -1,7 +1,7 @@
 -- What a service replies to requests, how it goes from state to state, and what is written of replies.
 use Rattle.std.specs.Prelude.{◌≡◌, ℕ, Bool, true, List, [], ◌∷◌, Option, Some, None, Result, Ok, Err, ⊤}
-use Rattle.lite_theorems.specs.Uses.{concat, Error, EndsFlushed, NoFailure, StandsFirst, WriteMark, bytes_taken}
-use Rattle.lite_theorems.specs.BothWriters.{FailsWith}
+use Rattle.lite_theorems.specs.Uses.{concat, Error, EndsFlushed, StandsFirst, WriteMark, bytes_taken}
+use Rattle.lite_theorems.specs.BothWriters.{FailsWith, WritesAndFlushes}
 
 -- A step of a service: in a state it replies to a request, and goes to a state. `None` in place of the reply says that
 -- memory for it was refused.
@@ -34,12 +34,12 @@ module _ {L A B : Type 0} (serves : ServiceStep L A B) where
   Replies x [] (reply ∷ replies) z = ⊥
   Replies x (request ∷ requests) [] z = ⊥
 
--- No call of the writer failed, and the bytes that it took are these replies.
+-- The writer was only written to and flushed, no call failed, and the bytes that it took are these replies.
 abbrev pub AllWritten : List WriteMark → List (List ℕ) → Type 0
-AllWritten took replies = NoFailure took × (bytes_taken took ≡ concat replies)
+AllWritten took replies = WritesAndFlushes took × (bytes_taken took ≡ concat replies)
 
--- What was written of the bytes `xs`: all of them, and then the writer was flushed if `flushes`. Or it failed after a
--- prefix of them.
+-- What was written of the bytes `xs`: all of them, and a flush came last if `flushes`. Or the writer failed after a
+-- prefix of them. More flushes may come in between.
 abbrev pub Wrote : List ℕ → Bool → List WriteMark → Result (Unit {0}) Error → Type 0
-Wrote xs flushes took (Ok u) = NoFailure took × (bytes_taken took ≡ xs) × (flushes ≡ true → EndsFlushed took)
+Wrote xs flushes took (Ok u) = WritesAndFlushes took × (bytes_taken took ≡ xs) × (flushes ≡ true → EndsFlushed took)
 Wrote xs flushes took (Err e) = StandsFirst (bytes_taken took) xs × FailsWith took e

@@ -1,5 +1,6 @@
 -- A stream of your own that is specified by a step: what one poll may return and leave. Its run is `FoldsTo step`, its
--- laws are `stream_by_steps` or `stream_hinting`, and its rank is `stream_counting` or `stream_ranking`.
+-- laws are `stream_by_steps` or `stream_hinting`, or `stream_by_keeping_steps` if it may not always be polled. Its rank
+-- is `stream_counting` or `stream_ranking`.
 use Rattle.std.specs.Prelude.{◌≡◌, ◌<◌, ◌≤◌, ℕ, [], ◌∷◌, length, Some}
 use Rattle.lite_theorems.specs.Uses.{Pending, Answer, end, item, Hints, Below, Lowers, Ranks}
 

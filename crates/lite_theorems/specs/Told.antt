@@ -1,6 +1,6 @@
 -- What a reader produced while a call was waited for, without the `Pending`s.
-use Rattle.std.specs.Prelude.{◌≡◌, ◌≢◌, ◌≤◌, ◌<◌, ◌⊎◌, ℕ, List, [], ◌∷◌, ◌++◌, length, Result, Ok, Err}
-use Rattle.lite_theorems.specs.Uses.{error_kind, AllByRecursion, Error, OutOfMemory, UnexpectedEof, Runs, ReadMark, bytes, strip_marks}
+use Rattle.std.specs.Prelude.{◌≡◌, ◌≢◌, ◌≤◌, ◌<◌, ◌+◌, ◌⊎◌, ℕ, List, [], ◌∷◌, ◌++◌, length, Result, Ok, Err}
+use Rattle.lite_theorems.specs.Uses.{error_kind, AllByRecursion, Error, OutOfMemory, UnexpectedEof, Runs, ReadMark, bytes, strip_marks, StandsFirst, through_first}
 
 -- The reader produced just the marks `l`, if the `Pending`s are left out.
 abbrev pub ToldStripped : {R : Type 0} → Runs ReadMark R → Runs ReadMark R
@@ -11,18 +11,20 @@ abbrev pub EndsShort : List ReadMark → Error → Type 0
 EndsShort last e =
     ((last ≡ ReadMark.end ∷ []) × (error_kind e ≡ UnexpectedEof)) ⊎ (last ≡ ReadMark.fault (error_kind e) ∷ [])
 
--- The reader produced fewer than `n` bytes, and then an end of file or the error.
-pub record ToldFewer (n : ℕ) (told : List ReadMark) (e : Error) : Type 0 where
+-- The reader produced the bytes `front`, fewer than fit into `buf`, and then an end of file or the error. They stand at
+-- the start of `buf`.
+pub record ToldFewer (buf : List ℕ) (told : List ReadMark) (e : Error) : Type 0 where
   pub front : List ℕ
   pub last : List ReadMark
-  pub fewer : length front < n
+  pub fewer : length front < length buf
+  pub held : StandsFirst front buf
   pub stops : EndsShort last e
   pub cut : told ≡ bytes front ++ last
 
--- What `read_exact` read: the bytes that are now in `buf`, or fewer and an error.
+-- What `read_exact` read: the bytes that are now in `buf`, or fewer, at its front, and an error.
 abbrev pub FillsUp : List ℕ → List ReadMark → Result (Unit {0}) Error → Type 0
 FillsUp buf told (Ok u) = told ≡ bytes buf
-FillsUp buf told (Err e) = ToldFewer (length buf) told e
+FillsUp buf told (Err e) = ToldFewer buf told e
 
 -- None of the bytes is `at`.
 abbrev pub Without : ℕ → List ℕ → Type 0
@@ -34,21 +36,26 @@ pub record EndsAtFirst (at : ℕ) (xs : List ℕ) : Type 0 where
   pub without : Without at before
   pub whole : xs ≡ before ++ at ∷ []
 
+-- A vector of the capacity `capacity` is too small for `items` and then the bytes `lent` through the byte `at`.
+abbrev pub VectorLacksRoom : ℕ → ℕ → List ℕ → List ℕ → Type 0
+VectorLacksRoom at capacity items lent = capacity < length items + length (through_first at lent)
+
 -- What `read_until` read when it appended the bytes `xs`: a piece with its delimiter, or bytes without it before the
--- end of file. The value is their number. If it is an error, the bytes have no delimiter, and the error came after them
--- or is an allocation failure.
-abbrev pub PieceTold : ℕ → List ℕ → List ReadMark → Result ℕ Error → Type 0
-PieceTold at xs told (Ok n) = (n ≡ length xs)
+-- end of file. The value is their number. If it is an error, the bytes have no delimiter, and the error came after
+-- them. Or it is an allocation failure, if `may_refuse` allows one.
+abbrev pub PieceTold : Type 0 → ℕ → List ℕ → List ReadMark → Result ℕ Error → Type 0
+PieceTold may_refuse at xs told (Ok n) = (n ≡ length xs)
     × ((EndsAtFirst at xs × (told ≡ bytes xs)) ⊎ (Without at xs × (told ≡ bytes xs ++ ReadMark.end ∷ [])))
-PieceTold at xs told (Err e) = Without at xs
-    × ((told ≡ bytes xs ++ ReadMark.fault (error_kind e) ∷ []) ⊎ ((told ≡ bytes xs) × (error_kind e ≡ OutOfMemory)))
+PieceTold may_refuse at xs told (Err e) = Without at xs
+    × ((told ≡ bytes xs ++ ReadMark.fault (error_kind e) ∷ [])
+    ⊎ (may_refuse × (told ≡ bytes xs) × (error_kind e ≡ OutOfMemory)))
 
 -- What `read_until` read up to a limit when it appended the bytes `xs`: a piece with its delimiter; or exactly `limit`
 -- bytes without it, after which nothing was read; or fewer without it before the end of file. The value is their number.
 -- An error is as in `PieceTold`.
-abbrev pub PieceWithin : ℕ → ℕ → List ℕ → List ReadMark → Result ℕ Error → Type 0
-PieceWithin limit at xs told (Ok n) = (n ≡ length xs)
+abbrev pub PieceWithin : Type 0 → ℕ → ℕ → List ℕ → List ReadMark → Result ℕ Error → Type 0
+PieceWithin may_refuse limit at xs told (Ok n) = (n ≡ length xs)
     × ((EndsAtFirst at xs × (told ≡ bytes xs) × (length xs ≤ limit))
     ⊎ ((Without at xs × (told ≡ bytes xs) × (length xs ≡ limit))
     ⊎ (Without at xs × (told ≡ bytes xs ++ ReadMark.end ∷ []) × (length xs < limit))))
-PieceWithin limit at xs told (Err e) = PieceTold at xs told (Err e) × (length xs ≤ limit)
+PieceWithin may_refuse limit at xs told (Err e) = PieceTold may_refuse at xs told (Err e) × (length xs ≤ limit)

@@ -4,11 +4,12 @@ pub use Rattle.futures.specs.declared.task.Poll.TheVariants.{Pending, Ready}
 pub use Rattle.lite_base.specs.Answers.{Answer, Comparable, Gives, UpToValue, Waiting, before_end, end, item, items, strip, until_end}
 pub use Rattle.lite_base.specs.Calm.{CalmLaws, NoPending}
 pub use Rattle.lite_base.specs.Future.AtEachOk.{AtEachOk}
-pub use Rattle.lite_base.specs.FutureLaws.{FutureLaws}
+pub use Rattle.lite_base.specs.FutureLaws.{FutureLaws, FutureRunLaws, WaitsOn}
 pub use Rattle.lite_base.specs.Laws.Alike.{gives_strip}
 pub use Rattle.lite_base.specs.Laws.Answers.{up_to_once, waiting_up_to}
 pub use Rattle.lite_base.specs.Laws.Calls.{folds_follow}
 pub use Rattle.lite_base.specs.Laws.Falling.{Below-one, Lowers-at_most, at_most_one}
+pub use Rattle.lite_base.specs.Laws.FutureLaws.{future_laws_of}
 pub use Rattle.lite_base.specs.Laws.Hint.{same_hint}
 pub use Rattle.lite_base.specs.Laws.Segments.{segment_before, segment_front, to_value_last}
 pub use Rattle.lite_base.specs.Laws.StreamLaws.{laws_of}
@@ -17,7 +18,7 @@ pub use Rattle.lite_base.specs.Rank.{AtMost, Below, Lowers}
 pub use Rattle.lite_base.specs.Ranks.{Counting, Ranks, number_ranks, ranks_of}
 pub use Rattle.lite_base.specs.Runs.{Hints, NoHint, Runs}
 pub use Rattle.lite_base.specs.Steady.{FutureSteadyLaws}
-pub use Rattle.lite_base.specs.StreamLaws.{RunLaws, StreamLaws}
+pub use Rattle.lite_base.specs.StreamLaws.{PollsOn, RunLaws, StreamLaws}
 pub use Rattle.lite_buffered.specs.BufReader.{PassesBuffer, ThroughBuffer, ahead, reader_capacity, reader_inner}
 pub use Rattle.lite_buffered.specs.BufWriter.{Buffers, unwritten, writer_inner}
 pub use Rattle.lite_buffered.specs.Chain.{ChainsReaders, EndlessMarks, JoinsReaders, ReadsAcross, first_of, has_ended, second_of}
@@ -60,13 +61,11 @@ pub use Rattle.lite_merge.specs.Race.{Races, RacesOn}
 pub use Rattle.lite_merge.specs.declared.or.Or.{Or}
 pub use Rattle.lite_merge.specs.declared.race.Race.{Race}
 pub use Rattle.lite_read.specs.Appending.{ToEndStays}
-pub use Rattle.lite_read.specs.BytePieces.{byte_lines, last_piece, pieces_from}
+pub use Rattle.lite_read.specs.BytePieces.{byte_lines, last_piece, pieces_from, through_first}
 pub use Rattle.lite_read.specs.Deterministic.{SameByKind}
 pub use Rattle.lite_read.specs.Filling.{Filling, filling_of}
 pub use Rattle.lite_read.specs.Laws.Deterministic.{past_pending, past_value}
 pub use Rattle.lite_read.specs.Laws.ReadExact.{filled_by}
-pub use Rattle.lite_read.specs.Laws.ReadToEnd.{to_end_any}
-pub use Rattle.lite_read.specs.Laws.ReadUntil.{until_any}
 pub use Rattle.lite_read.specs.Laws.SteadyReadToEnd.{appends_deterministic}
 pub use Rattle.lite_read.specs.LineText.{IsText, without_return}
 pub use Rattle.lite_read.specs.Lines.{GivesLines, lining}
@@ -75,8 +74,8 @@ pub use Rattle.lite_read.specs.Polled.{PolledByCalls}
 pub use Rattle.lite_read.specs.Read.{Reads}
 pub use Rattle.lite_read.specs.ReadExact.{Fulfils, ReadsExactly, fills}
 pub use Rattle.lite_read.specs.ReadFold.{AnswerMarks, Gathers, ReadFold, ReadFolds}
-pub use Rattle.lite_read.specs.ReadToEnd.{Appended, ReadsToEnd, ReadsToEndByRoom, appends}
-pub use Rattle.lite_read.specs.ReadUntil.{CountsPiece, ReadsUntil, ReadsUntilByRoom, until}
+pub use Rattle.lite_read.specs.ReadToEnd.{Appended, ReadsToEnd, ReadsToEndByRoom, ToEndLacksRoom, appends, next_read}
+pub use Rattle.lite_read.specs.ReadUntil.{CountsPiece, ReadsUntil, ReadsUntilByRoom, UntilLacksRoom, until}
 pub use Rattle.lite_read.specs.Segments.{PieceSegments}
 pub use Rattle.lite_read.specs.UntilVector.{read_of}
 pub use Rattle.lite_read.specs.declared.lines.Lines.{Lines}
@@ -90,8 +89,8 @@ pub use Rattle.lite_write.specs.Copy.{CopyRuns, CopyValue}
 pub use Rattle.lite_write.specs.Flush.{Flushes}
 pub use Rattle.lite_write.specs.Hands.{Hands}
 pub use Rattle.lite_write.specs.Laws.Copy.{ok_value, told_both}
-pub use Rattle.lite_write.specs.Laws.SteadyWriteAll.{all_calm, all_steady, no_failure_both}
-pub use Rattle.lite_write.specs.Laws.WriteAll.{all_laws}
+pub use Rattle.lite_write.specs.Laws.SteadyWriteAll.{all_calm, all_steady}
+pub use Rattle.lite_write.specs.Laws.WriteAll.{all_runs}
 pub use Rattle.lite_write.specs.MarkLists.{BytesAlone, bytes_told}
 pub use Rattle.lite_write.specs.Parts.{NothingCopied, held_of, met_in, source_of}
 pub use Rattle.lite_write.specs.SteadyWriteAll.{NoFailure, NoneFails, WithoutFailure}

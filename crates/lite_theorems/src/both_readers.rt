@@ -1,5 +1,5 @@
-ghost use Rattle.std.specs.Prelude.{◌≡◌, ◌++◌, [], ℕ, List, IfErr, IfOk, ⊤};
-ghost use Rattle.lite_theorems.specs.BothReaders.{BothRead, ReadsUp};
+ghost use Rattle.std.specs.Prelude.{◌≡◌, ◌++◌, [], ℕ, List, IfErr, IfOk, length, vec_capacity};
+ghost use Rattle.lite_theorems.specs.BothReaders.{BothRead, LacksNext, ReadsUp};
 
 use lite_base::future::block_on::BlockOn;
 use lite_io_base::{CountedRead, SteadyRead};
@@ -17,8 +17,9 @@ use std::sync::Wait;
 /// compared by their kinds.
 ///
 /// The values are those of [`read_to_end`]: how many bytes were appended, or the reader's error. An error of
-/// the kind `OutOfMemory` means that there was no memory for more bytes. The call may wait for ever. Each
-/// reader can be read again afterwards.
+/// the kind `OutOfMemory` that is not the reader's means that there was no memory for more bytes. That comes
+/// only if the vector lacked room for its bytes and a largest next read (`LacksNext`). The call may wait for ever. Each reader can be read again
+/// afterwards.
 ///
 /// `AllocError` means that what the thread sleeps on could not be allocated. Then the second reader was not
 /// read, and the first either not at all or up to its value.
@@ -54,7 +55,10 @@ where
     requires second { T.ranks.counts y.old }
     requires alike { T.alike x.old y.old }
     ensures agree { (xs ys : List ℕ) × (out.new.items ≡ out.old.items ++ xs) × (out_more.new.items ≡ out_more.old.items ++ ys)
-        × IfOk result (λ values. BothRead T.reads T.ample T.needs_none x.old xs values.0 x.new y.old ys values.1 y.new)
+        × IfOk result (λ values. BothRead T.reads T.ample T.needs_none
+        (LacksNext (vec_capacity out.old) out.new.items (length xs))
+        (LacksNext (vec_capacity out_more.old) out_more.new.items (length ys))
+        x.old xs values.0 x.new y.old ys values.1 y.new)
         × IfErr result (λ _. (ys ≡ []) × (y.new ≡ y.old)) }
     ensures again { T.ranks.counts x.new × T.ranks.counts y.new }
 {
@@ -73,7 +77,7 @@ fn read_up<R: Wait, T: CountedRead>(
 ) -> Result<io::Result<usize>, AllocError>
     requires { T.ranks.counts reader.old }
     ensures read { (xs : List ℕ) × (out.new.items ≡ out.old.items ++ xs)
-        × IfOk result (λ v. ReadsUp ⊤ T.reads reader.old xs v reader.new)
+        × IfOk result (λ v. ReadsUp (LacksNext (vec_capacity out.old) out.new.items (length xs)) T.reads reader.old xs v reader.new)
         × IfErr result (λ _. (xs ≡ []) × (reader.new ≡ reader.old)) }
     ensures again { T.ranks.counts reader.new }
 {

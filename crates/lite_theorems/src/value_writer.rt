@@ -1,6 +1,6 @@
 //! A future that writes one value.
 ghost use Rattle.std.specs.Prelude.{◌≡◌};
-ghost use Rattle.lite_theorems.specs.Uses.{NoneFails, WithoutFailure, WritesAll, all_calm, all_laws, all_steady};
+ghost use Rattle.lite_theorems.specs.Uses.{NoneFails, WithoutFailure, WritesAll, all_calm, all_runs, all_steady};
 ghost use Rattle.lite_theorems.specs.ValueWriter.{HoldsValue, TakesValue, WritesValue};
 ghost use Rattle.lite_theorems.specs.Laws.ValueWriter.{value_calm, value_laws, value_steady};
 
@@ -36,7 +36,7 @@ impl<W: AsyncWrite> Future for WriteValueFuture<'_, W> {
 
     ghost registers = { λ x. W.write_registers x.writing.writer.now };
 
-    ghost laws = { value_laws (all_laws W.write_laws) };
+    ghost laws = { value_laws (all_runs W.write_laws) };
 
     fn poll(&mut self, cx: &mut Context<'_>) -> Poll<Result<(), EncodeError>> {
         match self.encoding {

@@ -1,9 +1,9 @@
 //! Blocking waits for one call of a reader or a writer. Their contracts follow from those of the traits
 //! alone. They say which events the reader produced, or which bytes the writer accepted.
-ghost use Rattle.std.specs.Prelude.{◌≡◌, ◌≤◌, ◌++◌, [], ℕ, List, Ok, IfErr, IfOk, IsOk, length};
+ghost use Rattle.std.specs.Prelude.{◌≡◌, ◌≤◌, ◌-◌, ◌++◌, [], ℕ, List, Ok, IfErr, IfOk, IsOk, length, take, vec_capacity};
 ghost use Rattle.lite_theorems.specs.Uses.{Ready, ReadMark, read_marks, WriteMark, bytes_taken};
 ghost use Rattle.lite_theorems.specs.BothWriters.{FlushedUp, HandedUp, TakesFront};
-ghost use Rattle.lite_theorems.specs.Told.{FillsUp, PieceTold, PieceWithin, ToldStripped};
+ghost use Rattle.lite_theorems.specs.Told.{FillsUp, PieceTold, PieceWithin, ToldStripped, VectorLacksRoom};
 
 use lite_base::future::Waits;
 use lite_base::future::block_on::BlockOn;
@@ -52,8 +52,9 @@ pub fn wait_read<R: Wait, T: AsyncRead>(
 /// Blocks this thread, by `on`, until `buf` is full, and returns the value.
 ///
 /// The value is that of [`read_exact`]. If it is `Ok`, the reader produced exactly the bytes of the buffer.
-/// Otherwise it produced fewer, and then an end of file or the error. If its rank counted before, it counts
-/// after the call, by the lemma `told_counts`. The call may wait for ever. The outer result is always `Ok`.
+/// Otherwise it produced fewer, which are at the front of the buffer, and then an end of file or the error.
+/// If its rank counted before, it counts after the call, by the lemma `told_counts`. The call may wait for
+/// ever. The outer result is always `Ok`.
 ///
 /// # Examples
 ///
@@ -89,8 +90,9 @@ pub fn wait_read_exact<R: Wait, T: AsyncRead>(
 /// `buf`.
 ///
 /// The value is that of [`read_until`]. The reader produced exactly the bytes that were appended, and then
-/// the end of file or the error, if there was one. The call may wait for ever. The outer result is always
-/// `Ok`. The caller guarantees that `ranks.counts` holds for the reader.
+/// the end of file or the error, if there was one. An allocation fails only if the vector lacked room
+/// (`VectorLacksRoom`). The call may wait for ever. The outer result is always `Ok`. The caller guarantees
+/// that `ranks.counts` holds for the reader.
 ///
 /// # Examples
 ///
@@ -115,7 +117,8 @@ pub fn wait_read_until<R: Wait, T: AsyncBufRead + CountedRead>(
     requires { T.ranks.counts reader.old }
     ensures told { (l : List ReadMark) × (xs : List ℕ) × ToldStripped T.reads reader.old l reader.new
         × (buf.new.items ≡ buf.old.items ++ xs)
-        × IfOk result (λ v. PieceTold byte xs l v) × IfErr result (λ _. (l ≡ []) × (xs ≡ [])) }
+        × IfOk result (λ v. PieceTold (VectorLacksRoom byte (vec_capacity buf.old) buf.new.items (T.lent reader.new)) byte xs l v)
+        × IfErr result (λ _. (l ≡ []) × (xs ≡ [])) }
     ensures again { T.ranks.counts reader.new }
     ensures waited { IsOk result }
 {
@@ -132,7 +135,8 @@ pub(crate) fn read_until_by<R: Wait, T: AsyncBufRead + CountedRead>(
 ) -> io::Result<usize>
     requires { T.ranks.counts reader.old }
     ensures told { (l : List ReadMark) × (xs : List ℕ) × ToldStripped T.reads reader.old l reader.new
-        × (buf.new.items ≡ buf.old.items ++ xs) × PieceTold byte xs l result }
+        × (buf.new.items ≡ buf.old.items ++ xs)
+        × PieceTold (VectorLacksRoom byte (vec_capacity buf.old) buf.new.items (T.lent reader.new)) byte xs l result }
     ensures again { T.ranks.counts reader.new }
 {
     waits.wait_for(rt, &mut read_until(reader, byte, buf))
@@ -173,7 +177,9 @@ pub fn wait_read_until_limited<R: Wait, T: AsyncBufRead + CountedRead>(
     requires { T.ranks.counts reader.old }
     ensures told { (l : List ReadMark) × (xs : List ℕ) × ToldStripped T.reads reader.old l reader.new
         × (buf.new.items ≡ buf.old.items ++ xs)
-        × IfOk result (λ v. PieceWithin limit byte xs l v) × IfErr result (λ _. (l ≡ []) × (xs ≡ [])) }
+        × IfOk result (λ v. PieceWithin (VectorLacksRoom byte (vec_capacity buf.old) buf.new.items
+        (take (limit - length xs) (T.lent reader.new))) limit byte xs l v)
+        × IfErr result (λ _. (l ≡ []) × (xs ≡ [])) }
     ensures again { T.ranks.counts reader.new }
     ensures waited { IsOk result }
 {

@@ -116,7 +116,7 @@ module _ {M F A O B : Type 0} (fold : Fold M A (Option B)) (f_of : M → F) (cal
       let a = answered call f h acts (f_of p) (f_of q) x g.0 e g.1 in rw (g.2 a.1) fits
 
   -- where such a future borrowed a stream: its value, and what is left of the stream
-  module _ {S : Type 0} {run : Runs (Answer A) S} {hints : Hints S} (laws : StreamLaws run hints)
+  module _ {S : Type 0} {run : Runs (Answer A) S} {can_poll : S → Type 0} {hints : Hints S} (laws : StreamLaws can_poll run hints)
       (x : Consume (MutBor S) M) (xs : List A) (lists : Lists run x.stream.now xs) (from : f_of x.folder ≡ f)
       (v : Option B) (made : MakesOnly fold x.folder xs v) where
     rest : (ins : List (Poll (Option B))) (y : Consume (MutBor S) M) (o : Option B) → Gives ins o

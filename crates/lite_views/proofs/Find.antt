@@ -15,7 +15,7 @@ module _ {F A : Type 0} (asked : Question F A Bool) (f : F) (test : A → Bool)
       asked_made (fold_of (λ m. m.predicate) (finds asked)) (λ m. m.predicate) asked f test acts _ (λ p q r s. s.0)
       (λ p q x xs s. (false, s, λ e. rw e)) (λ p q x r xs s. (true, s.1, λ e. rw (e, s.0)))
 
-  pub find_left : {S E : Type 0} {run : Runs (Answer A) S} {hints : Hints S} (laws : StreamLaws run hints)
+  pub find_left : {S E : Type 0} {run : Runs (Answer A) S} {can_poll : S → Type 0} {hints : Hints S} (laws : StreamLaws can_poll run hints)
       (x : Consume (MutBor S) (Find F)) (xs : List A) → Lists run x.stream.now xs → x.folder.predicate ≡ f
       → WhenLeft E (FindRuns run asked) x (λ y. y.stream.ghost_name ≡ x.stream.ghost_name)
       (λ y v. (v ≡ find test xs) × RestIfFound run y.stream.now v (behind_match test xs))

@@ -25,7 +25,7 @@ next_leaves : {M A : Type 0} (p : M) (later : List (Answer A)) (x : A) (xs : Lis
 next_leaves p later x xs v (inl (q, s, more)) = absurd s
 next_leaves p later x xs v (inr (q, s, rest)) = rest
 
-pub next_left : {S A E : Type 0} {run : Runs (Answer A) S} {hints : Hints S} (laws : StreamLaws run hints)
+pub next_left : {S A E : Type 0} {run : Runs (Answer A) S} {can_poll : S → Type 0} {hints : Hints S} (laws : StreamLaws can_poll run hints)
     (x : Consume (MutBor S) Next) (xs : List A) → Lists run x.stream.now xs
     → WhenLeft E (Folds (Lent run) nexts) x (λ y. y.stream.ghost_name ≡ x.stream.ghost_name)
     (λ y v. (v ≡ slice_get xs 0) × RestIs run y.stream.now xs)

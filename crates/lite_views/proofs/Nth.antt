@@ -39,7 +39,7 @@ nth_leaves n_of p later (y ∷ xs) v z rest e (inl (q, s, more)) =
 nth_leaves n_of p later (y ∷ xs) v z rest e (inr (q, s, fits)) =
     let none = s.0 in let k : y ∷ xs ≡ z ∷ rest = rw none at e in let same : xs ≡ rest = cc in rw (← same) fits
 
-pub nth_left : {S A E : Type 0} {run : Runs (Answer A) S} {hints : Hints S} (laws : StreamLaws run hints)
+pub nth_left : {S A E : Type 0} {run : Runs (Answer A) S} {can_poll : S → Type 0} {hints : Hints S} (laws : StreamLaws can_poll run hints)
     (x : Consume (MutBor S) Nth) (xs : List A) → Lists run x.stream.now xs
     → WhenLeft E (NthRuns run) x (λ y. y.stream.ghost_name ≡ x.stream.ghost_name)
     (λ y v. (v ≡ slice_get xs x.folder.n) × RestIs run y.stream.now (drop x.folder.n xs))

@@ -1,12 +1,14 @@
--- The values of `or`, `race`, `try_zip` and `poll_fn`, which share their first lemmas; and that `pending` has none.
+-- The values of `or`, `race`, `zip`, `try_zip` and `poll_fn`, which share their first lemmas; and that `pending` has none.
 use Rattle.lite_base.specs.declared.future.pending.Pending.{Pending as PendingFuture}
 use Rattle.lite_base.specs.declared.future.poll_fn.PollFn.{PollFn}
+use Rattle.lite_base.specs.Future.Zip.{FutureZips}
+use Rattle.lite_base.specs.declared.future.zip.Zip.{Zip}
 use Rattle.std.specs.Prelude.{◌≡◌, ◌+◌, ◌⊎◌, ⊤, List, [], ◌∷◌, ◌++◌, map, refl, Bool, true, Result, Ok, Err}
 use Rattle.lite_views.specs.Uses.{length, inl, inr, ap, sym, subst, arith, AllByRecursion, Stream, Poll, Ready, Pending, Gives, Waiting, Finishes, Runs, Stands}
 use Rattle.lite_views.specs.Uses.{FutureOrs, PickRow, PickRows, Picks, FutureRacesOn, is_first, PairRows, TryZips, try_pair, Called, Context, MutBor, Polled}
 use Rattle.lite_views.specs.Uses.{Poller, waiting_not_gives, rows_by, Half, Asked, Gave, Taken, Or, Race, TryZip}
 use Rattle.lite_views.specs.Answering.{AtOnce, HasOk, HasValueAs, NeverReady, PickedValue, ReturnedBy}
-use Rattle.lite_views.specs.Futures.{TryZipRuns}
+use Rattle.lite_views.specs.Futures.{TryZipRuns, ZipRuns}
 use Rattle.lite_views.specs.Views.{HasValue, ValueHolds, ValueIs}
 use Rattle.lite_views.specs.Uses.{CallAnswers, FoldsTo}
 use Rattle.lite_views.proofs.Views.{value_holds}
@@ -186,16 +188,17 @@ pair_ready pair a b [] (t ∷ j) (c ∷ out) u h p q g = absurd h
 pair_ready pair a b (r ∷ i) [] (c ∷ out) u h p q g = absurd h
 
 -- The results that a future with the value a has in the rows.
-module _ {F A E : Type 0} (run : Runs (Poll (Result A E)) F) (f : F) (a : Result A E) where
-  stands_ready : HasValue run f a → (i : List (Poll (Result A E))) (p : Half F A) → Stands Ok run (Asked f) i p
-      → AllReady a i
+module _ {F A R : Type 0} (answer : A → R) (run : Runs (Poll R) F) (f : F) (a : R) where
+  stands_ready : HasValue run f a → (i : List (Poll R)) (p : Half F A) → Stands answer run (Asked f) i p → AllReady a i
   unfolding HasValue
   stands_ready has i (Asked g) h = waiting_ready a i h.0
   stands_ready has i (Gave v) h =
-      let same = has h.ins (Ok v) h.finishes in
-      rw (h.joined, ← same) (given_ready (Ok v) h.ins h.later h.finishes.gives (later_ready (Ok v) h.later h.repeats))
+      let same = has h.ins (answer v) h.finishes in
+      rw (h.joined, ← same)
+      (given_ready (answer v) h.ins h.later h.finishes.gives (later_ready (answer v) h.later h.repeats))
   stands_ready has i Taken h = absurd h
 
+module _ {F A E : Type 0} (run : Runs (Poll (Result A E)) F) (f : F) (a : Result A E) where
   -- A value that came at once is not an error if there is a row.
   stands_ok : AtOnce run f a → (i : List (Poll (Result A E))) (p : Half F A) → Stands Ok run (Asked f) i p
       → (i ≡ [] → ⊥) → (v : A) × (a ≡ Ok v)
@@ -208,6 +211,25 @@ module _ {F A E : Type 0} (run : Runs (Poll (Result A E)) F) (f : F) (a : Result
 
 same_asked : {F A : Type 0} (p : Half F A) (f g : F) → p ≡ Asked f → p ≡ Asked g → f ≡ g
 same_asked p f g e d = cc
+
+-- The value of `zip`.
+module _ {F G A B : Type 0} (run : Runs (Poll A) F) (run' : Runs (Poll B) G) (x : Zip F G A B) (f : F) (g : G)
+    (asked : x.first ≡ Asked f) (asked' : x.second ≡ Asked g) where
+  zip_runs_value : (a : A) (b : B) → HasValue run f a → HasValue run' g b
+      → (p y : Half F A) (q v : Half G B) (ins : List (Poll (A × B))) (u : A × B) → p ≡ Asked f → q ≡ Asked g
+      → Gives ins u → FutureZips run run' p q ins y v → u ≡ (a, b)
+  zip_runs_value a b has has' p y q v ins u e d gives h =
+      pair_ready (λ r t. (r, t)) a b h.i h.j ins u h.rows
+      (stands_ready (λ r. r) run f a has h.i h.p (subst (λ z. Stands (λ r. r) run z h.i h.p) e h.first))
+      (stands_ready (λ t. t) run' g b has' h.j h.q (subst (λ z. Stands (λ t. t) run' z h.j h.q) d h.second)) gives
+
+  pub zip_both : (a : A) (b : B) → HasValue run f a → HasValue run' g b
+      → ValueIs (ZipRuns run run') x (a, b) × HasValue (ZipRuns run run') x (a, b)
+  unfolding HasValue
+  zip_both a b has has' =
+      let all : HasValue (ZipRuns run run') x (a, b) = λ ins u d.
+      zip_runs_value a b has has' x.first d.last.first x.second d.last.second ins u asked asked' d.gives d.came in
+      (has_value (ZipRuns run run') x (a, b) all, all)
 
 -- The value of `try_zip`.
 module _ {F G A B E : Type 0} (run : Runs (Poll (Result A E)) F) (run' : Runs (Poll (Result B E)) G)
@@ -230,8 +252,8 @@ module _ {F G A B E : Type 0} (run : Runs (Poll (Result A E)) F) (run' : Runs (P
   unfolding HasValue
   try_runs_value a b has has' is_first p y q v ins u e d gives (inl h) =
       pair_ready try_pair a b h.i h.j ins u h.rows
-      (stands_ready run f a has h.i h.p (subst (λ z. Stands Ok run z h.i h.p) e h.first))
-      (stands_ready run' g b has' h.j h.q (subst (λ z. Stands Ok run' z h.j h.q) d h.second)) gives
+      (stands_ready Ok run f a has h.i h.p (subst (λ z. Stands Ok run z h.i h.p) e h.first))
+      (stands_ready Ok run' g b has' h.j h.q (subst (λ z. Stands Ok run' z h.j h.q) d h.second)) gives
   try_runs_value a b has has' is_first p y q v ins u e d gives (inr (inl h)) =
       let here = same_asked p f h.before e h.was_asked in
       let is : Err h.error ≡ a = has h.ins (Err h.error)
@@ -288,8 +310,8 @@ module _ {F G A B E : Type 0} (run : Runs (Poll (Result A E)) F) (run' : Runs (P
   unfolding HasValue
   try_runs_fail e b has has' p y q v ins u d d' gives (inl h) =
       pair_ready try_pair (Err e) (Ok b) h.i h.j ins u h.rows
-      (stands_ready run f (Err e) has h.i h.p (subst (λ z. Stands Ok run z h.i h.p) d h.first))
-      (stands_ready run' g (Ok b) has' h.j h.q (subst (λ z. Stands Ok run' z h.j h.q) d' h.second)) gives
+      (stands_ready Ok run f (Err e) has h.i h.p (subst (λ z. Stands Ok run z h.i h.p) d h.first))
+      (stands_ready Ok run' g (Ok b) has' h.j h.q (subst (λ z. Stands Ok run' z h.j h.q) d' h.second)) gives
   try_runs_fail e b has has' p y q v ins u d d' gives (inr (inl h)) =
       let here = same_asked p f h.before d h.was_asked in
       let is : Err h.error ≡ Err e = has h.ins (Err h.error)

@@ -46,7 +46,7 @@ module _ {F A : Type 0} (asked : Question F A Bool) (f : F) (test : A → Bool)
       from_zero None = refl
       from_zero (Some k) = let e : p.index + k ≡ k = omega (arith, none) in ap (λ n. Some n) e
 
-  pub position_left : {S E : Type 0} {run : Runs (Answer A) S} {hints : Hints S} (laws : StreamLaws run hints)
+  pub position_left : {S E : Type 0} {run : Runs (Answer A) S} {can_poll : S → Type 0} {hints : Hints S} (laws : StreamLaws can_poll run hints)
       (x : Consume (MutBor S) (Position F)) (xs : List A) → Lists run x.stream.now xs → x.folder.predicate ≡ f
       → x.folder.index ≡ 0 → length xs < 2 ^ 64
       → WhenLeft E (Folds (Lent run) (fold_of (λ m. (m.predicate, m.index)) (positions asked))) x

@@ -32,8 +32,8 @@ try_next_leaves : {M T E : Type 0} (p : M) (later : List (Answer (Result T E))) 
 try_next_leaves p later x xs v (inl (q, s, more)) = absurd s
 try_next_leaves p later x xs v (inr (q, s, rest)) = rest
 
-pub try_next_left : {S T E F : Type 0} {run : Runs (Answer (Result T E)) S} {hints : Hints S}
-    (laws : StreamLaws run hints) (x : Consume (MutBor S) TryNext) (xs : List (Result T E))
+pub try_next_left : {S T E F : Type 0} {run : Runs (Answer (Result T E)) S} {can_poll : S → Type 0} {hints : Hints S}
+    (laws : StreamLaws can_poll run hints) (x : Consume (MutBor S) TryNext) (xs : List (Result T E))
     → Lists run x.stream.now xs
     → WhenLeft F (Folds (Lent run) tries_next) x (λ y. y.stream.ghost_name ≡ x.stream.ghost_name)
     (λ y v. (v ≡ option_transpose (slice_get xs 0)) × RestIs run y.stream.now xs)

@@ -1,13 +1,13 @@
 -- The items of `unfold` and `try_unfold`.
 use Rattle.std.specs.Prelude.{◌≡◌, List, [], ◌∷◌, ◌++◌, map, flat_map, refl, Option, Some, None, MatchOption, Result, Ok}
-use Rattle.lite_views.specs.Uses.{Answer, Called, Finishes, FoldsTo, FutureLaws, Gives, Holding, Leads, Mut, Pending, Poll, Ready, Runs}
+use Rattle.lite_views.specs.Uses.{Answer, Called, Finishes, FoldsTo, FutureRunLaws, Gives, Holding, Leads, Mut, Pending, Poll, Ready, Runs}
 use Rattle.lite_views.specs.Uses.{TryUnfold, TryUnfoldsBy, Unfold, UnfoldPart, UnfoldsBy, Waiting, comes, finishes_later, handed, inl, inr, seed_of, item_of}
 use Rattle.lite_views.specs.Uses.{subst, sym, try_item_of, try_seed_of}
 use Rattle.lite_views.specs.Unfold.{GoesOnWith, UnfoldsInto}
 use Rattle.lite_views.specs.Views.{Fits, HasValue, ListsAs}
 use Rattle.lite_views.proofs.Views.{listed}
 
-module _ {F S V O B : Type 0} (call : Mut F (S × Unit {0}) V) {run : Runs (Poll O) V} (laws : FutureLaws run)
+module _ {F S V O B : Type 0} (call : Mut F (S × Unit {0}) V) {run : Runs (Poll O) V} (laws : FutureRunLaws run)
     (after : O → Option S) (shown : O → Option B) (f : F) where
   -- what comes of a held value is the list
   abbrev Stands : Holding S V → List B → Type 0
@@ -80,7 +80,7 @@ module _ {F S V O B : Type 0} (call : Mut F (S × Unit {0}) V) {run : Runs (Poll
   unfolded_fits p q x next (c ∷ parts) xs same stands (m, inr (is, stays, ends), more) = cc
 
 pub unfolded_lists : {F S V A : Type 0} (call : Mut F (S × Unit {0}) V) (run : Runs (Poll (Option (A × S))) V)
-    (laws : FutureLaws run) (x : Unfold S F V) (s : S) (xs : List A) → x.state ≡ Holding.Seed s
+    (laws : FutureRunLaws run) (x : Unfold S F V) (s : S) (xs : List A) → x.state ≡ Holding.Seed s
     → UnfoldsInto call run seed_of item_of x.f s xs → ListsAs (UnfoldsBy call run) x xs
 unfolded_lists call run laws x s xs first makes =
     listed (UnfoldsBy call run) x xs
@@ -89,7 +89,7 @@ unfolded_lists call run laws x s xs first makes =
 
 pub try_unfolded_lists : {F S V A E : Type 0} (call : Mut F (S × Unit {0}) V)
     (run : Runs (Poll (Result (Option (A × S)) E)) V)
-    (laws : FutureLaws run) (x : TryUnfold S F V) (s : S) (xs : List (Result A E)) → x.state ≡ Holding.Seed s
+    (laws : FutureRunLaws run) (x : TryUnfold S F V) (s : S) (xs : List (Result A E)) → x.state ≡ Holding.Seed s
     → UnfoldsInto call run try_seed_of try_item_of x.f s xs → ListsAs (TryUnfoldsBy call run) x xs
 try_unfolded_lists call run laws x s xs first makes =
     listed (TryUnfoldsBy call run) x xs

@@ -3,6 +3,8 @@ use Rattle.std.specs.Prelude.{ℕ, Bool, List, [], ◌∷◌, Option, Result, If
 use Rattle.lite_views.specs.Views.{ListsAs}
 use Rattle.lite_views.specs.Uses.{Mut, MutBor, Poll, Answer, Lent, Question, Runs, CallsBoth, Folds, fold_of, counts, finds, folds, lasts, nths, tries_fold}
 use Rattle.lite_views.specs.Uses.{Consume, Find, Last, Nth, TryFold, TryZip, TryZips}
+use Rattle.lite_base.specs.Future.Zip.{FutureZips}
+use Rattle.lite_base.specs.declared.future.zip.Zip.{Zip}
 use Rattle.lite_consume.specs.declared.count.Count.{Count}
 use Rattle.lite_consume.specs.declared.fold.Fold.{Fold}
 
@@ -34,6 +36,10 @@ module _ {S A : Type 0} (run : Runs (Answer A) S) where
 abbrev pub TryFoldRuns : {S F B T E : Type 0} → Runs (Answer (Result T E)) S → Mut F (B × (T × Unit {0})) (Result B E)
     → Runs (Poll (Result B E)) (Consume (MutBor S) (TryFold F B))
 TryFoldRuns run g = Folds (Lent run) (fold_of (λ m. (m.f, m.acc)) (tries_fold (CallsBoth g)))
+
+-- The runs of `zip` of two futures with these runs.
+abbrev pub ZipRuns : {F G A B : Type 0} → Runs (Poll A) F → Runs (Poll B) G → Runs (Poll (A × B)) (Zip F G A B)
+ZipRuns run_first run_second x l y = FutureZips run_first run_second x.first x.second l y.first y.second
 
 -- The runs of `try_zip` of two futures with these runs.
 abbrev pub TryZipRuns : {F G A B E : Type 0} → Runs (Poll (Result A E)) F → Runs (Poll (Result B E)) G

@@ -15,7 +15,7 @@ pub use Rattle.lite_base.specs.Future.Ready.{GivesHeld}
 pub use Rattle.lite_base.specs.Future.Spent.{Spends}
 pub use Rattle.lite_base.specs.Future.Together.{PairRows}
 pub use Rattle.lite_base.specs.Future.TryZip.{TryZips, try_pair}
-pub use Rattle.lite_base.specs.FutureLaws.{FutureLaws}
+pub use Rattle.lite_base.specs.FutureLaws.{FutureRunLaws}
 pub use Rattle.lite_base.specs.Laws.All.{all_split}
 pub use Rattle.lite_base.specs.Laws.Answers.{waiting_not_gives}
 pub use Rattle.lite_base.specs.Laws.Calls.{folds_follow}

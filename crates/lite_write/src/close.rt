@@ -21,7 +21,7 @@ impl<W: AsyncWrite> Future for CloseFuture<'_, W> {
 
     ghost registers = { λ x. W.write_registers x.writer.now };
 
-    ghost laws = { polled_laws (Closes W.writes) };
+    ghost laws = { polled_laws (Closes W.writes) (λ x y c h. tt) };
 
     fn poll(&mut self, cx: &mut Context<'_>) -> Poll<io::Result<()>> {
         self.writer.poll_close(cx)

@@ -143,7 +143,7 @@ impl<R: CountedRead, W: AsyncWrite> Future for CopyFuture<R, W> {
 
     ghost registers = { CopyRegisters R.registers W.write_registers };
 
-    ghost laws = { copies_laws R.read_laws W.write_laws };
+    ghost laws = { copies_laws R.read_laws W.write_laws R.counting };
 
     fn poll(&mut self, cx: &mut Context<'_>) -> Poll<io::Result<u64>> {
         drive(self, cx)

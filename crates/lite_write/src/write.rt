@@ -22,7 +22,7 @@ impl<W: AsyncWrite> Future for WriteFuture<'_, W> {
 
     ghost registers = { λ x. W.write_registers x.writer.now };
 
-    ghost laws = { polled_laws (Writes W.writes) };
+    ghost laws = { polled_laws (Writes W.writes) (λ x y c h. tt) };
 
     fn poll(&mut self, cx: &mut Context<'_>) -> Poll<io::Result<usize>> {
         self.writer.poll_write(cx, self.buf)

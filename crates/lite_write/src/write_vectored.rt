@@ -24,7 +24,7 @@ impl<W: AsyncWrite> Future for WriteVectoredFuture<'_, W> {
 
     ghost registers = { λ x. W.write_registers x.writer.now };
 
-    ghost laws = { polled_laws (WritesVectored W.writes) };
+    ghost laws = { polled_laws (WritesVectored W.writes) (λ x y c h. tt) };
 
     fn poll(&mut self, cx: &mut Context<'_>) -> Poll<io::Result<usize>> {
         self.writer.poll_write_vectored(cx, self.bufs)

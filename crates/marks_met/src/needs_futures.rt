@@ -3,10 +3,13 @@
 ghost use Rattle.std.specs.Prelude.{◌≡◌, Some};
 ghost use Rattle.lite_base.specs.Future.Calls.{CallRegisters};
 ghost use Rattle.lite_base.specs.Woken.{HoldsWoken};
+ghost use Rattle.lite_base.specs.declared.future.either.Either.TheVariants.{Left, Right};
 ghost use Rattle.lite_base.specs.declared.future.half.Half.TheVariants.{Asked};
 ghost use Rattle.marks_met.specs.Registering.{TellsAll};
 
-use lite_base::future::{Fuse, Or, Pending, PollFn, Race, Ready, TryZip, YieldNow, Zip};
+use lite_base::future::{
+    Budgeted, Either, Fuse, Or, Pending, PollFn, Race, Ready, TryZip, YieldNow, Zip,
+};
 use lite_base::{Context, Future, Poll, SteadyFuture, SteadyStream, Stream};
 use rand_core::Rng;
 
@@ -56,6 +59,23 @@ where
         × (E.needs_none → ⟦<Fuse<E> as SteadyFuture>⟧.needs_none) }
     ensures lent { TellsAll (E.registers lent.now.now) (⟦<&'a mut E as Future>⟧.registers lent.now)
         × (E.needs_none → ⟦<&'a mut E as SteadyFuture>⟧.needs_none) }
+{}
+
+/// One of two futures: it has registered what that one registers.
+pub fn one_of_two_futures<A, B>(either: &Either<A, B>, first: &A, second: &B)
+where
+    A: SteadyFuture,
+    B: SteadyFuture<Output = A::Output>,
+    ensures first { either.now ≡ Left first.now
+        → TellsAll (A.registers first.now) (⟦<Either<A, B> as Future>⟧.registers either.now) }
+    ensures second { either.now ≡ Right second.now
+        → TellsAll (B.registers second.now) (⟦<Either<A, B> as Future>⟧.registers either.now) }
+    ensures needs_none { A.needs_none → B.needs_none → ⟦<Either<A, B> as SteadyFuture>⟧.needs_none }
+{}
+
+/// A future with a budget. It has no line on memory, since its value depends on how often it was pending.
+pub fn budgeted_future<E: Future>(budgeted: &Budgeted<E>)
+    ensures { TellsAll (E.registers budgeted.now.inner) (⟦<Budgeted<E> as Future>⟧.registers budgeted.now) }
 {}
 
 /// A stream that is lent.

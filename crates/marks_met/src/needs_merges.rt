@@ -58,8 +58,8 @@ where
         → TellsAll (S.registers stop.now.stream) (⟦<StopAfterFuture<S, Fut> as Stream>⟧.registers stop.now) }
 {}
 
-/// A cycle has registered what the copy does that was polled; a budget what the stream does and a wake does too, since either
-/// may have been the cause of the pending.
+/// A cycle has registered what the copy does that was polled; a budget each fact that both its stream and a wake register. The
+/// contract of its poll says which of the two was the cause of the pending.
 pub fn cycled<S>(cycle: &Cycle<S>, copy: &S, budgeted: &Budgeted<S>)
 where
     S: Stream + Clone,

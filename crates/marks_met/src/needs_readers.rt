@@ -1,10 +1,10 @@
 //! Readers: what a pending has registered, and whether a call asks for memory, follow from what they read. A call of a reader of
 //! bytes that are there is never pending.
-ghost use Rattle.std.specs.Prelude.{◌≡◌, false, true};
+ghost use Rattle.std.specs.Prelude.{◌≡◌, None, Some, false, true};
 ghost use Rattle.lite_base.specs.Steady.{TakesNone};
 ghost use Rattle.lite_base.specs.Woken.{HoldsWoken};
 ghost use Rattle.lite_bridge.specs.Known.{NoFault};
-ghost use Rattle.lite_buffered.specs.Budgeted.{budgeted_inner};
+ghost use Rattle.lite_buffered.specs.Budgeted.{budgeted_inner, noted_of};
 ghost use Rattle.lite_buffered.specs.BufReader.{reader_inner};
 ghost use Rattle.lite_buffered.specs.Chain.{first_of, has_ended, second_of};
 ghost use Rattle.lite_buffered.specs.Take.{take_inner};
@@ -32,13 +32,14 @@ pub fn readers_alone<'a, T: BytesLike>(
     ensures repeat { ⟦<Repeat as SteadyRead>⟧.needs_none }
 {}
 
-/// Adapters of one reader, and a reader that is lent. A budget has registered what the reader does and a wake does too, since
-/// either may have been the cause of the pending.
+/// Adapters of one reader, and a reader that is lent. A budget has registered a wake at its own pending, after which it has noted
+/// no rest, and at any other pending what the reader does.
 pub fn adapted<'a, R: SteadyRead>(
     lent: &&'a mut R,
     take: &Take<R>,
     buf_reader: &BufReader<R>,
     budgeted: &Budgeted<R>,
+    rest: usize,
 )
     ensures lent { TellsAll (R.registers lent.now.now) (⟦<&'a mut R as AsyncRead>⟧.registers lent.now)
         × (R.needs_none → ⟦<&'a mut R as SteadyRead>⟧.needs_none) }
@@ -47,8 +48,10 @@ pub fn adapted<'a, R: SteadyRead>(
     ensures buf_reader { TellsAll (R.registers (reader_inner buf_reader.now))
         (⟦<BufReader<R> as AsyncRead>⟧.registers buf_reader.now)
         × (R.needs_none → ⟦<BufReader<R> as SteadyRead>⟧.needs_none) }
-    ensures budgeted { TellsAll (λ fact. R.registers (budgeted_inner budgeted.now) fact × HoldsWoken fact)
-        (⟦<Budgeted<R> as AsyncRead>⟧.registers budgeted.now)
+    ensures budgeted { (noted_of budgeted.now ≡ None
+        → TellsAll HoldsWoken (⟦<Budgeted<R> as AsyncRead>⟧.registers budgeted.now))
+        × (noted_of budgeted.now ≡ Some rest
+        → TellsAll (R.registers (budgeted_inner budgeted.now)) (⟦<Budgeted<R> as AsyncRead>⟧.registers budgeted.now))
         × (R.needs_none → ⟦<Budgeted<R> as SteadyRead>⟧.needs_none) }
 {}
 
@@ -61,8 +64,8 @@ pub fn chained<R: SteadyRead, S: SteadyRead>(chain: &Chain<R, S>)
     ensures needs_none { R.needs_none → S.needs_none → ⟦<Chain<R, S> as SteadyRead>⟧.needs_none }
 {}
 
-/// A reader's bytes one by one: as a reader it has registered what that does, and as a stream what that does and a wake does too,
-/// since a stream is pending by itself too.
+/// A reader's bytes one by one: as a reader it has registered what that does, and as a stream each fact
+/// that both that and a wake register. The contract of its poll says which of the two it was.
 pub fn bytes_of<R: SteadyRead>(bytes: &Bytes<R>)
     ensures reader { TellsAll (R.registers bytes.now.inner) (⟦<Bytes<R> as AsyncRead>⟧.registers bytes.now)
         × (R.needs_none → ⟦<Bytes<R> as SteadyRead>⟧.needs_none) }

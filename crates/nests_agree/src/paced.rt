@@ -1,5 +1,5 @@
 //! A stream of a caller's own.
-ghost use Rattle.std.specs.Prelude.{◌≡◌, None};
+ghost use Rattle.std.specs.Prelude.{⊤, ◌≡◌, None};
 ghost use Rattle.std.specs.List.{FoldsTo};
 ghost use Rattle.lite_base.specs.Laws.Steady.{steady_always};
 ghost use Rattle.lite_base.specs.Runs.{NoHint};
@@ -26,7 +26,7 @@ impl Stream for Paced {
 
     ghost hints = { NoHint };
 
-    ghost laws = { folds_laws (λ x. x) PacedStep (λ x y e. e) 0 };
+    ghost laws = { folds_laws (λ x. x) PacedStep (λ x y e. e) 0 (λ x y l c h. tt) };
 
     fn poll_next(&mut self, _cx: &mut Context<'_>) -> Poll<Option<u8>> {
         if self.waits {
@@ -47,7 +47,7 @@ impl SteadyStream for Paced {
 
     ghost alike = { λ x y. y.item ≡ x.item };
 
-    ghost steady = { steady_always (folds_laws (λ x. x) PacedStep (λ x y e. e) 0) paced_alike };
+    ghost steady = { steady_always (folds_laws (λ x. x) PacedStep (λ x y e. e) {can_poll = λ _. ⊤} 0 (λ x y l c h. tt)) paced_alike };
 }
 
 /// Runs two such streams of one item, whether the next poll of each is pending or not. The answers of the two runs are

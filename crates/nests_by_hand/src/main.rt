@@ -1,13 +1,15 @@
-//! Nests of adapters with contracts, polled by hand: what the polls answer is printed.
+//! Nests of adapters with contracts, polled by hand: what the polls answer is printed. Last come calls of `next`.
 #![tactic(auto)]
 
+mod calls;
 mod closures;
 mod nest;
 mod twice;
 mod unfolding;
 
+use calls::{append_all, next_two};
 use closures::hundredths;
-use futures_lite::stream::script;
+use futures_lite::stream::{iter_vec, script};
 use futures_lite::{Doorbell, Poll, Solo};
 use nest::{first_evens, small_evens, tripled};
 use std::io;
@@ -40,7 +42,14 @@ fn main(rt: HostRuntime) -> io::Result<()> {
             Poll::Pending => println!(rt; "pending")?,
         }
     }
-    Ok(())
+
+    let mut numbers = iter_vec(vec![in rt.alloc(); 1u32, 2, 3, 4, 5]?);
+    if let Some((first, second)) = next_two(&rt, &mut numbers)? {
+        println!(rt; "{first}, {second}")?;
+    }
+    let mut left = Vec::new(rt.alloc());
+    append_all(&rt, &mut numbers, &mut left)?;
+    println!(rt; "{left:?}")
 }
 
 /// The same nest over two scripts that differ in their pendings alone: what each of them answers, one after the other.

@@ -2,7 +2,8 @@
 use Rattle.std.specs.Prelude.{◌≡◌, [], refl}
 use Rattle.lite_base.specs.Uses.{◌∙◌, ap, MutBor, Poll}
 use Rattle.lite_base.specs.Answers.{Answer}
-use Rattle.lite_base.specs.FutureLaws.{FutureLaws}
+use Rattle.lite_base.specs.FutureLaws.{FutureLaws, FutureRunLaws}
+use Rattle.lite_base.specs.Laws.FutureLaws.{future_laws_of, future_runs_of}
 use Rattle.lite_base.specs.Ranks.{Counting, Ranks, ranks_of}
 use Rattle.lite_base.specs.StreamLaws.{RunLaws, StreamLaws}
 use Rattle.lite_base.specs.Laws.StreamLaws.{laws_of, runs_of}
@@ -27,8 +28,11 @@ lent_runs {run = run} laws =
     }
 
 module _ {S A : Type 0} {run : Runs (Answer A) S} where
-  pub lent_laws : {hints : Hints S} → StreamLaws run hints → StreamLaws (Lent run) (λ s. hints s.now)
-  lent_laws laws = laws_of (lent_runs (runs_of laws)) (λ x y hint l e h. laws.bounded x.now y.now hint l e h.0)
+  pub lent_laws : {can_poll : S → Type 0} {hints : Hints S} → StreamLaws can_poll run hints
+      → StreamLaws (λ s. can_poll s.now) (Lent run) (λ s. hints s.now)
+  lent_laws laws =
+      laws_of (lent_runs (runs_of laws)) (λ x y hint l e h. laws.bounded x.now y.now hint l e h.0)
+      (λ x y l c h. laws.polls_on x.now y.now l c h.0)
 
   pub lent_counting : {r : Ranks S} → Counting run r → Counting (Lent run) (ranks_of (λ (s : MutBor S). s.now) r)
   lent_counting c =
@@ -40,11 +44,16 @@ module _ {S A : Type 0} {run : Runs (Answer A) S} where
         lowers = λ x y l k h. c.lowers x.now y.now l k h.0;
       }
 
-pub lent_future_laws : {F A : Type 0} {run : Runs (Poll A) F} → FutureLaws run → FutureLaws (Lent run)
-lent_future_laws {run = run} laws =
+pub lent_future_runs : {F A : Type 0} {run : Runs (Poll A) F} → FutureRunLaws run → FutureRunLaws (Lent run)
+lent_future_runs {run = run} laws =
     record {
       rests = λ x. (laws.rests x.now, refl);
       stays = lent_stays run laws.stays;
       follows = λ x y z l m w h k. (laws.follows x.now y.now z.now l m w h.0 k.0, lent_still x y z h.1 k.1);
       once = λ x y l h. laws.once x.now y.now l h.0;
     }
+
+pub lent_future_laws : {F A : Type 0} {can_poll : F → Type 0} {run : Runs (Poll A) F} → FutureLaws can_poll run
+    → FutureLaws (λ s. can_poll s.now) (Lent run)
+lent_future_laws laws =
+    future_laws_of (lent_future_runs (future_runs_of laws)) (λ x y l w c h. laws.waits_on x.now y.now l w c h.0)

@@ -4,8 +4,9 @@ use Rattle.lite_base.specs.Uses.{MutBor, Poll}
 use Rattle.lite_base.specs.Alike.{Sameness}
 use Rattle.lite_base.specs.Answers.{Answer}
 use Rattle.lite_base.specs.FutureLaws.{FutureLaws}
+use Rattle.lite_base.specs.Laws.FutureLaws.{future_runs_of}
 use Rattle.lite_base.specs.Lent.{Lent}
-use Rattle.lite_base.specs.Laws.Lent.{lent_future_laws, lent_runs}
+use Rattle.lite_base.specs.Laws.Lent.{lent_future_runs, lent_runs}
 use Rattle.lite_base.specs.StreamLaws.{StreamLaws}
 use Rattle.lite_base.specs.Laws.StreamLaws.{runs_of}
 use Rattle.lite_base.specs.Runs.{Hints, Runs}
@@ -34,16 +35,16 @@ pub lent_future_steady : {F A : Type 0} {same : Sameness A} {run ample : Runs (P
     → FutureSteadyLawsBy same (Lent run) (Lent ample) needs_none (λ (x y : MutBor F). alike x.now y.now)
 lent_future_steady s =
     record {
-      laws = lent_future_laws s.laws;
+      laws = lent_future_runs s.laws;
       steady = lent_steadiness s.steady;
       found = λ n. lent_takes_none (s.found n);
     }
 
 -- If no poll needs memory, every run is ample.
-pub steady_always : {S A : Type 0} {run : Runs (Answer A) S} {hints : Hints S} {alike : S → S → Type 0}
-    → StreamLaws run hints → Steadiness run alike → SteadyLaws run run ⊤ alike
+pub steady_always : {S A : Type 0} {run : Runs (Answer A) S} {can_poll : S → Type 0} {hints : Hints S} {alike : S → S → Type 0}
+    → StreamLaws can_poll run hints → Steadiness run alike → SteadyLaws run run ⊤ alike
 steady_always laws s = record { laws = runs_of laws; steady = s; found = λ n x y l h. h }
 
-pub future_steady_always : {F A : Type 0} {run : Runs (Poll A) F} {alike : F → F → Type 0} → FutureLaws run
-    → Steadiness run alike → FutureSteadyLaws run run ⊤ alike
-future_steady_always laws s = record { laws = laws; steady = s; found = λ n x y l h. h }
+pub future_steady_always : {F A : Type 0} {can_poll : F → Type 0} {run : Runs (Poll A) F} {alike : F → F → Type 0}
+    → FutureLaws can_poll run → Steadiness run alike → FutureSteadyLaws run run ⊤ alike
+future_steady_always laws s = record { laws = future_runs_of laws; steady = s; found = λ n x y l h. h }

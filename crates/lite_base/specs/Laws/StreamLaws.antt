@@ -2,9 +2,9 @@
 use Rattle.std.specs.Prelude.{◌≤◌, ℕ, List, Option, IfSome}
 use Rattle.lite_base.specs.Answers.{Answer, before_end}
 use Rattle.lite_base.specs.Runs.{Hints, Runs}
-use Rattle.lite_base.specs.StreamLaws.{RunLaws, StreamLaws}
+use Rattle.lite_base.specs.StreamLaws.{PollsOn, RunLaws, StreamLaws}
 
-pub runs_of : {S A : Type 0} {run : Runs (Answer A) S} {hints : Hints S} → StreamLaws run hints → RunLaws run
+pub runs_of : {S A : Type 0} {run : Runs (Answer A) S} {can_poll : S → Type 0} {hints : Hints S} → StreamLaws can_poll run hints → RunLaws run
 runs_of laws = record { rests = laws.rests; stays = laws.stays; follows = laws.follows }
 
 -- No run has more items before the first end of the stream than a size hint allows.
@@ -13,6 +13,7 @@ HintsHold {S} {A} run hints =
     (x y : S) (hint : ℕ × Option ℕ) (l : List (Answer A)) → hints x hint → run x l y
     → IfSome hint.1 (λ most. before_end l ≤ most)
 
-pub laws_of : {S A : Type 0} {run : Runs (Answer A) S} {hints : Hints S} → RunLaws run → HintsHold run hints
-    → StreamLaws run hints
-laws_of runs bounded = record { rests = runs.rests; stays = runs.stays; follows = runs.follows; bounded = bounded }
+pub laws_of : {S A : Type 0} {can_poll : S → Type 0} {run : Runs (Answer A) S} {hints : Hints S} → RunLaws run
+    → HintsHold run hints → PollsOn can_poll run → StreamLaws can_poll run hints
+laws_of runs bounded on =
+    record { rests = runs.rests; stays = runs.stays; follows = runs.follows; bounded = bounded; polls_on = on }

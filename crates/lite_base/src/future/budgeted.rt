@@ -1,5 +1,6 @@
 //! A future that is polled a limited number of times.
 ghost use Rattle.std.specs.Prelude.{◌<◌, ⊤};
+ghost use Rattle.lite_base.specs.Uses.{Lasting};
 ghost use Rattle.lite_base.specs.Future.Budgeted.{BudgetsPolls};
 ghost use Rattle.lite_base.specs.Laws.Future.Budgeted.{budgets_laws};
 
@@ -57,3 +58,8 @@ impl<F: Future> Future for Budgeted<F> {
         }
     }
 }
+
+/// Does nothing. Its contract says what a future with a budget has registered.
+pub fn tells_of_budgeted<F: Future>(budgeted: &Budgeted<F>)
+    ensures { (fact : Lasting) → F.registers budgeted.now.inner fact → ⟦<Budgeted<F> as Future>⟧.registers budgeted.now fact }
+{}

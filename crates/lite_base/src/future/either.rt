@@ -1,5 +1,8 @@
 //! A future of one of two types.
+ghost use Rattle.std.specs.Prelude.{◌≡◌};
+ghost use Rattle.lite_base.specs.Uses.{Lasting};
 ghost use Rattle.lite_base.specs.Future.Either.{EitherRegisters, EitherRuns, OfEither};
+ghost use Rattle.lite_base.specs.declared.future.either.Either.TheVariants.{Left, Right};
 ghost use Rattle.lite_base.specs.Laws.Future.Either.{either_laws};
 
 use super::Future;
@@ -47,3 +50,14 @@ impl<A: Future, B: Future<Output = A::Output>> Future for Either<A, B> {
         }
     }
 }
+
+/// Does nothing. Its contract says what an `Either` has registered.
+pub fn tells_of_either<A, B>(either: &Either<A, B>, first: &A, second: &B)
+where
+    A: Future,
+    B: Future<Output = A::Output>,
+    ensures first { either.now ≡ Left first.now → (fact : Lasting) → A.registers first.now fact
+        → ⟦<Either<A, B> as Future>⟧.registers either.now fact }
+    ensures second { either.now ≡ Right second.now → (fact : Lasting) → B.registers second.now fact
+        → ⟦<Either<A, B> as Future>⟧.registers either.now fact }
+{}

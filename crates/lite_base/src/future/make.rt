@@ -102,33 +102,6 @@ pub fn poll_once<F: Future>(f: F) -> PollOnce<F>
 }
 
 /// Returns a future that resolves to the pair of both values, once both futures are ready.
-///
-/// Each poll polls each future that is not ready yet once, the first before the second. A future is dropped
-/// when its value is there. The values have to be `Drop`. The result is a `Future` only if both futures are
-/// `Drop`, too.
-///
-/// The contract has no clause about the value. A proof gets it from the runs of [`Zip`], as that of the
-/// example does.
-///
-/// # Examples
-///
-/// ```
-/// use futures_lite::future;
-///
-/// fn both<R>(rt: &R) -> Result<(u8, u8), AllocError>
-/// where
-///     R: Wait + RandomSource + AllocGlobal,
-///     ensures { IfOk result (λ v. v ≡ (1, 2)) }
-/// {
-///     future::block_on(rt, future::zip(future::ready(1), future::ready(2)))
-/// }
-///
-/// assert_eq!(rt; both(&rt)?, (1, 2));
-///
-/// let mut later = future::zip(future::yield_now(), future::ready(2u8));
-/// assert_eq!(rt; future::block_on(&rt, future::poll_once(&mut later))?, None);
-/// assert_eq!(rt; future::block_on(&rt, later)?, ((), 2));
-/// ```
 pub fn zip<F1, F2>(future1: F1, future2: F2) -> Zip<F1, F2>
 where
     F1: Future<Output: Drop>,

@@ -27,7 +27,7 @@ impl<F: Future> Future for PollOnce<F> {
 
     ghost run = { TellsFirst F.run };
 
-    ghost laws = { tells_laws F.run };
+    ghost laws = { tells_laws F.run F.can_poll };
 
     fn poll(&mut self, cx: &mut Context<'_>) -> Poll<Option<F::Output>> {
         match self.f.poll(cx) {

@@ -1,7 +1,7 @@
 -- Laws of the stream of the values of a reader.
 use Rattle.std.specs.Prelude.{◌≡◌, ℕ, List, [], ◌∷◌, ◌++◌, Option, Some, None, Result, Ok, Err}
 use Rattle.lite_codec.specs.Uses.{FoldsTo, Poll, Pending, Ready, PieceSegments, ReadMark, Runs, append_assoc, ◌∙◌}
-use Rattle.lite_codec.specs.Uses.{TakesPieceIn, refl, ap}
+use Rattle.lite_codec.specs.Uses.{MarkLaws, NoHint, Ranks, ReadCounting, StreamLaws, TakesPieceIn, refl, ap, flow_keeps, flow_laws}
 use Rattle.lite_codec.specs.Codec.{CodecLaws, Undecided}
 use Rattle.lite_codec.specs.Values.{AtValue, Decodes, YieldsValue, decoding, values_over}
 use Rattle.lite_codec.specs.declared.error.DecodeError.{DecodeError}
@@ -56,6 +56,13 @@ module _ {R C V : Type 0} {encodes : C → V → List ℕ → Type 0} {refuses :
       → Decodes encodes refuses reads may_refuse x l y → AtValue encodes refuses y
   value_again x y l u h =
       rw h.stays (segments_undecided (laws x.codec) may_refuse _ _ h.segmented.marks l u h.segmented.cut)
+
+  -- The laws of the stream, which may be polled if its reader's rank counts and more bytes are needed.
+  pub values_laws : {r : Ranks R} → MarkLaws reads → ReadCounting reads r
+      → StreamLaws (λ x. r.counts x.reader × AtValue encodes refuses x) (Decodes encodes refuses reads may_refuse) NoHint
+  values_laws {r} marks c =
+      flow_laws _ _ marks
+      (λ x y l k h. (flow_keeps _ _ marks r.counts c.counts_on x y l k.0 h, value_again x y l k.1 h))
 
   -- After a step that does not yet return another can be made.
   pub value_goes_on : (x y : Values R C) → AtValue encodes refuses x

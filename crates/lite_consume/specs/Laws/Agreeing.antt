@@ -5,7 +5,7 @@ use Rattle.lite_consume.specs.Uses.{comparable_nil, gives_strip, item_same, Futu
 use Rattle.lite_consume.specs.Agreeing.{FoldSteadyLaws, Within, WithinWhere}
 use Rattle.lite_consume.specs.Consume.{Folds}
 use Rattle.lite_consume.specs.Consuming.{Consumes, Decides, Fold, fold_of}
-use Rattle.lite_consume.specs.Laws.Consuming.{consumed_laws, consumes_by, consumes_steps}
+use Rattle.lite_consume.specs.Laws.Consuming.{consumed_runs, consumes_by, consumes_steps}
 use Rattle.lite_consume.specs.declared.consume.Consume.{Consume}
 
 module _ {M A R : Type 0} (fold : Fold M A R) where
@@ -91,7 +91,7 @@ module _ {S M A R : Type 0} {run found : Runs (Answer A) S} {fold ample : Fold M
       (none × none') (λ (x y : Consume S M). alike x.stream y.stream × agree x.folder y.folder)
   consumed_steady like same s f =
       record {
-        laws = consumed_laws ample s.laws;
+        laws = consumed_runs ample s.laws;
         steady = λ x y e l m x' y' h k.
             made_same like f x.folder y.folder (strip h.ins) (strip k.ins) (strip l) (strip m) e.1
             (s.steady x.stream y.stream e.0 h.ins k.ins x'.stream y'.stream h.came k.came)

@@ -1,10 +1,12 @@
 -- Laws of futures that consume a stream.
 use Rattle.std.specs.Prelude.{◌≡◌, Option, Some, None, List, [], ◌∷◌, refl}
 use Rattle.std.proofs.Common.{◌++◌}
-use Rattle.lite_consume.specs.Uses.{AllByRecursion, Poll, Ready, Pending, Answer, Gives, UpToValue, item, CalmLaws, NoPending, FutureLaws, up_to_once}
+use Rattle.lite_consume.specs.Uses.{AllByRecursion, Poll, Ready, Pending, Answer, Gives, UpToValue, item, CalmLaws, NoPending, FutureRunLaws, up_to_once}
 use Rattle.lite_consume.specs.Uses.{answers_by, answers_given, answers_taken, to_value_join, RunLaws, Runs, OneAnswer, Segment}
+use Rattle.lite_consume.specs.Uses.{FoldsTo, FutureLaws, Hints, StreamLaws, Waiting, WaitsOn, each_along, future_laws_of, items_in, runs_of}
+use Rattle.lite_consume.specs.PollSteps.{Returns}
 use Rattle.lite_consume.specs.Agreeing.{WithinWhere}
-use Rattle.lite_consume.specs.Consume.{Folds}
+use Rattle.lite_consume.specs.Consume.{CanFold, Folds}
 use Rattle.lite_consume.specs.Consuming.{Consumes, Decides, Fold, TakesIn, fold_of}
 
 -- By induction on the stream's results: items are consumed, `Pending`s are passed on, and at last comes the value.
@@ -75,8 +77,8 @@ module _ {N M A R : Type 0} (part : N → M) (fold : Fold N A R) (other : Fold M
       p i l (λ m. ((refl, refl), tt)) h m
 
 module _ {S M A R : Type 0} {run : Runs (Answer A) S} (fold : Fold M A R) where
-  pub consumed_laws : RunLaws run → FutureLaws (Folds run fold)
-  consumed_laws laws =
+  pub consumed_runs : RunLaws run → FutureRunLaws (Folds run fold)
+  consumed_runs laws =
       record {
         rests = λ x. record { ins = []; came = laws.rests x.stream; consumed = ((refl, refl), tt) };
         stays = λ x y h.
@@ -101,3 +103,30 @@ module _ {S M A R : Type 0} {run : Runs (Answer A) S} (fold : Fold M A R) where
             (λ p o r d e. tt) x.folder h.ins l (λ e. e) h.consumed (c.no_pending x.stream y.stream h.ins k h.came);
         calm_on = λ x y l k h. c.calm_on x.stream y.stream h.ins k h.came;
       }
+
+-- Such a future may be polled again while it has no value.
+module _ {S M A R : Type 0} {run : Runs (Answer A) S} {fold : Fold M A R} {counts : S → Type 0} {is_open : M → Type 0}
+    (returns : Returns run fold counts is_open) where
+  still_open : (p q : M) (i : List (Answer A)) (l : List (Poll R)) → Waiting l → is_open p → Consumes fold p i l q
+      → is_open q × FoldsTo (λ p x q. (o : Unit {0}) × TakesIn fold p x q) p (items_in i) q
+  still_open p q i l w o h =
+      consumes_steps fold
+      (λ p i l. Waiting l → is_open p
+      → is_open q × FoldsTo (λ p x q. (o : Unit {0}) × TakesIn fold p x q) p (items_in i) q)
+      (λ p m x i b l t k w o. let e = k w (returns.opens p m x o t) in (e.0, (m, (tt, t), e.1)))
+      (λ p i l k w o. k w o) q (λ p a r d w o. absurd w) p i l (λ w o. (o, refl)) h w o
+
+  consumed_on : {can_poll : S → Type 0} {hints : Hints S} {can_take : M → A → Type 0} → StreamLaws can_poll run hints
+      → WaitsOn (CanFold run fold can_poll counts is_open can_take) (Folds run fold)
+  consumed_on laws x y l w c h =
+      let e = still_open x.folder y.folder h.ins l w c.2 h.consumed in (
+        laws.polls_on x.stream y.stream h.ins c.0 h.came,
+        returns.counts_on x.stream y.stream h.ins c.1 h.came,
+        e.0,
+        each_along laws h.ins c.3 h.came e.1,
+      )
+
+  pub consumed_laws : {can_poll : S → Type 0} {hints : Hints S} {can_take : M → A → Type 0}
+      → StreamLaws can_poll run hints
+      → FutureLaws (CanFold run fold can_poll counts is_open can_take) (Folds run fold)
+  consumed_laws laws = future_laws_of (consumed_runs fold (runs_of laws)) (consumed_on laws)

@@ -25,7 +25,7 @@ none_after : {A : Type 0} (i j l : List A) → ([] ≡ j → ⊥) → [] ≡ i +
 none_after [] [] l some e = some refl
 none_after i j l some e = cc
 
-module _ {S A : Type 0} {run : Runs (Answer A) S} {hints : Hints S} (laws : StreamLaws run hints) where
+module _ {S A : Type 0} {run : Runs (Answer A) S} {can_poll : S → Type 0} {hints : Hints S} (laws : StreamLaws can_poll run hints) where
   lap_rest : (x : Option S) → Lap run x [] x
   lap_rest None = refl
   lap_rest (Some s) = (laws.rests s, refl)
@@ -51,8 +51,13 @@ module _ {S A : Type 0} {run : Runs (Answer A) S} {hints : Hints S} (laws : Stre
   )
   lap_over x y i j h k = absurd h
 
+  lap_on : (x y : Option S) (own : List (Answer A)) → IfSome x can_poll → Lap run x own y → IfSome y can_poll
+  lap_on None None own k h = tt
+  lap_on (Some s) (Some t) own k h = laws.polls_on s t own k h.0
+  lap_on x y own k h = absurd h
+
 module _ {S A E : Type 0} (is_clone : S → S → Type 0) (is_infallible : S → Type 0) {run : Runs (Answer A) S}
-    {hints : Hints S} (laws : StreamLaws run hints) where
+    {can_poll : S → Type 0} {hints : Hints S} (laws : StreamLaws can_poll run hints) where
   module _ (original : S) where
     -- One poll of a stream that yielded an item or was pending.
     pub lap_one : (s t : S) (a : Answer A) → run s (a ∷ []) t → Endless (a ∷ [])
@@ -119,7 +124,21 @@ module _ {S A E : Type 0} (is_clone : S → S → Type 0) (is_infallible : S →
           joined = rw (h.joined, append_assoc, append_assoc);
         }
 
-  pub cycle_laws : StreamLaws (Cycles {E = E} run is_clone is_infallible) NoHint
+  -- The stream that is cycled may be polled after any run, if it and each clone of the original may be polled.
+  module _ (original : S) (copies : (copy : S) → is_clone original copy → can_poll copy) where
+    renews_on : (asked : Result S E) (out : List (Answer (Result A E))) (s : Option S)
+        → Renews run is_clone is_infallible original asked out s → IfSome s can_poll
+    renews_on (Err e) out s h = rw h.2 tt
+    renews_on (Ok copy) out None h = absurd h.1
+    renews_on (Ok copy) out (Some s) h = laws.polls_on copy s (h.1.0 ∷ []) (copies copy h.0) h.1.1
+
+    laps_on : (asked : List (Result S E)) (x y : Option S) (out : List (Answer (Result A E))) → IfSome x can_poll
+        → Laps run is_clone is_infallible original asked x out y → IfSome y can_poll
+    laps_on [] x y out k h = lap_on laws x y h.0 k h.1
+    laps_on (r ∷ asked) x y out k h =
+        laps_on asked h.next y h.rest (renews_on r h.anew h.next h.renews) h.goes_on
+
+  pub cycle_laws : StreamLaws (AllCopies can_poll is_clone) (Cycles {E = E} run is_clone is_infallible) NoHint
   cycle_laws =
       record {
         rests = λ x. ([], ([], lap_rest laws x.stream, refl), refl);
@@ -128,6 +147,8 @@ module _ {S A E : Type 0} (is_clone : S → S → Type 0) (is_infallible : S →
         follows = λ x y z l m h k.
             (h.0 ++ k.0, laps_join x.original h.0 k.0 x.stream y.stream z.stream l m h.1 (rw h.2 at k.1), k.2 ∙ h.2);
         bounded = λ x y hint l e h. same_hint hint (0, None) l e tt;
+        polls_on = λ x y l k h.
+            (laps_on x.original k.1 h.0 x.stream y.stream l k.0 h.1, λ copy made. k.1 copy (rw h.2 at made));
       }
 
 module _ {S A : Type 0} {run : Runs (Answer A) S} {is_calm : S → Type 0} (c : CalmLaws run is_calm) where

@@ -3,7 +3,7 @@ use Rattle.std.specs.Prelude.{◌≡◌, ℕ, ◌+◌, List, [], ◌∷◌, ◌+
 use Rattle.lite_merge.specs.Uses.{◌∙◌, inl, refl, ap, sym, arith, length-append, Ready, Pending, Answer, item, items, CalmLaws, NoPending, AtMost-both}
 use Rattle.lite_merge.specs.Uses.{AtMost-length, Below-after, Below-first, Lowers-at_most, no_pending_join, rows_by, rows_follow, AtMost, Below, Lowers}
 use Rattle.lite_merge.specs.Uses.{Counting, Ranks, StreamLaws, Hints, NoHint, Runs, Fuses, fuse_parts, through_calm, fuses_calming, fuses_relating}
-use Rattle.lite_merge.specs.Uses.{laws_unhinted, through_counting, Fuse}
+use Rattle.lite_merge.specs.Uses.{laws_unhinted, through_on, through_counting, Fuse}
 use Rattle.lite_merge.specs.Merge.{MergeRow, MergeRows, Merges, beside_pending}
 
 module _ {A : Type 0} where
@@ -76,12 +76,12 @@ module _ {A : Type 0} where
       row_item i j y r.0 r.1 l e.0 r.2 e.1 e.2
 
 -- The laws of a stream that is not polled after its first end.
-pub fused_laws : {S A : Type 0} {run : Runs (Answer A) S} {hints : Hints S} → StreamLaws run hints
-    → StreamLaws (Fuses run) NoHint
-fused_laws s = laws_unhinted fuse_parts s fuses_relating
+pub fused_laws : {S A : Type 0} {run : Runs (Answer A) S} {can_poll : S → Type 0} {hints : Hints S} → StreamLaws can_poll run hints
+    → StreamLaws (λ f. can_poll f.stream) (Fuses run) NoHint
+fused_laws s = laws_unhinted fuse_parts s fuses_relating (through_on fuse_parts s)
 
-module _ {S U A : Type 0} {run : Runs (Answer A) S} {run' : Runs (Answer A) U} {hints : Hints S} {hints' : Hints U}
-    (s : StreamLaws run hints) (u : StreamLaws run' hints') where
+module _ {S U A : Type 0} {run : Runs (Answer A) S} {run' : Runs (Answer A) U} {can_poll : S → Type 0} {hints : Hints S} {can_poll' : U → Type 0} {hints' : Hints U}
+    (s : StreamLaws can_poll run hints) (u : StreamLaws can_poll' run' hints') where
   pub merges_follow : {o p : List Bool} {x t t' : Fuse S} {y v v' : Fuse U} {l m : List (Answer A)}
       → Merges run run' o x y l t v → Merges run run' p t v m t' v' → Merges run run' (o ++ p) x y (l ++ m) t' v'
   merges_follow {o} {p} {x} {t} {t'} {y} {v} {v'} {l} {m} h k =
@@ -130,7 +130,7 @@ module _ {S U A : Type 0} {run : Runs (Answer A) S} {run' : Runs (Answer A) U} {
       ((through_counting fuse_parts d fuses_relating).lowers y v h.seconds k.1 h.then_came)
 
   -- The rank falls if the first stream is polled first in each row.
-  pub first_falls : {hints' : Hints U} → StreamLaws run' hints' → {x t : Fuse S} {y v : Fuse U} (a : A) (more : List A)
+  pub first_falls : {can_poll' : U → Type 0} {hints' : Hints U} → StreamLaws can_poll' run' hints' → {x t : Fuse S} {y v : Fuse U} (a : A) (more : List A)
       → r.counts x.stream × r'.counts y.stream
       → Merges run run' (map (λ _. true) (items (a ∷ more))) x y (items (a ∷ more)) t v
       → Below (r'.rank v.stream ++ r.rank t.stream) (r'.rank y.stream ++ r.rank x.stream)

@@ -8,8 +8,8 @@ use Rattle.lite_merge.specs.Or.{Ors, or_ranks}
 use Rattle.lite_merge.specs.declared.or.Or.{Or}
 
 module _ {S U A : Type 0} {run : Runs (Answer A) S} {run' : Runs (Answer A) U} where
-  pub or_laws : {hints : Hints S} {hints' : Hints U} → StreamLaws run hints → StreamLaws run' hints'
-      → StreamLaws (Ors run run') NoHint
+  pub or_laws : {can_poll : S → Type 0} {hints : Hints S} {can_poll' : U → Type 0} {hints' : Hints U} → StreamLaws can_poll run hints → StreamLaws can_poll' run' hints'
+      → StreamLaws (λ m. can_poll m.stream1.stream × can_poll' m.stream2.stream) (Ors run run') NoHint
   or_laws s u =
       record {
         rests = λ x. record {
@@ -27,6 +27,7 @@ module _ {S U A : Type 0} {run : Runs (Answer A) S} {run' : Runs (Answer A) U} w
             };
         follows = λ x y z l m h k. rw map-append (merges_follow s u h k);
         bounded = λ x y hint l e h. same_hint hint (0, None) l e tt;
+        polls_on = λ x y l. merges_keep s.polls_on u.polls_on;
       }
 
   -- An `or` of two calm streams is calm.
@@ -34,7 +35,7 @@ module _ {S U A : Type 0} {run : Runs (Answer A) S} {run' : Runs (Answer A) U} w
       → CalmLaws (Ors run run') (λ (x : Or S U). is_calm x.stream1.stream × is_calm' x.stream2.stream)
   or_calm c d = calm_both (λ x y l. merges_calm c d)
 
-  pub or_counting : {hints' : Hints U} {r : Ranks S} {r' : Ranks U} → StreamLaws run' hints' → Counting run r
+  pub or_counting : {can_poll' : U → Type 0} {hints' : Hints U} {r : Ranks S} {r' : Ranks U} → StreamLaws can_poll' run' hints' → Counting run r
       → Counting run' r' → Counting (Ors run run') (or_ranks r r')
   or_counting u c d =
       record {

@@ -1,13 +1,19 @@
 -- Laws about `race`.
 use Rattle.std.specs.Prelude.{◌≡◌, List, [], ◌∷◌, ◌++◌, None}
 use Rattle.lite_merge.specs.Uses.{refl, inl, append-nil, map-append, Stream, next_u32, Answer, items, CalmLaws, NoPending, folds_follow, calm_both, same_hint}
-use Rattle.lite_merge.specs.Uses.{Lowers, Counting, Ranks, StreamLaws, Hints, NoHint, Runs}
+use Rattle.lite_merge.specs.Uses.{Lowers, Counting, PollsOn, Ranks, StreamLaws, Hints, NoHint, Runs}
 use Rattle.lite_merge.specs.Laws.Merge.{merges_calm, merges_follow, merges_keep, merges_lower, merges_sized}
 use Rattle.lite_merge.specs.Race.{RacesOn, race_ranks}
 use Rattle.lite_merge.specs.declared.race.Race.{Race}
 
 module _ {S U R A : Type 0} {run : Runs (Answer A) S} {run' : Runs (Answer A) U} (stream : R → Stream) where
-  module _ {hints : Hints S} {hints' : Hints U} (s : StreamLaws run hints) (u : StreamLaws run' hints') where
+  race_on : {can_first : S → Type 0} {can_second : U → Type 0} → PollsOn can_first run → PollsOn can_second run'
+      → PollsOn (λ (x : Race S U R). can_first x.stream1.stream × can_second x.stream2.stream)
+      (RacesOn run run' stream)
+  race_on on also x y [] c h = rw h c
+  race_on on also x y (a ∷ l) c h = merges_keep on also c h.merges
+
+  module _ {can_poll : S → Type 0} {hints : Hints S} {can_poll' : U → Type 0} {hints' : Hints U} (s : StreamLaws can_poll run hints) (u : StreamLaws can_poll' run' hints') where
     module _ (x y z : Race S U R) where
       races_follow : (l m : List (Answer A)) → RacesOn run run' stream x l y → RacesOn run run' stream y m z
           → RacesOn run run' stream x (l ++ m) z
@@ -22,12 +28,14 @@ module _ {S U R A : Type 0} {run : Runs (Answer A) S} {run' : Runs (Answer A) U}
             merges = rw map-append (merges_follow s u h.merges k.merges);
           }
 
-    pub race_laws : StreamLaws (RacesOn run run' stream) NoHint
+    pub race_laws : StreamLaws (λ m. can_poll m.stream1.stream × can_poll' m.stream2.stream)
+        (RacesOn run run' stream) NoHint
     race_laws = record {
       rests = λ x. refl;
       stays = λ x y h. h;
       follows = races_follow;
       bounded = λ x y hint l e h. same_hint hint (0, None) l e tt;
+      polls_on = race_on s.polls_on u.polls_on;
     }
 
   module _ {is_calm : S → Type 0} {is_calm' : U → Type 0} (c : CalmLaws run is_calm) (d : CalmLaws run' is_calm') where

@@ -1,12 +1,12 @@
 -- Laws about `stop_after_future`.
 use Rattle.std.specs.Prelude.{IfSome, ◌≡◌, ℕ, List, [], ◌∷◌, ◌++◌, length, Option, Some, None}
 use Rattle.std.proofs.Common.{◌≤◌}
-use Rattle.lite_merge.specs.Uses.{◌∙◌, length-append, refl, ap, sym, arith, append_assoc, Poll, Pending, Answer, before_end, end, items, FutureLaws, all_append}
-use Rattle.lite_merge.specs.Uses.{waiting_waiting, finishes_later, same_hint, StreamLaws, endless_join, Hints, Runs, AllEnds, Calming, Relating, laws_capped}
+use Rattle.lite_merge.specs.Uses.{◌∙◌, length-append, refl, ap, sym, arith, append_assoc, Poll, Pending, Answer, before_end, end, items, FutureLaws, all_append, future_runs_of}
+use Rattle.lite_merge.specs.Uses.{waiting_waiting, finishes_later, same_hint, PollsOn, StreamLaws, endless_join, Hints, Runs, AllEnds, Calming, Relating, laws_capped}
 use Rattle.std.proofs.lemmas.List.{append-nil}
 use Rattle.lite_merge.specs.Laws.Ends.{ends_before, ends_bounded, ends_calm, ends_lower, no_end_among}
 use Rattle.lite_merge.specs.StopAfterFuture.{PendingBeside, Stops, StopsBy, ThenEnds}
-use Rattle.lite_merge.specs.Stopping.{HintsBy, StopHints, stop_parts}
+use Rattle.lite_merge.specs.Stopping.{CanStop, HintsBy, StopHints, future_of, stop_parts}
 use Rattle.lite_merge.specs.declared.stop_after_future.StopAfterFuture.{StopAfterFuture}
 use Rattle.lite_merge.specs.declared.stop_after_future.Stopping.TheVariants.{Holding, TakenOut, Stopped}
 use Rattle.lite_merge.specs.declared.stop_after_future.Stopping.{Stopping}
@@ -20,13 +20,14 @@ none_told : {R : Type 0} (told : List R) → length told ≡ 0 → told ≡ []
 none_told [] e = refl
 none_told (a ∷ told) e = absurd (omega (arith, e))
 
-stops_rest : {F R : Type 0} (A : Type 0) {run : Runs (Poll R) F} → FutureLaws run → (f : Stopping F R)
+stops_rest : {F R : Type 0} (A : Type 0) {can_poll : F → Type 0} {run : Runs (Poll R) F} → FutureLaws can_poll run
+    → (f : Stopping F R)
     → StopsBy {A = A} run f [] [] f
 stops_rest A laws (Holding f) = (record { told = []; waiting = tt; came = laws.rests f; rows = refl }, refl, refl)
 stops_rest A laws TakenOut = (refl, refl)
 stops_rest A laws (Stopped r) = (refl, tt, refl)
 
-module _ {F A R : Type 0} {run : Runs (Poll R) F} (laws : FutureLaws run) where
+module _ {F A R : Type 0} {can_poll : F → Type 0} {run : Runs (Poll R) F} (laws : FutureLaws can_poll run) where
   module _ (f g : F) where
     beside_join : (k : F) (i j : List (Answer A)) → PendingBeside run f i g → PendingBeside run g j k
         → PendingBeside run f (i ++ j) k
@@ -92,7 +93,7 @@ module _ {F A R : Type 0} {run : Runs (Poll R) F} (laws : FutureLaws run) where
   stops_join (Holding f) (Holding g) (Stopped (Some value)) i j l m h d =
       record {
         told = h.0.told ++ d.told;
-        finishes = finishes_later laws f g h.0.told d.told value h.0.waiting h.0.came d.finishes;
+        finishes = finishes_later (future_runs_of laws) f g h.0.told d.told value h.0.waiting h.0.came d.finishes;
         rows = omega (arith, h.0.rows, d.rows, length-append h.0.told d.told, length-append i j);
         endless = endless_join i j h.1 d.endless;
         goes_out = rw append_assoc (ends_after _ h.2 d.goes_out);
@@ -137,21 +138,39 @@ module _ {F A R : Type 0} {run : Runs (Poll R) F} (laws : FutureLaws run) where
   pub stops_calming : Calming (StopsBy {A = A} run)
   stops_calming f g i o h = let e = ends_behind f g i o h in rw e.2 (ends_calm i e.0 e.1)
 
-module _ {S F A R : Type 0} {run : Runs (Answer A) S} {hints : Hints S} {run' : Runs (Poll R) F}
-    (laws : StreamLaws run hints) (laws' : FutureLaws run') where
+module _ {S F A R : Type 0} {run : Runs (Answer A) S} {run' : Runs (Poll R) F} {can_poll : S → Type 0}
+    {hints : Hints S} {can_future : F → Type 0} (laws : StreamLaws can_poll run hints)
+    (laws' : FutureLaws can_future run') where
+  future_on : (x y : Stopping F R) (i o : List (Answer A)) → IfSome (future_of x) can_future → StopsBy run' x i o y
+      → IfSome (future_of y) can_future
+  future_on TakenOut y i o c h = rw h.1 tt
+  future_on (Stopped r) y i o c h = rw h.2 tt
+  future_on (Holding f) (Holding g) i o c h = laws'.waits_on f g h.0.told h.0.waiting c h.0.came
+  future_on (Holding f) (Stopped r) i o c h = tt
+  future_on (Holding f) TakenOut i o c h = tt
+
+  -- Such a stream may be polled after any run.
+  stop_on : PollsOn (CanStop can_poll can_future) (Stops run run')
+  stop_on x y l c h =
+      (laws.polls_on x.stream y.stream h.ins c.0 h.came, future_on x.future y.future h.ins l c.1 h.related)
+
+  capped : StreamLaws (CanStop can_poll can_future) (Stops run run')
+      (λ (m : StopAfterFuture S F R) hint. (inner : ℕ × Option ℕ) × hints m.stream inner × (hint ≡ (0, inner.1)))
+  capped = laws_capped stop_parts laws (stops_relating laws') stop_on
+
   stop_bounded : (x y : StopAfterFuture S F R) (hint : ℕ × Option ℕ) (l : List (Answer A)) (f : Stopping F R)
       → x.future ≡ f → HintsBy (hints x.stream) f hint → Stops run run' x l y
       → IfSome hint.1 (λ most. before_end l ≤ most)
   stop_bounded x y hint l (Stopped r) is h k =
       same_hint hint (0, Some 0) l h (ends_before l (rw is at k.related).1)
-  stop_bounded x y hint l f is h k = (laws_capped stop_parts laws (stops_relating laws')).bounded x y hint l h k
+  stop_bounded x y hint l f is h k = capped.bounded x y hint l h k
 
-  pub stop_laws : StreamLaws (Stops run run') (StopHints {F = F} {R = R} hints)
+  pub stop_laws : StreamLaws (CanStop can_poll can_future) (Stops run run') (StopHints {F = F} {R = R} hints)
   stop_laws =
-      let inner = laws_capped stop_parts laws (stops_relating laws') in
       record {
-        rests = inner.rests;
-        stays = inner.stays;
-        follows = inner.follows;
+        rests = capped.rests;
+        stays = capped.stays;
+        follows = capped.follows;
         bounded = λ x y hint l h k. stop_bounded x y hint l x.future refl h k;
+        polls_on = stop_on;
       }

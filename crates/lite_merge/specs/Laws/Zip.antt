@@ -166,11 +166,14 @@ module _ {S U A B : Type 0} {run : Runs (Answer A) S} {run' : Runs (Answer B) U}
             };
       }
 
-  pub zip_laws : {hints : Hints S} {hints' : Hints U} → StreamLaws run hints → StreamLaws run' hints'
-      → StreamLaws (Zips run run') NoHint
-  zip_laws s u = laws_of (zip_runs (runs_of s) (runs_of u)) (λ x y hint l e h. same_hint hint (0, None) l e tt)
+  pub zip_laws : {can_poll : S → Type 0} {hints : Hints S} {can_poll' : U → Type 0} {hints' : Hints U} → StreamLaws can_poll run hints → StreamLaws can_poll' run' hints'
+      → StreamLaws (λ m. can_poll m.first × can_poll' m.second) (Zips run run') NoHint
+  zip_laws s u =
+      laws_of (zip_runs (runs_of s) (runs_of u)) (λ x y hint l e h. same_hint hint (0, None) l e tt)
+      (λ x y l c h.
+      (s.polls_on x.first y.first h.firsts c.0 h.came, u.polls_on x.second y.second h.seconds c.1 h.then_came))
 
-  pub zip_counting : {hints : Hints S} {r : Ranks S} → StreamLaws run hints → Counting run r
+  pub zip_counting : {can_poll : S → Type 0} {hints : Hints S} {r : Ranks S} → StreamLaws can_poll run hints → Counting run r
       → Counting (Zips run run') (zip_ranks r)
   zip_counting {r} s c =
       record {

@@ -1,8 +1,8 @@
 -- Laws of futures over a reader in which an allocation fails only if room was lacking.
 use Rattle.std.specs.Prelude.{List, [], ◌∷◌, ◌++◌}
-use Rattle.lite_read.specs.Uses.{refl, Poll, Ready, Pending, Waiting, CalmLaws, FutureLaws, up_to_once, Runs, ReadMark, MarkLaws, CalmReadLaws}
+use Rattle.lite_read.specs.Uses.{refl, Poll, Ready, Pending, Waiting, CalmLaws, FutureRunLaws, up_to_once, Runs, ReadMark, MarkLaws, CalmReadLaws}
 use Rattle.lite_read.specs.Laws.Deterministic.{segmented_calm}
-use Rattle.lite_read.specs.Laws.Gathers.{KeepLaws, gathers_laws}
+use Rattle.lite_read.specs.Laws.Gathers.{KeepLaws, gathers_runs}
 use Rattle.lite_read.specs.Laws.Refusals.{Waits, Weaker, gathers_waiting, gathers_weaker}
 use Rattle.lite_read.specs.ReadFold.{GathersByRoom, ReadFold}
 
@@ -25,15 +25,15 @@ behind_waiting (Ready x ∷ l) m w = absurd w
 module _ {X S M R : Type 0} {reader : X → S} {held : X → M} {fold : X → X → X → ReadFold M R}
     {Keeps Grows : X → X → Type 0}
     {reads : Runs ReadMark S} where
-  pub room_laws : RoomLaws fold Keeps Grows → MarkLaws reads
-      → FutureLaws (GathersByRoom reader held fold Keeps Grows reads)
-  room_laws r laws =
+  pub room_runs : RoomLaws fold Keeps Grows → MarkLaws reads
+      → FutureRunLaws (GathersByRoom reader held fold Keeps Grows reads)
+  room_runs r laws =
       record {
-        rests = λ x. record { gathered = (gathers_laws (r.keeps x x) laws).rests x; grows = λ w. r.none x };
+        rests = λ x. record { gathered = (gathers_runs (r.keeps x x) laws).rests x; grows = λ w. r.none x };
         stays = λ x y h. h.gathered.idle refl;
         follows = λ x y z l m w h k. record {
           gathered =
-              (gathers_laws (r.keeps x z) laws).follows x y z l m w
+              (gathers_runs (r.keeps x z) laws).follows x y z l m w
               (gathers_waiting (r.waits x y z) x y l w h.gathered)
               (gathers_weaker (λ v. r.sooner x y z v h.gathered.stays (h.grows w)) y z m k.gathered);
           grows = λ v. r.join x y z (h.grows w) (k.grows (behind_waiting l m v));

@@ -1,7 +1,7 @@
 -- Laws of `bytes`.
-use Rattle.std.specs.Prelude.{◌≡◌, ℕ, ◌+◌, List, [], ◌∷◌, ◌++◌, length, Some, None, Result}
+use Rattle.std.specs.Prelude.{⊤, ◌≡◌, ℕ, ◌+◌, List, [], ◌∷◌, ◌++◌, length, Some, None, Result}
 use Rattle.lite_read.specs.Uses.{suc, refl, ap, subst, add-one, Error, Ready, Pending, Answer, items, Lowers-below, same_hint, Below, Lowers, Counting, Ranks}
-use Rattle.lite_read.specs.Uses.{ranks_of, StreamLaws, laws_of, NoHint, Runs, ReadCounting, Falls, calm_part, counting_part, AllGiven, ReadMark, given}
+use Rattle.lite_read.specs.Uses.{ranks_of, RunLaws, StreamLaws, laws_of, NoHint, Runs, ReadCounting, Falls, calm_part, counting_part, AllGiven, ReadMark, given}
 use Rattle.lite_read.specs.Uses.{MarkLaws, CalmReadLaws, SteadyReadLaws}
 use Rattle.lite_read.specs.Bytes.{TellsBytes, TellsEach}
 use Rattle.lite_read.specs.Laws.PollSteps.{idle_join}
@@ -42,8 +42,8 @@ tells_items (_ ∷ i) (r ∷ l) h = let e = tells_items i l h.1 in ((tt, e.0), a
 
 module _ {R : Type 0} {reads : Runs ReadMark R} where
   module _ (laws : MarkLaws reads) where
-    pub bytes_laws : StreamLaws (TellsBytes reads) NoHint
-    bytes_laws = laws_of (record {
+    pub bytes_runs : RunLaws (TellsBytes reads)
+    bytes_runs = record {
       rests = λ x. record { marks = []; came = laws.rests x.inner; told = tt; idle = λ e. refl };
       stays = λ x y h. h.idle refl;
       follows = λ x y z l m h k. record {
@@ -52,7 +52,10 @@ module _ {R : Type 0} {reads : Runs ReadMark R} where
         told = tells_join h.marks k.marks l m h.told k.told;
         idle = idle_join x y z l m h.idle k.idle;
       };
-    }) (λ x y hint l e h. same_hint hint (0, None) l e tt)
+    }
+
+    pub bytes_laws : StreamLaws (λ _. ⊤) (TellsBytes reads) NoHint
+    bytes_laws = laws_of bytes_runs (λ x y hint l e h. same_hint hint (0, None) l e tt) (λ x y l c h. tt)
 
   pub bytes_counting : {r : Ranks R} → ReadCounting reads r
       → Counting (TellsBytes reads) (ranks_of (λ (b : Bytes R). b.inner) r)

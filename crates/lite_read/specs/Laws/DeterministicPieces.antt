@@ -5,7 +5,7 @@ use Rattle.lite_read.specs.Uses.{ReadMark, CalmReadLaws, SteadyReadLaws}
 use Rattle.lite_read.specs.ReadFold.{ReadFold}
 use Rattle.lite_read.specs.Laws.Deterministic.{GivenBy, TakenAt, deterministic_by, segmented_alike, segmented_calm}
 use Rattle.lite_read.specs.Deterministic.{IsDeterministic, SameOr}
-use Rattle.lite_read.specs.Laws.Segments.{flow_laws}
+use Rattle.lite_read.specs.Laws.Segments.{flow_runs}
 use Rattle.lite_read.specs.Pieces.{Cut, CutsPiece, Itemised, pieces}
 use Rattle.lite_read.specs.Segments.{Flows, StreamOver}
 
@@ -115,7 +115,7 @@ module _ {X S M K A : Type 0} (over : StreamOver X S M K) where
       → SteadyLawsBy (Sameness.by same) (Flows over refusing reads) (Flows over fold ample) ⊥ (FlowAlike over alike)
   flow_steady refusing fold deterministic s =
       record {
-        laws = runs_of (flow_laws over fold s.laws);
+        laws = flow_runs over fold s.laws;
         steady = λ x y e l m x' y' h k.
             segmented_alike _ (deterministic _) s _ _ _ _ _ _ _ l m e.0 h.segmented (rw (← e.1, ← e.2) at k.segmented);
         found = λ n. absurd n;

@@ -1,6 +1,6 @@
 -- Laws of futures over a reader.
 use Rattle.std.specs.Prelude.{◌≡◌, List, [], ◌∷◌}
-use Rattle.lite_read.specs.Uses.{refl, Poll, ComparableBy, strip, CalmLaws, FutureLaws, up_to_once, waiting_up_to, Runs, ReadMark, MarkLaws, CalmReadLaws}
+use Rattle.lite_read.specs.Uses.{refl, Poll, ComparableBy, strip, CalmLaws, FutureRunLaws, up_to_once, waiting_up_to, Runs, ReadMark, MarkLaws, CalmReadLaws}
 use Rattle.lite_read.specs.Uses.{SteadyReadLaws}
 use Rattle.lite_read.specs.Deterministic.{IsDeterministic}
 use Rattle.lite_read.specs.Laws.Deterministic.{segmented_alike, segmented_calm}
@@ -19,8 +19,8 @@ pub record KeepLaws {X M R : Type 0} (fold : X → ReadFold M R) (Keeps : X → 
 module _ {X S M R : Type 0} {reader : X → S} {held : X → M} {fold : X → ReadFold M R} {Keeps : X → X → Type 0}
     {reads : Runs ReadMark S} where
   module _ (keeps : KeepLaws fold Keeps) (laws : MarkLaws reads) where
-    pub gathers_laws : FutureLaws (Gathers reader held fold Keeps reads)
-    gathers_laws =
+    pub gathers_runs : FutureRunLaws (Gathers reader held fold Keeps reads)
+    gathers_runs =
         record {
           rests = λ x. record {
             folded = segmented_none _ laws _ _;

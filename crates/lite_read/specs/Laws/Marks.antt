@@ -4,7 +4,7 @@ use Rattle.std.specs.Prelude.{◌≡◌, ℕ, List, [], ◌∷◌, ◌++◌, Ok,
 use Rattle.lite_read.specs.Uses.{◌∙◌, Global, ap, sym, IsUtf8-string_bytes, String, Vec, Sameness, FutureSteadyLawsBy, Runs, ReadMark, SteadyReadLaws}
 use Rattle.lite_read.specs.Laws.Gathers.{gathers_alike}
 use Rattle.lite_read.specs.Deterministic.{IsDeterministic, SameByKind}
-use Rattle.lite_read.specs.Laws.ReadUntil.{until_laws}
+use Rattle.lite_read.specs.Laws.ReadUntil.{until_runs}
 use Rattle.lite_read.specs.Laws.DeterministicPieces.{BecomesOne, MakesOne, pieces_deterministic}
 use Rattle.lite_read.specs.Pieces.{Cut}
 use Rattle.lite_read.specs.UntilVector.{read_of}
@@ -62,7 +62,7 @@ module _ {R : Type 0} where
         (UntilAlike alike)
     until_steady lent s =
         record {
-          laws = until_laws ⊥ s.laws;
+          laws = until_runs ⊥ s.laws;
           steady = λ x y e. gathers_alike (λ x. until_deterministic x.byte) s x y e.0 e.1 (rw (sym e.2));
           found = λ n. absurd n;
         }

@@ -1,6 +1,6 @@
 -- Laws of futures each poll of which is one call.
 use Rattle.std.specs.Prelude.{◌≤◌, List, [], ◌∷◌, ◌++◌, length}
-use Rattle.lite_read.specs.Uses.{refl, arith, Poll, Ready, Pending, Waiting, strip, CalmLaws, NoPending, FutureLaws, Runs, CalmRuns}
+use Rattle.lite_read.specs.Uses.{refl, arith, Poll, Ready, Pending, Waiting, strip, CalmLaws, NoPending, FutureLaws, FutureRunLaws, WaitsOn, future_laws_of, Runs, CalmRuns}
 use Rattle.lite_read.specs.Polled.{PolledByCalls}
 
 module _ {F A : Type 0} (call : F → Poll A → F → Type 0) where
@@ -15,8 +15,19 @@ module _ {F A : Type 0} (call : F → Poll A → F → Type 0) where
   polled_once x y (Pending ∷ l) h = polled_once h.0 y l h.2
   polled_once x y (Ready r ∷ l) h = rw h.1 (omega arith)
 
-  pub polled_laws : FutureLaws (PolledByCalls call)
-  polled_laws = record { rests = λ x. refl; stays = λ x y h. h; follows = polled_follows; once = polled_once }
+  polled_on : {can_poll : F → Type 0} → ((x y : F) → can_poll x → call x Pending y → can_poll y)
+      → WaitsOn can_poll (PolledByCalls call)
+  polled_on on x y [] w c h = rw h c
+  polled_on on x y (Pending ∷ l) w c h = polled_on on h.0 y l w (on x h.0 c h.1) h.2
+  polled_on on x y (Ready r ∷ l) w c h = absurd w
+
+  pub polled_runs : FutureRunLaws (PolledByCalls call)
+  polled_runs = record { rests = λ x. refl; stays = λ x y h. h; follows = polled_follows; once = polled_once }
+
+  -- `on` says that a future that may be polled may be polled again after a pending call.
+  pub polled_laws : {can_poll : F → Type 0} (on : (x y : F) → can_poll x → call x Pending y → can_poll y)
+      → FutureLaws can_poll (PolledByCalls call)
+  polled_laws on = future_laws_of polled_runs (polled_on on)
 
   -- One call is a run of one poll.
   pub polled_one : {x y : F} {c : Poll A} → call x c y → PolledByCalls call x (c ∷ []) y

@@ -1,8 +1,8 @@
 -- Laws of `read_exact`.
-use Rattle.std.specs.Prelude.{◌≡◌, ◌<◌, ◌-◌, ℕ, List, [], ◌∷◌, length, Result, ◌++◌}
-use Rattle.lite_read.specs.Uses.{◌∙◌, refl, ap, arith, append-nil, append_assoc, length-append, length-take, FoldsTo, Error, Poll, FutureLaws, Runs, ReadMark}
+use Rattle.std.specs.Prelude.{◌≡◌, ◌≤◌, ◌<◌, ◌-◌, ℕ, List, [], ◌∷◌, length, Result, ◌++◌}
+use Rattle.lite_read.specs.Uses.{◌∙◌, refl, ap, arith, append-nil, append_assoc, length-append, length-take, FoldsTo, Error, Poll, FutureLaws, FutureRunLaws, Runs, ReadMark, future_laws_of}
 use Rattle.lite_read.specs.Uses.{MarkLaws, lent_still}
-use Rattle.lite_read.specs.Laws.Gathers.{KeepLaws, gathers_before, gathers_laws}
+use Rattle.lite_read.specs.Laws.Gathers.{KeepLaws, gathers_before, gathers_runs}
 use Rattle.lite_read.specs.Filling.{ExactStays, Filling, filling_of}
 use Rattle.lite_read.specs.ReadExact.{ReadsExactly, fills}
 use Rattle.lite_read.specs.PollSteps.{ReadsMore}
@@ -35,8 +35,11 @@ module _ {R : Type 0} where
   keeps = record { none = stays_none; join = stays_join; same = λ x y k. refl }
 
   module _ {reads : Runs ReadMark R} (laws : MarkLaws reads) where
-    pub exact_laws : FutureLaws (ReadsExactly reads)
-    exact_laws = gathers_laws keeps laws
+    pub exact_runs : FutureRunLaws (ReadsExactly reads)
+    exact_runs = gathers_runs keeps laws
+
+    pub exact_laws : FutureLaws (λ x. x.filled ≤ length x.buf.now) (ReadsExactly reads)
+    exact_laws = future_laws_of exact_runs (λ x y l w c h. h.stays.within c)
 
     -- A step that does not yet return, followed by a poll result, is one run with that result.
     pub step_before : (x y z : ReadExactFuture R) (a : Poll (Result (Unit {0}) Error)) → ReadsMore reads x y

@@ -1,10 +1,10 @@
 -- Laws of `read_to_end`.
 use Rattle.std.specs.Prelude.{⊤, ◌≤◌, ◌+◌, ◌-◌, ℕ, List, [], ◌∷◌, ◌++◌, length, Result}
 use Rattle.lite_read.specs.Uses.{◌∙◌, refl, ap, sym, arith, length-append, append-nil, append_assoc, length-take-le, FoldsTo, Error, Poll, Terminates}
-use Rattle.lite_read.specs.Uses.{Terminates-map, FutureLaws, Ranks, Runs, ReadCounting, GivenRun, ReadMark, MarkLaws, lent_still}
-use Rattle.lite_read.specs.Laws.Gathers.{KeepLaws, gathers_before, gathers_laws}
+use Rattle.lite_read.specs.Uses.{Terminates-map, FutureLaws, FutureRunLaws, Ranks, Runs, ReadCounting, GivenRun, ReadMark, MarkLaws, future_laws_of, lent_still}
+use Rattle.lite_read.specs.Laws.Gathers.{KeepLaws, gathers_before, gathers_runs}
 use Rattle.lite_read.specs.Appending.{CanAppend, ToEndStays, VectorGrows}
-use Rattle.lite_read.specs.Laws.ByRoom.{RoomLaws, room_laws}
+use Rattle.lite_read.specs.Laws.ByRoom.{RoomLaws, room_runs}
 use Rattle.lite_read.specs.Laws.Refusals.{appends_weaker, gathers_weaker}
 use Rattle.lite_read.specs.ReadFold.{ReadFold}
 use Rattle.lite_read.specs.Laws.PollSteps.{takes_given}
@@ -66,8 +66,8 @@ module _ {R A : Type 0} where
   keeps m = record { none = stays_none; join = stays_join; same = λ x y k. ap (appends m) k.start }
 
   module _ (m : Type 0) {reads : Runs ReadMark R} (laws : MarkLaws reads) where
-    pub append_laws : FutureLaws (ReadsToEnd {A = A} m reads)
-    append_laws = gathers_laws (keeps m) laws
+    pub append_runs : FutureRunLaws (ReadsToEnd {A = A} m reads)
+    append_runs = gathers_runs (keeps m) laws
 
     -- A step that does not yet return, followed by a poll result, is one run with that result.
     pub step_before : (x y z : ReadToEndFuture R A) (a : Poll (Result ℕ Error)) → ReadsSome m reads x y
@@ -75,8 +75,8 @@ module _ {R A : Type 0} where
     step_before = gathers_before (keeps m) laws (λ x y k. k.0)
 
   -- A vector that lacks room after a run that was pending lacked it before that run.
-  lacks_sooner : (x y z : ReadToEndFuture R A) → VectorGrows x y → ToEndLacksRoom (length y.buf.now.items) y z
-      → ToEndLacksRoom (length x.buf.now.items) x z
+  lacks_sooner : (x y z : ReadToEndFuture R A) → VectorGrows x y → ToEndLacksRoom (length y.buf.now.items) (length z.buf.now.items) y
+      → ToEndLacksRoom (length x.buf.now.items) (length z.buf.now.items) x
   lacks_sooner x y z h full = (
     full.0 + (length y.buf.now.items - length x.buf.now.items),
     omega (arith, h.items, full.1),
@@ -87,12 +87,12 @@ module _ {R A : Type 0} where
   -- for the bytes of `y` and the next read.
   abbrev appends_by_room : ReadToEndFuture R A → ReadToEndFuture R A → ReadToEndFuture R A
       → ReadFold (List ℕ) (Result ℕ Error)
-  appends_by_room x y v = appends (ToEndLacksRoom (length x.buf.now.items) x y) v.start
+  appends_by_room x y v = appends (ToEndLacksRoom (length x.buf.now.items) (length y.buf.now.items) x) v.start
 
   to_end_room : RoomLaws appends_by_room ToEndStays VectorGrows
   to_end_room =
       record {
-        keeps = λ x y. keeps (ToEndLacksRoom (length x.buf.now.items) x y);
+        keeps = λ x y. keeps (ToEndLacksRoom (length x.buf.now.items) (length y.buf.now.items) x);
         none = λ x. record { items = omega arith; capacity = omega arith; room = omega arith };
         join = λ x y z h k. record {
           items = omega (arith, h.items, k.items);
@@ -100,17 +100,22 @@ module _ {R A : Type 0} where
           room = omega (arith, h.items, k.items, h.room, k.room);
         };
         waits = λ x y z v. record { takes = λ p q b h. h; asks = λ p h. h };
-        sooner = λ x y z v s h. appends_weaker v.start (λ g. ToEndLacksRoom (length y.buf.now.items) y z)
-            (λ g. ToEndLacksRoom (length x.buf.now.items) x z) (λ g. lacks_sooner x y z h);
+        sooner = λ x y z v s h. appends_weaker v.start (λ g. ToEndLacksRoom (length y.buf.now.items) (length z.buf.now.items) y)
+            (λ g. ToEndLacksRoom (length x.buf.now.items) (length z.buf.now.items) x) (λ g. lacks_sooner x y z h);
       }
 
   module _ {reads : Runs ReadMark R} where
-    pub to_end_room_laws : MarkLaws reads → FutureLaws (ReadsToEndByRoom {A = A} reads)
-    to_end_room_laws = room_laws to_end_room
+    pub to_end_room_laws : {r : Ranks R} → MarkLaws reads → ReadCounting reads r
+        → FutureLaws (λ x. (x.start ≤ length x.buf.now.items) × r.counts x.reader.now) (ReadsToEndByRoom {A = A} reads)
+    to_end_room_laws laws c =
+        future_laws_of (room_runs to_end_room laws)
+        (λ x y l w k h.
+        let told = h.gathered.folded in
+        (omega (arith, h.gathered.stays.start, (h.grows w).items, k.0), c.counts_on _ _ told.marks k.1 told.came))
 
     -- A run in which an allocation fails only if the vector lacked room is one in which it may fail at any time.
     pub to_end_any : (x y : ReadToEndFuture R A) (l : List (Poll (Result ℕ Error))) → ReadsToEndByRoom reads x l y
         → ReadsToEnd ⊤ reads x l y
     to_end_any x y l h =
-        gathers_weaker (λ v. appends_weaker v.start (λ g. ToEndLacksRoom (length x.buf.now.items) x y) (λ g. ⊤)
+        gathers_weaker (λ v. appends_weaker v.start (λ g. ToEndLacksRoom (length x.buf.now.items) (length y.buf.now.items) x) (λ g. ⊤)
         (λ g full. tt)) x y l h.gathered

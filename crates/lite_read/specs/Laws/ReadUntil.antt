@@ -1,9 +1,9 @@
 -- Laws of `read_until`.
 use Rattle.std.specs.Prelude.{⊤, ◌≤◌, List, [], ◌∷◌, length, Result, ℕ, vec_capacity}
-use Rattle.lite_read.specs.Uses.{◌∙◌, refl, ap, arith, Error, Poll, FutureLaws, Runs, ReadMark, MarkLaws, lent_still}
-use Rattle.lite_read.specs.Laws.Gathers.{KeepLaws, gathers_before, gathers_laws}
+use Rattle.lite_read.specs.Uses.{◌∙◌, refl, ap, arith, Error, Poll, FutureLaws, FutureRunLaws, Ranks, ReadCounting, Runs, ReadMark, MarkLaws, future_laws_of, lent_still}
+use Rattle.lite_read.specs.Laws.Gathers.{KeepLaws, gathers_before, gathers_runs}
 use Rattle.lite_read.specs.UntilVector.{UntilStays}
-use Rattle.lite_read.specs.Laws.ByRoom.{RoomLaws, room_laws}
+use Rattle.lite_read.specs.Laws.ByRoom.{RoomLaws, room_runs}
 use Rattle.lite_read.specs.Laws.Refusals.{gathers_weaker, pieces_weaker}
 use Rattle.lite_read.specs.ReadUntil.{CountsPiece, ReadsUntil, ReadsUntilByRoom, UntilLacksRoom, until}
 use Rattle.lite_read.specs.PieceSteps.{AppendsMore}
@@ -44,8 +44,8 @@ module _ {R : Type 0} where
 
   module _ {reads : Runs ReadMark R} where
     -- The laws of `read_until`, whether an allocation may fail or not.
-    pub until_laws : (may_refuse : Type 0) → MarkLaws reads → FutureLaws (ReadsUntil reads may_refuse)
-    until_laws may_refuse = gathers_laws (keeps may_refuse)
+    pub until_runs : (may_refuse : Type 0) → MarkLaws reads → FutureRunLaws (ReadsUntil reads may_refuse)
+    until_runs may_refuse = gathers_runs (keeps may_refuse)
 
     -- A step that does not yet return, followed by a poll result, is one run with that result.
     pub step_before : {m : Type 0} → MarkLaws reads → (x y z : ReadUntilFuture R) (a : Poll (Result ℕ Error))
@@ -70,8 +70,13 @@ module _ {R : Type 0} where
         }
 
     module _ {reads : Runs ReadMark R} where
-      pub until_room_laws : MarkLaws reads → FutureLaws (ReadsUntilByRoom reads lent)
-      until_room_laws = room_laws until_room
+      pub until_room_laws : {r : Ranks R} → MarkLaws reads → ReadCounting reads r
+          → FutureLaws (λ x. r.counts x.reader.now × (x.start ≤ length x.buf.now.items)) (ReadsUntilByRoom reads lent)
+      until_room_laws laws c =
+          future_laws_of (room_runs until_room laws)
+          (λ x y l w k h.
+          let told = h.gathered.folded in
+          (c.counts_on _ _ told.marks k.0 told.came, stays_within x y h.gathered.stays k.1))
 
       -- A run in which an allocation fails only if the vector lacked room is one in which it may fail at any time.
       pub until_any : (x y : ReadUntilFuture R) (l : List (Poll (Result ℕ Error))) → ReadsUntilByRoom reads lent x l y

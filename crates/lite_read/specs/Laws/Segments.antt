@@ -1,6 +1,6 @@
 -- Laws of streams over a reader.
 use Rattle.std.specs.Prelude.{ℕ, List, [], ◌∷◌, ◌++◌, Option}
-use Rattle.lite_read.specs.Uses.{◌∙◌, refl, FoldsTo, Poll, Reaches, segments_join, StreamLaws, NoHint, Runs, Ranks, ReadCounting, ReadMark, bytes, MarkLaws}
+use Rattle.lite_read.specs.Uses.{◌∙◌, refl, FoldsTo, Poll, Reaches, segments_join, PollsOn, RunLaws, StreamLaws, laws_of, NoHint, Runs, Ranks, ReadCounting, ReadMark, bytes, MarkLaws}
 use Rattle.lite_read.specs.ReadFold.{ReadFold}
 use Rattle.lite_read.specs.Laws.ReadFold.{answers_before}
 use Rattle.lite_read.specs.Laws.PollSteps.{idle_join, steps_answer}
@@ -57,9 +57,9 @@ module _ {X S M K R : Type 0} (over : StreamOver X S M K) (fold : K → ReadFold
 
 module _ {X S M K A : Type 0} (over : StreamOver X S M K) (fold : K → ReadFold M (Option A)) {reads : Runs ReadMark S}
     (laws : MarkLaws reads) where
-  -- The laws of such a stream, whose size hint is `(0, None)`.
-  pub flow_laws : StreamLaws (Flows over fold reads) NoHint
-  flow_laws =
+  -- The laws of such a stream's runs.
+  pub flow_runs : RunLaws (Flows over fold reads)
+  flow_runs =
       record {
         rests = λ x. record {
           segmented = segmented_none _ laws _ _;
@@ -68,14 +68,23 @@ module _ {X S M K A : Type 0} (over : StreamOver X S M K) (fold : K → ReadFold
         };
         stays = λ x y h. h.idle refl;
         follows = flows_follow over fold laws;
-        bounded = λ x y hint l allowed h. rw allowed tt;
       }
+
+  -- The laws of such a stream, whose size hint is `(0, None)`.
+  pub flow_laws : {can_poll : X → Type 0} → PollsOn can_poll (Flows over fold reads)
+      → StreamLaws can_poll (Flows over fold reads) NoHint
+  flow_laws = laws_of flow_runs (λ x y hint l allowed h. rw allowed tt)
 
   -- What each run of the reader keeps true of it is true after a run of the stream.
   pub flow_keeps : (P : S → Type 0) → ((s t : S) (l : List ReadMark) → P s → reads s l t → P t)
       → (x y : X) (l : List (Poll (Option A))) → P (over.reader x)
       → Flows over fold reads x l y → P (over.reader y)
   flow_keeps P keeps x y l p h = keeps _ _ h.segmented.marks p h.segmented.came
+
+  -- The laws of such a stream that may be polled if its reader's rank counts.
+  pub flow_counting_laws : {r : Ranks S} → ReadCounting reads r
+      → StreamLaws (λ x. r.counts (over.reader x)) (Flows over fold reads) NoHint
+  flow_counting_laws {r} c = flow_laws (flow_keeps r.counts c.counts_on)
 
 module _ {X S M K A : Type 0} {over : StreamOver X S M K} {fold : K → ReadFold M (Option A)} {reads : Runs ReadMark S}
     (laws : MarkLaws reads) {x z : X} {a : Poll (Option A)} where

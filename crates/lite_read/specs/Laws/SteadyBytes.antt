@@ -3,7 +3,7 @@ use Rattle.std.specs.Prelude.{◌≡◌, ◌⊎◌, ℕ, List, [], ◌∷◌, Op
 use Rattle.lite_read.specs.Uses.{◌∙◌, inl, inr, refl, sym, subst, error_kind, Error, ErrorKind, Interrupted, Ready, Pending, OptionBy, Sameness, Answer}
 use Rattle.lite_read.specs.Uses.{Comparable, ComparableBy, strip, comparable_nil, SteadyLawsBy, runs_of, Runs, ReadMark, SteadyReadLaws, strip_marks}
 use Rattle.lite_read.specs.Bytes.{TellsBytes, TellsEach}
-use Rattle.lite_read.specs.Laws.Bytes.{bytes_laws}
+use Rattle.lite_read.specs.Laws.Bytes.{bytes_runs}
 use Rattle.lite_read.specs.Deterministic.{SameByKind}
 use Rattle.lite_read.specs.declared.bytes.Bytes.{Bytes}
 
@@ -75,7 +75,7 @@ module _ {R : Type 0} {reads ample : Runs ReadMark R} {needs_none : Type 0} {ali
       (λ (x y : Bytes R). alike x.inner y.inner)
   bytes_steady s =
       record {
-        laws = runs_of (bytes_laws s.laws);
+        laws = bytes_runs s.laws;
         steady = λ x y e l m x' y' h k.
             say_same (strip_marks h.marks) (strip_marks k.marks) _ _ (said h.marks l h.told) (said k.marks m k.told)
             (s.steady x.inner y.inner x'.inner y'.inner h.marks k.marks e h.came k.came);

@@ -1,7 +1,7 @@
 -- `read_exact` is steady over a steady reader, and calm over a calm one.
 use Rattle.std.specs.Prelude.{◌≡◌, List, [], ◌∷◌, length, Result, Ok, Err}
 use Rattle.lite_read.specs.Uses.{◌∙◌, refl, sym, arith, Error, CalmLaws, Sameness, FutureSteadyLawsBy, Runs, ReadMark, CalmReadLaws, SteadyReadLaws}
-use Rattle.lite_read.specs.Laws.ReadExact.{exact_laws}
+use Rattle.lite_read.specs.Laws.ReadExact.{exact_runs}
 use Rattle.lite_read.specs.Laws.Deterministic.{GivenBy, TakenAt, deterministic_by}
 use Rattle.lite_read.specs.Laws.Gathers.{gathers_alike, gathers_calm}
 use Rattle.lite_read.specs.Filling.{Filling, filling_of}
@@ -40,7 +40,7 @@ module _ {R : Type 0} {reads : Runs ReadMark R} where
     pub exact_steady : FutureSteadyLawsBy (Sameness.by SameByKind) (ReadsExactly reads) (ReadsExactly ample) needs_none
         (ExactAlike alike)
     exact_steady = record {
-      laws = exact_laws s.laws;
+      laws = exact_runs s.laws;
       steady = λ x y e. gathers_alike (λ x. fills_deterministic) s x y e.0 e.1 refl;
       found = λ n x y l h. record {
         folded = record {

@@ -1,7 +1,7 @@
 -- `read_to_end` is steady over a steady reader if no allocation fails, and calm over a calm one.
 use Rattle.std.specs.Prelude.{◌≡◌, ℕ, List, [], ◌∷◌, Result, Ok, Err}
 use Rattle.lite_read.specs.Uses.{◌∙◌, sym, ap, arith, Error, Sameness, FutureSteadyLawsBy, Runs, ReadMark, SteadyReadLaws}
-use Rattle.lite_read.specs.Laws.ReadToEnd.{append_laws}
+use Rattle.lite_read.specs.Laws.ReadToEnd.{append_runs}
 use Rattle.lite_read.specs.Laws.Deterministic.{GivenBy, TakenAt, deterministic_by}
 use Rattle.lite_read.specs.Laws.Gathers.{gathers_alike}
 use Rattle.lite_read.specs.ReadToEnd.{Appended, ReadsToEnd, ReadsToEndByRoom, appends}
@@ -44,7 +44,7 @@ module _ {R A : Type 0} where
       pub to_end_steady : FutureSteadyLawsBy (Sameness.by SameByKind) (ReadsToEndByRoom reads) (ReadsToEnd ⊥ ample) ⊥
           (ToEndAlike alike)
       to_end_steady = record {
-        laws = append_laws ⊥ s.laws;
+        laws = append_runs ⊥ s.laws;
         steady = λ x y e. gathers_alike (λ x. appends_deterministic x.start) s x y e.0 e.1 (ap (appends ⊥) (sym e.2));
         found = λ n. absurd n;
       }

@@ -6,7 +6,7 @@ use Rattle.lite_read.specs.Laws.Gathers.{gathers_alike}
 use Rattle.lite_read.specs.Deterministic.{IsDeterministic, SameByKind}
 use Rattle.lite_read.specs.Holding.{TextOver}
 use Rattle.lite_read.specs.Laws.DeterministicTexts.{text_deterministic}
-use Rattle.lite_read.specs.Laws.Texts.{text_laws}
+use Rattle.lite_read.specs.Laws.Texts.{text_runs}
 use Rattle.lite_read.specs.Texts.{ReadsText, ReadsTextByRoom, reading}
 
 module _ {X R A : Type 0} (over : TextOver X R A) where
@@ -21,7 +21,7 @@ module _ {X R A : Type 0} (over : TextOver X R A) where
       pub text_steady : FutureSteadyLawsBy (Sameness.by SameByKind) (ReadsTextByRoom over fold lacks reads)
           (ReadsText over (fold (λ read. ⊥)) ample) ⊥ (TextAlike alike)
       text_steady = record {
-        laws = text_laws over _ s.laws;
+        laws = text_runs over _ s.laws;
         steady = λ x y e. gathers_alike (λ x. text_deterministic _ deterministic) s x y e.0 e.1 refl;
         found = λ n. absurd n;
       }

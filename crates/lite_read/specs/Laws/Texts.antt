@@ -1,16 +1,16 @@
 -- Laws of futures that read into a text.
 use Rattle.std.specs.Prelude.{◌≡◌, ◌+◌, ◌-◌, ℕ, List, [], ◌∷◌, Result, ⊤, string_bytes}
-use Rattle.lite_read.specs.Uses.{refl, ap, arith, FoldsTo, Error, Poll, FutureLaws, Runs, ReadMark, MarkLaws, lent_still}
+use Rattle.lite_read.specs.Uses.{refl, ap, arith, FoldsTo, Error, Poll, FutureLaws, FutureRunLaws, Ranks, ReadCounting, Runs, ReadMark, MarkLaws, future_laws_of, lent_still}
 use Rattle.lite_read.specs.ReadFold.{ReadFold}
-use Rattle.lite_read.specs.Laws.Gathers.{KeepLaws, gathers_before, gathers_laws}
+use Rattle.lite_read.specs.Laws.Gathers.{KeepLaws, gathers_before, gathers_runs}
 use Rattle.lite_read.specs.Holding.{TextOver, TextStays}
-use Rattle.lite_read.specs.Laws.ByRoom.{RoomLaws, room_laws}
+use Rattle.lite_read.specs.Laws.ByRoom.{RoomLaws, room_runs}
 use Rattle.lite_read.specs.Laws.Refusals.{Weaker, appends_weaker, gathers_weaker, pieces_weaker, text_weaker}
 use Rattle.lite_read.specs.ReadLine.{LineLacksMemory, line_over, read_line_fold}
 use Rattle.lite_read.specs.ReadToString.{StringGrows, StringLacksMemory, all_over, read_to_string_fold}
 use Rattle.lite_read.specs.ReadUntil.{CountsPiece}
 use Rattle.lite_read.specs.declared.read_to_string.ReadToStringFuture.{ReadToStringFuture}
-use Rattle.lite_read.specs.Texts.{ReadsText, ReadsTextByRoom, in_text, reading}
+use Rattle.lite_read.specs.Texts.{ReadsText, ReadsTextByRoom, TextGrows, in_text, reading}
 use Rattle.lite_read.specs.TextSteps.{AnswersText, TakesTextIn}
 
 -- Bytes that the fold consumes leave the text unchanged.
@@ -34,8 +34,8 @@ module _ {X R A : Type 0} (over : TextOver X R A) where
   keeps fold = record { none = stays_none; join = stays_join; same = λ x y k. refl }
 
   module _ (fold : ReadFold (List ℕ) (Result ℕ Error)) {reads : Runs ReadMark R} (laws : MarkLaws reads) where
-    pub text_laws : FutureLaws (ReadsText over fold reads)
-    text_laws = gathers_laws (keeps fold) laws
+    pub text_runs : FutureRunLaws (ReadsText over fold reads)
+    text_runs = gathers_runs (keeps fold) laws
 
     -- A step that does not yet return, followed by a poll result, is one run with that result.
     pub step_before : (x y z : X) (a : Poll (Result ℕ Error)) → TakesTextIn over fold reads x y
@@ -80,22 +80,27 @@ pub record TextRoom {X R A : Type 0} (over : TextOver X R A)
 
 module _ {X R A : Type 0} {over : TextOver X R A} {fold : (List ℕ → Type 0) → ReadFold (List ℕ) (Result ℕ Error)}
     {lacks : X → X → List ℕ → Type 0} (r : TextRoom over fold lacks) where
-  text_room : RoomLaws (λ x y (v : X). in_text (fold (lacks x y))) (TextStays over) over.grows
+  text_room : RoomLaws (λ x y (v : X). in_text (fold (lacks x y))) (TextStays over) (TextGrows over)
   text_room =
       record {
         keeps = λ x y. keeps over (fold (lacks x y));
-        none = r.none;
-        join = r.join;
+        none = λ x. (r.none x, λ k. k);
+        join = λ x y z h k. (r.join x y z h.0 k.0, λ holds. k.1 (h.1 holds));
         waits = λ x y z v. record {
           takes = λ p q b h. (r.alike.takes (lacks x y) (lacks x z) p.read q.read b h.0, h.1);
           asks = λ p h. r.alike.asks (lacks x y) (lacks x z) p.read h;
         };
         sooner = λ x y z v s h. text_weaker (fold (lacks y z)) (fold (lacks x z))
-            (r.alike.weaker (lacks y z) (lacks x z) (r.sooner x y z h));
+            (r.alike.weaker (lacks y z) (lacks x z) (r.sooner x y z h.0));
       }
 
-  pub text_room_laws : {reads : Runs ReadMark R} → MarkLaws reads → FutureLaws (ReadsTextByRoom over fold lacks reads)
-  text_room_laws = room_laws text_room
+  pub text_room_laws : {reads : Runs ReadMark R} {ranks : Ranks R} → MarkLaws reads → ReadCounting reads ranks
+      → FutureLaws (λ x. ranks.counts (over.reader x).now × over.holds x) (ReadsTextByRoom over fold lacks reads)
+  text_room_laws laws c =
+      future_laws_of (room_runs text_room laws)
+      (λ x y l w k h.
+      let told = h.gathered.folded in
+      (c.counts_on _ _ told.marks k.0 told.came, (h.grows w).1 k.1))
 
   -- A run in which an allocation fails only if room was lacking is one in which it may fail at any time.
   pub text_any : {reads : Runs ReadMark R} (x y : X) (l : List (Poll (Result ℕ Error)))

@@ -88,7 +88,7 @@ module _ {B A : Type 0} {run : Runs (Answer A) B} {calm : B → Type 0} (c : Cal
 
   -- An adapter that flattens is calm, if its source, the inner stream that it holds and each one that may follow are.
   pub flattening_calm : {M S : Type 0} (p : AdapterParts M S (Option B)) {outer : Runs (Answer B) S}
-      {is_calm : S → Type 0} {hints : Hints S} → StreamLaws outer hints → CalmLaws outer is_calm
+      {is_calm : S → Type 0} {can_poll : S → Type 0} {hints : Hints S} → StreamLaws can_poll outer hints → CalmLaws outer is_calm
       → CalmLaws (Adapts p outer (Flattening run))
       (λ m. is_calm (p.source m) × EachInner outer calm (p.source m) (p.held m))
   flattening_calm p {outer} laws d =

@@ -227,9 +227,12 @@ module _ {S U A : Type 0} {run : Runs (Answer A) S} {run' : Runs (Answer A) U} w
             };
       }
 
-  pub chain_laws : {hints : Hints S} {hints' : Hints U} → StreamLaws run hints → StreamLaws run' hints'
-      → StreamLaws (Chains run run') NoHint
-  chain_laws s u = laws_of (chain_runs (runs_of s) (runs_of u)) (λ x y hint l e h. same_hint hint (0, None) l e tt)
+  pub chain_laws : {can_poll : S → Type 0} {hints : Hints S} {can_poll' : U → Type 0} {hints' : Hints U} → StreamLaws can_poll run hints → StreamLaws can_poll' run' hints'
+      → StreamLaws (λ m. can_poll m.first × can_poll' m.second) (Chains run run') NoHint
+  chain_laws s u =
+      laws_of (chain_runs (runs_of s) (runs_of u)) (λ x y hint l e h. same_hint hint (0, None) l e tt)
+      (λ x y l c h.
+      (s.polls_on x.first y.first h.firsts c.0 h.came, u.polls_on x.second y.second h.seconds c.1 h.then_came))
 
   pub chain_counting : {r : Ranks S} {r' : Ranks U} → Counting run r → Counting run' r'
       → Counting (Chains run run') (chain_ranks r r')

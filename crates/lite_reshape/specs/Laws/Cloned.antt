@@ -2,7 +2,7 @@
 use Rattle.std.specs.Prelude.{⊤, Result, Ok, ◌≡◌, List, [], ◌∷◌, ◌++◌, Option, Some, None}
 use Rattle.lite_reshape.specs.Uses.{AllByRecursion, ◌∙◌, refl, ap, sym, append_assoc, Ready, Pending, Bor, OptionBy, SameAnswer, Sameness, Answer, Gives}
 use Rattle.lite_reshape.specs.Uses.{Waiting, item, items, NoPending, all_any, all_append, all_split, no_pending_join, OkCounting, all_ok, ok_counting, Counting}
-use Rattle.lite_reshape.specs.Uses.{Ranks, SteadinessBy, SteadyLawsBy, TakesNone, StreamLaws, Hints, NoHint, Runs, through_alike, Calming, laws_following}
+use Rattle.lite_reshape.specs.Uses.{Ranks, SteadinessBy, SteadyLawsBy, TakesNone, StreamLaws, Hints, NoHint, Runs, through_alike, Calming, laws_following, through_on}
 use Rattle.lite_reshape.specs.Uses.{through_runs}
 use Rattle.lite_reshape.specs.Cloned.{AlikeCloned, ClonedFrom, Clones, ClonesAll, ClonesUnrefused, EqualClones}
 use Rattle.lite_reshape.specs.Cloned.{IsCloneRefusal, NoCloneRefused, NotCloneRefused, Refers, Refuses, cloned_parts}
@@ -41,10 +41,10 @@ module _ {T E : Type 0} (is_clone : T → T → Type 0) (is_infallible : T → T
         joins = clones_join;
       }
 
-  pub cloned_laws : {S : Type 0} {run : Runs (Answer (Bor T)) S} {hints : Hints S} → StreamLaws run hints
-      → StreamLaws (ClonesAll {E = E} is_clone is_infallible run) NoHint
+  pub cloned_laws : {S : Type 0} {run : Runs (Answer (Bor T)) S} {can_poll : S → Type 0} {hints : Hints S} → StreamLaws can_poll run hints
+      → StreamLaws (λ m. can_poll m.stream) (ClonesAll {E = E} is_clone is_infallible run) NoHint
   cloned_laws laws =
-      laws_following cloned_parts laws (expanding_following Refers _ clones_giving)
+      laws_following cloned_parts laws (expanding_following Refers _ clones_giving) (through_on cloned_parts laws)
 
 -- One poll that returns a clone.
 pub gives_copy : {T E : Type 0} (is_clone : T → T → Type 0) (is_infallible : T → Type 0) (x : Bor T) (copy : T)
@@ -153,7 +153,7 @@ ok_not_refused E (_ ∷ l) = (λ e d. cc d, ok_not_refused E l)
 
 -- The rank falls with each clone, and an allocation failure keeps it.
 pub cloned_ok_counting : {T E : Type 0} (is_clone : T → T → Type 0) (is_infallible : T → Type 0) {S : Type 0}
-    {run : Runs (Answer (Bor T)) S} {hints : Hints S} {r : Ranks S} → StreamLaws run hints → Counting run r
+    {run : Runs (Answer (Bor T)) S} {can_poll : S → Type 0} {hints : Hints S} {r : Ranks S} → StreamLaws can_poll run hints → Counting run r
     → OkCounting (ClonesAll {E = E} is_clone is_infallible run) (held_ranks cloned_parts r)
 cloned_ok_counting {E} is_clone is_infallible {run} laws c =
     let found = ok_counting (held_counting cloned_parts laws c (clones_one is_clone)) in

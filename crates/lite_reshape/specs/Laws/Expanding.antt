@@ -185,8 +185,8 @@ held_ranks p r =
 
 module _ {M S F A V B : Type 0} (p : AdapterParts M S (F × Option V)) {call : Question F A V}
     {gives : V → List (Answer B) → Option V → Type 0}
-    {run : Runs (Answer A) S} {hints : Hints S} {r : Ranks S} where
-  pub held_counting : StreamLaws run hints → Counting run r → GivingOne gives
+    {run : Runs (Answer A) S} {can_poll : S → Type 0} {hints : Hints S} {r : Ranks S} where
+  pub held_counting : StreamLaws can_poll run hints → Counting run r → GivingOne gives
       → Counting (Adapts p run (Expanding call gives)) (held_ranks p r)
   held_counting laws c g =
       record {

@@ -4,8 +4,8 @@ use Rattle.lite_reshape.specs.Uses.{Mut, AllByRecursion, refl, subst, Ready, Opt
 use Rattle.lite_reshape.specs.Uses.{Counting, Ranks, ranks_of, counting_ends, SteadyLawsBy, StreamLaws, runs_of, AgreeFrom, Always, Calls, MakesAlways}
 use Rattle.lite_reshape.specs.Uses.{all_split, OfItem, agree_from_matches, makes_on, Hints, NoHint, Runs, through_alike, through_steady_over, through_calm}
 use Rattle.lite_reshape.specs.Uses.{exchanges_steps, replaces_calming, replaces_agreeing, replaces_answering, replaces_relating, laws_following, laws_hinted}
-use Rattle.lite_reshape.specs.Uses.{through_counting, Maps, map_parts, Replaces, Map}
-use Rattle.lite_reshape.specs.FlatMap.{EachMade, FlatMaps, flat_map_parts, flat_map_ranks}
+use Rattle.lite_reshape.specs.Uses.{MayCallEach, PollsOn, asks_always, exchanges_on, through_counting, Maps, map_parts, Replaces, Map}
+use Rattle.lite_reshape.specs.FlatMap.{CanFlatMap, EachMade, FlatMaps, flat_map_parts, flat_map_ranks}
 use Rattle.lite_reshape.specs.Inner.{EachInner}
 use Rattle.lite_reshape.specs.Laws.Calming.{flattening_calm}
 use Rattle.lite_reshape.specs.Laws.Flatten.{each_inner_on, flattening, flattening_counting}
@@ -47,7 +47,7 @@ module _ {F A V : Type 0} (g : Mut F (A × Unit {0}) V) (Fact : V → Type 0) wh
     made_promises x y l each h = (made_has x.stream.f y.stream.f h.came.ins h.ins h.came.related each.1).1
 
     each_made_on : ((b c : V) (l : List (Answer B)) → Fact b → run' b l c → Fact c)
-        → {hints : Hints (Map S F)} → StreamLaws (Maps run (Calls g)) hints
+        → {can_poll : Map S F → Type 0} {hints : Hints (Map S F)} → StreamLaws can_poll (Maps run (Calls g)) hints
         → (x y : FlatMap S V F) (l : List (Answer B)) → EachMade g Fact x.stream.f x.inner_stream
         → FlatMaps run g run' x l y
         → EachMade g Fact y.stream.f y.inner_stream
@@ -57,9 +57,12 @@ module _ {F A V : Type 0} (g : Mut F (A × Unit {0}) V) (Fact : V → Type 0) wh
         (inner.0, made_promises x y l each h)
 
 module _ {S F A V : Type 0} (g : Mut F (A × Unit {0}) V) {run : Runs (Answer A) S} where
-  outer_laws : {hints : Hints S} → StreamLaws run hints
-      → StreamLaws (Maps run (Calls g)) (λ (m : Map S F) hint. hints m.stream hint)
-  outer_laws laws = laws_hinted map_parts laws (replaces_relating _)
+  -- The laws of the `map` that makes the inner streams.
+  pub outer_laws : {can_poll : S → Type 0} {hints : Hints S} → StreamLaws can_poll run hints
+      → StreamLaws (λ m. can_poll m.stream × MayCallEach run g m.stream m.f) (Maps run (Calls g))
+      (λ (m : Map S F) hint. hints m.stream hint)
+  outer_laws laws =
+      laws_hinted map_parts laws (replaces_relating _) (exchanges_on _ (Calls g) (asks_always _) map_parts laws)
 
   module _ {r : Ranks S} (c : Counting run r) where
     outer_counting : Counting (Maps run (Calls g)) (ranks_of (λ (m : Map S F). m.stream) r)
@@ -69,12 +72,28 @@ module _ {S F A V : Type 0} (g : Mut F (A × Unit {0}) V) {run : Runs (Answer A)
     pub made_end : (x : Map S F) → r.counts x.stream → Terminates (ItemRun (Maps run (Calls g))) x
     made_end = counting_ends (outer_counting)
 
-  module _ {B : Type 0} {run' : Runs (Answer B) V} {hints : Hints S} where
-    pub flat_map_laws : {hints' : Hints V} → StreamLaws run hints → StreamLaws run' hints'
-        → StreamLaws (FlatMaps run g run') NoHint
-    flat_map_laws laws laws' = laws_following flat_map_parts (outer_laws laws) (flattening (runs_of laws'))
+  module _ {B : Type 0} {run' : Runs (Answer B) V} {can_poll : S → Type 0} {hints : Hints S} where
+    -- A `flat_map` may be polled after any run.
+    flat_map_on : {r : Ranks S} {can_poll' : V → Type 0} → StreamLaws can_poll run hints → Counting run r
+        → PollsOn can_poll' run'
+        → PollsOn (CanFlatMap g (λ m. can_poll m.stream × MayCallEach run g m.stream m.f) r.counts can_poll')
+        (FlatMaps run g run')
+    flat_map_on {can_poll'} laws c on x y l k h =
+        let outer = outer_laws laws in (
+          outer.polls_on x.stream y.stream h.ins k.0 h.came,
+          c.counts_on x.stream.stream y.stream.stream h.came.ins k.1 h.came.came,
+          each_made_on g can_poll' run run' on outer x y l k.2 h,
+        )
 
-    pub flat_map_counting : {r : Ranks S} {r' : Ranks V} → StreamLaws run hints → Counting run r → Counting run' r'
+    pub flat_map_laws : {r : Ranks S} {can_poll' : V → Type 0} {hints' : Hints V} → StreamLaws can_poll run hints
+        → Counting run r → StreamLaws can_poll' run' hints'
+        → StreamLaws (CanFlatMap g (λ m. can_poll m.stream × MayCallEach run g m.stream m.f) r.counts can_poll')
+        (FlatMaps run g run') NoHint
+    flat_map_laws laws c laws' =
+        laws_following flat_map_parts (outer_laws laws) (flattening (runs_of laws'))
+        (flat_map_on laws c laws'.polls_on)
+
+    pub flat_map_counting : {r : Ranks S} {r' : Ranks V} → StreamLaws can_poll run hints → Counting run r → Counting run' r'
         → Counting (FlatMaps run g run') (flat_map_ranks g r r')
     flat_map_counting {r} {r'} laws c c' =
         let outer = outer_laws laws in
@@ -116,8 +135,8 @@ module _ {S F A V B : Type 0} (g : Mut F (A × Unit {0}) V) {run ample : Runs (A
 -- A `flat_map` is calm, if its source is and its function makes calm streams.
 pub flat_map_calm : {S F A V B : Type 0} (g : Mut F (A × Unit {0}) V) {run : Runs (Answer A) S}
     {run' : Runs (Answer B) V}
-    {hints : Hints S} {is_calm : S → Type 0} {calm : V → Type 0}
-    → StreamLaws run hints → CalmLaws run is_calm → CalmLaws run' calm
+    {can_poll : S → Type 0} {hints : Hints S} {is_calm : S → Type 0} {calm : V → Type 0}
+    → StreamLaws can_poll run hints → CalmLaws run is_calm → CalmLaws run' calm
     → CalmLaws (FlatMaps run g run')
     (λ (m : FlatMap S V F). is_calm m.stream.stream × EachMade g calm m.stream.f m.inner_stream)
 flat_map_calm g {run} {run'} {calm} laws c d =

@@ -4,9 +4,9 @@ use Rattle.lite_reshape.specs.Uses.{◌∙◌, inl, inr, refl, ap, sym, arith, l
 use Rattle.lite_reshape.specs.Uses.{Endless, end, item, items, NextStep, Reaches, all_split, Reaches-back, Terminates, Terminates-map, ItemRun, AtMost-both}
 use Rattle.lite_reshape.specs.Uses.{Below-after, Below-first, Below-then, Lowers-at_most, Lowers-below, endless_join, IsItem, OfItem, each_items, each_of}
 use Rattle.lite_reshape.specs.Uses.{items_each, Below, Lowers, Counting, Ranks, RunLaws, StreamLaws, Hints, Runs, at_most_below, lowers_after, lowers_at_most}
-use Rattle.lite_reshape.specs.Uses.{Entails, Following, AdapterParts, Adapts, Through}
+use Rattle.lite_reshape.specs.Uses.{Entails, Following, AdapterParts, Adapts, PollsOn, Through}
 use Rattle.lite_reshape.specs.Flatten.{Flat, Flattening}
-use Rattle.lite_reshape.specs.Inner.{EachInner, FlatStep, FlatSteps, GivesOne, TakesNext, flattening_ranks, inner_rank}
+use Rattle.lite_reshape.specs.Inner.{CanStepFlat, EachInner, FlatStep, FlatSteps, GivesOne, TakesNext, flattening_ranks, inner_rank}
 use Rattle.lite_reshape.specs.Laws.Before.{not_empty, own_lowers}
 use Rattle.lite_reshape.specs.Laws.Zeros.{zeros_least}
 
@@ -123,8 +123,8 @@ module _ {S B A : Type 0} (run : Runs (Answer A) B) (outer : Runs (Answer B) S) 
         x y goes (step_answers (p.source y, p.held y) (p.source z, p.held z) a last.1)
 
 -- A fact about each inner stream that may follow holds of each that may follow later.
-pub to_come : {S B : Type 0} {outer : Runs (Answer B) S} {Fact : B → Type 0} {hints : Hints S}
-    → StreamLaws outer hints → (s t : S) (held : Option B) (i : List (Answer B)) → EachInner outer Fact s held
+pub to_come : {S B : Type 0} {outer : Runs (Answer B) S} {Fact : B → Type 0} {can_poll : S → Type 0} {hints : Hints S}
+    → StreamLaws can_poll outer hints → (s t : S) (held : Option B) (i : List (Answer B)) → EachInner outer Fact s held
     → outer s i t
     → (u : S) (before after : List (Answer B)) (b : B)
     → outer t (before ++ item b ∷ after) u → Fact b
@@ -153,7 +153,7 @@ module _ {S B A : Type 0} (run : Runs (Answer A) B) (outer : Runs (Answer B) S) 
         (λ i l h k each. h tt each.1) (λ i l h k each. h tt each.1) (λ b i a l h k each. h (each.0 b refl) each.1)
         held
 
-    pub each_inner_on : {hints : Hints S} → StreamLaws outer hints
+    pub each_inner_on : {can_poll : S → Type 0} {hints : Hints S} → StreamLaws can_poll outer hints
         → (s t : S) (held last : Option B) (l : List (Answer A)) → EachInner outer Fact s held
         → Through outer (Flattening run) s held l t last
         → EachInner outer Fact t last
@@ -234,8 +234,18 @@ held_has : {B : Type 0} (Fact : B → Type 0) {held : Option B} {b : B} → IfSo
 held_has Fact h e = rw e at h
 
 module _ {B A : Type 0} {run : Runs (Answer A) B} where
+  -- Such an adapter may be polled after any run.
+  pub flattening_on : {M S : Type 0} (p : AdapterParts M S (Option B)) {outer : Runs (Answer B) S} {can_poll : S → Type 0}
+      {hints : Hints S} {r : Ranks S} {can_inner : B → Type 0} → StreamLaws can_poll outer hints → Counting outer r
+      → PollsOn can_inner run → PollsOn (CanStepFlat p outer can_poll r.counts can_inner) (Adapts p outer (Flattening run))
+  flattening_on p {outer} {can_inner} laws c on x y l k h = (
+    laws.polls_on _ _ h.ins k.0 h.came,
+    c.counts_on _ _ h.ins k.1 h.came,
+    each_inner_on run outer can_inner on laws _ _ _ _ l k.2 h,
+  )
+
   pub flattening_counting : {M S : Type 0} (p : AdapterParts M S (Option B)) {outer : Runs (Answer B) S}
-      {hints : Hints S} {r : Ranks S} {r' : Ranks B} → StreamLaws outer hints → Counting outer r → Counting run r'
+      {can_poll : S → Type 0} {hints : Hints S} {r : Ranks S} {r' : Ranks B} → StreamLaws can_poll outer hints → Counting outer r → Counting run r'
       → Counting (Adapts p outer (Flattening run)) (flattening_ranks p outer r r')
   flattening_counting p {outer} {r} {r'} laws c c' =
       record {

@@ -3,7 +3,8 @@ use Rattle.std.specs.Prelude.{ℕ, List, [], ◌∷◌, Option, Some, None}
 use Rattle.std.proofs.Common.{◌≤◌}
 use Rattle.lite_reshape.specs.Uses.{refl, arith, AllByRecursion, Ready, Pending, Answer, before_end, end, item, items, waits, Lowers-below, IsItem, first_item}
 use Rattle.lite_reshape.specs.Uses.{items_each, answers_by, answers_given, answers_taken, segments_join, Lowers, Question, Segment, Calming, AlsoBefore}
-use Rattle.lite_reshape.specs.Uses.{Entails, Relating}
+use Rattle.lite_reshape.specs.Uses.{AdapterParts, Adapts, AtEachItem, Counting, Entails, FoldsTo, Hints, PollsOn, Ranks, Relating, Runs, StreamLaws, each_along}
+use Rattle.lite_reshape.specs.Uses.{items_in}
 use Rattle.lite_reshape.specs.Leaving.{LeavesOut, Passes}
 
 -- A fact that holds of each result and of each rejected item holds of each result of the source.
@@ -106,3 +107,24 @@ leaves_as {G} call other Goes also p q n i o g h =
       d.1,
       answers_given item _ _ n e.0 d.0 _ i _ o (x, refl, e.2) d.2,
     )) p q i o (λ n g. (n, g, (refl, refl))) h n g
+
+-- Such an adapter may be polled after any run. `other` says what its closure is asked, and each call of the adapter is
+-- such a question.
+module _ {F A B O : Type 0} (call : Question F A (Option B)) (other : Question F A O)
+    (asks : (p q : F) (x : A) (y : Option B) → call p x y q → (o : O) × other p x o q) where
+  leaves_calls : (f g : F) (i : List (Answer A)) (o : List (Answer B)) → LeavesOut call f i o g
+      → FoldsTo (λ p x q. (o : O) × other p x o q) f (items_in i) g
+  leaves_calls f g i o =
+      leaves_steps call (λ p i o. FoldsTo (λ p x q. (o : O) × other p x o q) p (items_in i) g)
+      (λ p m x i b o t k. (m, asks p m x None t, k)) (λ p i o k. k) (λ p i o k. k)
+      (λ p m x i y o t k. (m, asks p m x (Some y) t, k)) f g i o refl
+
+  pub leaves_on : {M S : Type 0} (p : AdapterParts M S F) {run : Runs (Answer A) S} {can_poll : S → Type 0}
+      {hints : Hints S} {r : Ranks S} {P : F → A → Type 0} → StreamLaws can_poll run hints → Counting run r
+      → PollsOn (λ m. can_poll (p.source m) × r.counts (p.source m) × AtEachItem run other P (p.source m) (p.held m))
+      (Adapts p run (LeavesOut call))
+  leaves_on p laws c x y l k h = (
+    laws.polls_on _ _ h.ins k.0 h.came,
+    c.counts_on _ _ h.ins k.1 h.came,
+    each_along laws h.ins k.2 h.came (leaves_calls _ _ h.ins l h.related),
+  )

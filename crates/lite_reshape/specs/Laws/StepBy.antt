@@ -6,7 +6,8 @@ use Rattle.lite_reshape.specs.Uses.{before_end, Lowers, comparable_nil, MatchesF
 use Rattle.lite_reshape.specs.Laws.Agreeing.{leaves_showing}
 use Rattle.lite_reshape.specs.Laws.Leaving.{leaves_as, leaves_calming, leaves_relating}
 use Rattle.lite_reshape.specs.Leaving.{LeavesOut}
-use Rattle.lite_reshape.specs.StepBy.{IsAt, Numbered, StepsOn}
+use Rattle.lite_reshape.specs.StepBy.{CanStep, IsAt, Numbered, StepsBy, StepsOn}
+use Rattle.lite_reshape.specs.Uses.{Hints, PollsOn, StreamLaws}
 
 -- One item, by the step and the count of items that are still to be left out.
 abbrev pub Countdown : {A : Type 0} → ℕ × ℕ → A → Option A → ℕ × ℕ → Type 0
@@ -169,3 +170,13 @@ module _ {A : Type 0} where
   pub steps_calming : Calming (StepsOn {A = A})
   steps_calming p q i [] h = omega arith
   steps_calming p q i (b ∷ o) h = leaves_calming (Numbered p.0) h.1 h.2 i (b ∷ o) h.5
+
+steps_less : {A : Type 0} (p q : ℕ × ℕ) (i o : List (Answer A)) → p.1 < p.0 → StepsOn p i o q → q.1 < q.0
+steps_less p q i [] less h = rw h.1 less
+steps_less p q i (b ∷ o) less h = h.4.0
+
+-- A `step_by` may be polled after any run.
+pub steps_on : {S A : Type 0} {run : Runs (Answer A) S} {can_poll : S → Type 0} {hints : Hints S}
+    → StreamLaws can_poll run hints → PollsOn (CanStep can_poll) (StepsBy run)
+steps_on laws x y l c h =
+    (laws.polls_on x.stream y.stream h.ins c.0 h.came, steps_less (x.step, x.i) (y.step, y.i) h.ins l c.1 h.related)

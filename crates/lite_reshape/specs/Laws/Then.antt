@@ -2,14 +2,16 @@
 use Rattle.std.specs.Prelude.{IfSome, cond, nat_lt, ◌≡◌, ℕ, ◌+◌, ◌-◌, ◌^◌, List, [], ◌∷◌, ◌++◌, Option, Some, None, Bool, true, false}
 use Rattle.std.proofs.Common.{◌≤◌}
 use Rattle.lite_reshape.specs.Uses.{Mut, map, refl, arith, Poll, Ready, Pending, count_held, OptionBy, SameItem, Sameness, Answer, Gives, item, CalmLaws}
-use Rattle.lite_reshape.specs.Uses.{NoPending, handed, FutureLaws, alike_agrees, no_pending_join, handed_no_pending, handed_waiting, shown_gives, spends_follow}
-use Rattle.lite_reshape.specs.Uses.{spends_found, spends_rest, spends_stay, same_hint, FutureSteadyLawsBy, SteadyLawsBy, StreamLaws, makes_on, AgreeFrom, Calls}
-use Rattle.lite_reshape.specs.Uses.{agree_from_matches, Hints, Question, Runs, through_steady_by, bounded_by, laws_bounded}
+use Rattle.lite_reshape.specs.Uses.{NoPending, handed, FutureRunLaws, alike_agrees, no_pending_join, handed_no_pending, handed_waiting, shown_gives, spends_follow}
+use Rattle.lite_reshape.specs.Uses.{spends_found, spends_rest, spends_stay, same_hint, FutureSteadyLawsBy, SteadyLawsBy, makes_on, AgreeFrom, Calls}
+use Rattle.lite_reshape.specs.Uses.{agree_from_matches, Hints, Question, through_steady_by, bounded_by, laws_bounded}
 use Rattle.lite_reshape.specs.FlatMap.{EachMade}
 use Rattle.lite_reshape.specs.Laws.Calming.{expanding_calm, through_calm_by}
-use Rattle.lite_reshape.specs.Laws.Expanding.{FollowLaws, GivingOne, expanding_bounded, expanding_following}
+use Rattle.lite_reshape.specs.Laws.Expanding.{FollowLaws, GivingOne, expanding_bounded, expanding_by, expanding_following}
+use Rattle.lite_reshape.specs.Expanding.{Expanding}
+use Rattle.lite_reshape.specs.Uses.{FoldsTo, FutureLaws, PollsOn, Runs, StreamLaws, ap, each_along, future_runs_of, items_in, subst}
 use Rattle.lite_reshape.specs.Laws.SteadyExpanding.{OneMade, expanding_agreeing, expanding_found}
-use Rattle.lite_reshape.specs.Then.{HandsOut, Thens, one_more_at_most, then_hint, then_parts}
+use Rattle.lite_reshape.specs.Then.{CanThen, HandsOut, MakesEach, Thens, one_more_at_most, then_hint, then_parts}
 use Rattle.lite_reshape.specs.declared.then.Then.{Then}
 
 module _ {B : Type 0} where
@@ -19,7 +21,7 @@ module _ {B : Type 0} where
   one_handed (Ready y ∷ l) x h = rw (h.0, h.1) (refl, refl)
 
 module _ {V B : Type 0} {run : Runs (Poll B) V} where
-  hands_giving : FutureLaws run → FollowLaws (HandsOut run)
+  hands_giving : FutureRunLaws run → FollowLaws (HandsOut run)
   hands_giving laws =
       record {
         rests = λ v. spends_rest (handed Some) (λ after. after ≡ []) laws refl (Some v);
@@ -69,17 +71,6 @@ then_bounded : {V : Type 0} (held : Option V) (hint : ℕ × Option ℕ) (k n : 
 then_bounded None hint k n h b = bounded_by hint.1 (omega (arith, h)) b
 then_bounded (Some v) hint k n h b = bounded_some hint.1 k n h b
 
-pub then_laws : {S F V A B : Type 0} (call : Question F A V) {gives : Runs (Poll B) V} {run : Runs (Answer A) S}
-    {hints : Hints S} → StreamLaws run hints → FutureLaws gives
-    → StreamLaws (Thens run call gives)
-    (λ (m : Then S F V) hint. (inner : ℕ × Option ℕ) × hints m.stream inner × (hint ≡ then_hint m.future inner))
-then_laws call {gives} laws laws' =
-    laws_bounded then_parts laws (expanding_following call _ (hands_giving laws'))
-    (λ x y hint l e h.
-    let fewer = expanding_bounded call _ hands_one (x.f, x.future) (y.f, y.future) h.ins l h.related in
-    same_hint hint (then_hint x.future e.0) l e.2
-    (then_bounded x.future e.0 _ _ fewer (laws.bounded x.stream y.stream e.0 h.ins e.1 h.came)))
-
 module _ {V B : Type 0} (same : Sameness B) {gives found : Runs (Poll B) V} {none : Type 0} {alike : V → V → Type 0}
     (s : FutureSteadyLawsBy same gives found none alike) where
   hands_alike : OneMade (hands_one {run = found}) same alike
@@ -117,3 +108,57 @@ module _ {V B : Type 0} {gives : Runs (Poll B) V} {calm : V → Type 0} (c : Cal
   then_calm g d =
       through_calm_by then_parts d
       (expanding_calm _ _ (λ f x. makes_on g calm f (x, tt)) hands_calm)
+
+-- What is held of the values that a closure makes of the source's items, and the calls that make them. `Fact` holds of
+-- what is made of the last item, and of what remains of a value of which it holds.
+module _ {F A V B : Type 0} (call : Question F A V) (gives : V → List (Answer B) → Option V → Type 0)
+    (Fact : V → Type 0) (kept : (v w : V) (l : List (Answer B)) → Fact v → gives v l (Some w) → Fact w) where
+  -- After items of the list, `Fact` holds of the value that the closure makes of the last one.
+  abbrev LastMakes : F → List (Answer A) → Type 0
+  LastMakes f i =
+      (before : List (Answer A)) (x : A) (p q : F) (v : V) → i ≡ before ++ item x ∷ []
+      → FoldsTo (λ p x q. (v : V) × call p x v q) f (items_in before) p → call p x v q → Fact v
+
+  held_on : (s t : F × Option V) (i : List (Answer A)) (o : List (Answer B)) → Expanding call gives s i o t
+      → LastMakes s.0 i → (i ≡ [] → IfSome s.1 Fact)
+      → IfSome t.1 Fact × FoldsTo (λ p x q. (v : V) × call p x v q) s.0 (items_in i) t.0
+  held_on s t =
+      expanding_by call gives t
+      (λ s i o. LastMakes s.0 i → (i ≡ [] → IfSome s.1 Fact)
+      → IfSome t.1 Fact × FoldsTo (λ p x q. (v : V) × call p x v q) s.0 (items_in i) t.0)
+      (λ e each held. (rw e tt, refl))
+      (λ v w o ran e each held. (rw e (kept v w o (held refl) ran), refl))
+      (λ p v i own rest ran k each held. k each (λ e. tt))
+      (λ p i o k each held.
+      k (λ before x r q v e. each (Pending ∷ before) x r q v (ap (λ l. Pending ∷ l) e)) (λ e. tt))
+      (λ p i o k each held.
+      k (λ before x r q v e. each (Ready None ∷ before) x r q v (ap (λ l. Ready None ∷ l) e)) (λ e. tt))
+      (λ p r x v i b o called k each held.
+      let m = k
+      (λ before y n q w e f. each (item x ∷ before) y n q w (ap (λ l. item x ∷ l) e) (r, (v, called), f))
+      (λ e. each [] x p r v (ap (λ l. item x ∷ l) e) refl called) in
+      (m.0, (r, (v, called), m.1))) s
+
+-- A `then` may be polled after any run.
+then_on : {S F V A B : Type 0} (g : Mut F (A × Unit {0}) V) {run : Runs (Answer A) S} {can_poll : S → Type 0}
+    {hints : Hints S} {gives : Runs (Poll B) V} {can_made : V → Type 0} → StreamLaws can_poll run hints
+    → FutureLaws can_made gives
+    → PollsOn (CanThen can_poll (MakesEach run g can_made) can_made) (Thens run (Calls g) gives)
+then_on g {run} {gives} {can_made} laws laws' x y l k h =
+    let e = held_on (Calls g) (HandsOut gives) can_made (λ v w m c d. laws'.waits_on v w d.0 d.1 c d.2) (x.f, x.future)
+    (y.f, y.future) h.ins l h.related
+    (λ before a p q v e f c. (k.1.at before a y.stream p (subst (λ i. run x.stream i y.stream) e h.came) f).1 v q c)
+    (λ e. k.2) in
+    (laws.polls_on x.stream y.stream h.ins k.0 h.came, each_along laws h.ins k.1 h.came e.1, e.0)
+
+pub then_laws : {S F V A B : Type 0} (g : Mut F (A × Unit {0}) V) {gives : Runs (Poll B) V} {run : Runs (Answer A) S}
+    {can_poll : S → Type 0} {hints : Hints S} {can_made : V → Type 0} → StreamLaws can_poll run hints
+    → FutureLaws can_made gives
+    → StreamLaws (CanThen can_poll (MakesEach run g can_made) can_made) (Thens run (Calls g) gives)
+    (λ (m : Then S F V) hint. (inner : ℕ × Option ℕ) × hints m.stream inner × (hint ≡ then_hint m.future inner))
+then_laws g laws laws' =
+    laws_bounded then_parts laws (expanding_following _ _ (hands_giving (future_runs_of laws'))) (then_on g laws laws')
+    (λ x y hint l e h.
+    let fewer = expanding_bounded _ _ hands_one (x.f, x.future) (y.f, y.future) h.ins l h.related in
+    same_hint hint (then_hint x.future e.0) l e.2
+    (then_bounded x.future e.0 _ _ fewer (laws.bounded x.stream y.stream e.0 h.ins e.1 h.came)))

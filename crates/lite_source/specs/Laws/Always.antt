@@ -1,5 +1,5 @@
 -- Laws about sources that never change.
-use Rattle.std.specs.Prelude.{◌≡◌, ◌≤◌, List, [], ◌∷◌, ◌++◌, Option, Some, IfSome}
+use Rattle.std.specs.Prelude.{⊤, ◌≡◌, ◌≤◌, List, [], ◌∷◌, ◌++◌, Option, Some, IfSome}
 use Rattle.lite_source.specs.Uses.{◌∙◌, ℕ, refl, inl, arith, AllByRecursion, Ready, Pending, Answer, ComparableBy, before_end, item, strip, NoPending}
 use Rattle.lite_source.specs.Uses.{all_append, same_hint, AtMost, Lowers, Counting, StreamLaws}
 use Rattle.lite_source.specs.Always.{Unchanging, no_ranks}
@@ -25,18 +25,19 @@ module _ {S A : Type 0} (may : S → Answer A → Type 0) where
   -- The size hint of such a source is `known`, which bounds the items that may come.
   pub always_laws : (known : ℕ × Option ℕ)
       → ((x : S) (l : List (Answer A)) → AllByRecursion (may x) l → IfSome known.1 (λ most. before_end l ≤ most))
-      → StreamLaws (Unchanging may) (λ x hint. hint ≡ known)
+      → StreamLaws (λ _. ⊤) (Unchanging may) (λ x hint. hint ≡ known)
   always_laws known bound =
       record {
         rests = λ x. (tt, refl);
         stays = λ x y h. h.1;
         follows = always_follow;
         bounded = λ x y hint l e h. same_hint hint known l e (bound x l h.0);
+        polls_on = λ x y l c h. tt;
       }
 
   -- If no item may come, the hint is `(0, Some(0))`, and nothing has to be counted.
   module _ (none : (s : S) (x : A) → may s (item x) → ⊥) where
-    pub itemless_laws : StreamLaws (Unchanging may) (λ x hint. hint ≡ (0, Some 0))
+    pub itemless_laws : StreamLaws (λ _. ⊤) (Unchanging may) (λ x hint. hint ≡ (0, Some 0))
     itemless_laws = always_laws (0, Some 0) (λ x. no_items (may x) (none x))
 
     pub itemless_counting : Counting (Unchanging may) no_ranks

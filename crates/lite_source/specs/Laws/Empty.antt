@@ -6,7 +6,7 @@ use Rattle.lite_source.specs.Empty.{GivesEnds}
 use Rattle.lite_source.specs.Laws.Always.{answers_no_pending, answers_same, itemless_counting, itemless_laws}
 
 module _ {S A : Type 0} where
-  pub empty_laws : StreamLaws (GivesEnds {S = S} {A = A}) (λ x hint. hint ≡ (0, Some 0))
+  pub empty_laws : StreamLaws (λ _. ⊤) (GivesEnds {S = S} {A = A}) (λ x hint. hint ≡ (0, Some 0))
   empty_laws = itemless_laws _ (λ s x e. cc e)
 
   pub empty_counting : Counting (GivesEnds {S = S} {A = A}) no_ranks

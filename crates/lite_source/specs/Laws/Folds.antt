@@ -1,25 +1,30 @@
 -- Laws about sources that make one call for each poll.
-use Rattle.std.specs.Prelude.{⊤, ◌≡◌, List, [], ◌∷◌, Option, None}
+use Rattle.std.specs.Prelude.{⊤, ◌≡◌, List, [], ◌∷◌, ◌++◌, Option, None}
 use Rattle.lite_source.specs.Uses.{ℕ, refl, sym, FoldsTo, Ready, Pending, Alike, Answer, Comparable, strip, CalmLaws, NoPending, calm_both, folds_follow}
-use Rattle.lite_source.specs.Uses.{same_hint, SteadyLaws, steady_always, StreamLaws}
+use Rattle.lite_source.specs.Uses.{AlwaysObeys, CallAnswers, Mut, Poll, Poller, always_mut, mut_next, subst}
+use Rattle.lite_source.specs.RepeatWith.{Call}
+use Rattle.lite_source.specs.Uses.{same_hint, PollsOn, SteadyLaws, steady_always, StreamLaws}
 
 -- `part` of the source is what changes at each poll, and it is all that the source holds. `next` says how.
 module _ {S P A : Type 0} (part : S → P) (next : P → Answer A → P → Type 0)
     (same : (x y : S) → part y ≡ part x → y ≡ x) where
   -- The size hint of such a source bounds no items from above.
-  pub folds_laws : (least : ℕ) → StreamLaws (λ x l y. FoldsTo next (part x) l (part y)) (λ x hint. hint ≡ (least, None))
-  folds_laws least =
+  pub folds_laws : {can_poll : S → Type 0} (least : ℕ) → PollsOn can_poll (λ x l y. FoldsTo next (part x) l (part y))
+      → StreamLaws can_poll (λ x l y. FoldsTo next (part x) l (part y)) (λ x hint. hint ≡ (least, None))
+  folds_laws least on =
       record {
         rests = λ x. refl;
         stays = λ x y h. same x y (sym h);
         follows = λ x y z. folds_follow next (part x) (part y) (part z);
         bounded = λ x y hint l e h. same_hint hint (least, None) l e tt;
+        polls_on = on;
       }
 
   -- Such a source is alike to another if its results are the same.
   pub folds_steady : SteadyLaws (λ x l y. FoldsTo next (part x) l (part y))
       (λ x l y. FoldsTo next (part x) l (part y)) ⊤ (λ x y. Alike (FoldsTo next) (part x) (part y))
-  folds_steady = steady_always (folds_laws 0) (λ x y e l m x' y'. e l m (part x') (part y'))
+  folds_steady =
+      steady_always (folds_laws {can_poll = λ _. ⊤} 0 (λ x y l c h. tt)) (λ x y e l m x' y'. e l m (part x') (part y'))
 
 module _ {S P A : Type 0} (part : S → P) (next : P → Answer A → P → Type 0) where
   module _ (never : (p q : P) → next p Pending q → ⊥) where
@@ -54,3 +59,14 @@ folds_alike {P} {A} next agree left right same p q e l m p' q' h k = answers l m
     answers [] m p q e h k = tt
     answers (Pending ∷ l) m p q e h k = answers l m h.0 q (left p q h.0 e h.1) h.2 k
     answers (Ready a ∷ l) m p q e h k = after a l (answers l) m p q e h k
+
+module _ {F A : Type 0} (g : Mut F (Unit {0}) A) where
+  -- A function that may always be called may be called after any calls.
+  pub calls_on : (p q : F) (l : List (Answer A)) → always_mut g p → FoldsTo (Call g) p l q → always_mut g q
+  calls_on p q [] c h = subst (always_mut g) h c
+  calls_on p q (a ∷ l) c h = calls_on h.0 q l (mut_next g p tt h.1.0 h.0 h.0 h.1.2 refl c) h.2
+
+-- A closure that obeys always does so after any calls.
+pub obeys_still : {F A : Type 0} (g : Poller F A) (f q : F) (l : List (Poll A)) → AlwaysObeys g (λ _. ⊤) f
+    → FoldsTo (CallAnswers g) f l q → AlwaysObeys g (λ _. ⊤) q
+obeys_still g f q l h c = record { at = λ m p w d. h.at (l ++ m) p tt (folds_follow _ f q p l m c d) }

@@ -1,5 +1,5 @@
 -- Laws about `iter`.
-use Rattle.std.specs.Prelude.{IfSome, ◌≤◌, List, [], ◌∷◌, Option, Some, None}
+use Rattle.std.specs.Prelude.{IfSome, ◌≤◌, List, [], ◌∷◌, ◌++◌, Option, Some, None}
 use Rattle.lite_source.specs.Uses.{sym, ℕ, refl, ap, arith, inl, Count, IsFinite, MakesProgress, UpTo, size, Ready, Pending, Answer, before_end, items}
 use Rattle.lite_source.specs.Uses.{Below-one, Lowers-at_most, at_most_one, folds_follow, Below, Lowers, Counting, StreamLaws}
 use Rattle.lite_source.specs.Iter.{AlwaysNext, IterHints, Iterates, NeverRaised, Nexts, iter_ranks}
@@ -16,6 +16,10 @@ module _ {I A : Type 0} (can : I → Type 0) (gives : I → Option A → I → T
     pub always_on : (a : Answer A) → AlwaysNext can gives remaining i → Nexts can gives remaining i a j
         → AlwaysNext can gives remaining j
     always_on a h c = record { at = λ l k d. h.at (a ∷ l) k (j, c, d) }
+
+    iter_on : (l : List (Answer A)) → AlwaysNext can gives remaining i → Iterates can gives remaining i l j
+        → AlwaysNext can gives remaining j
+    iter_on l h c = record { at = λ m k d. h.at (l ++ m) k (folds_follow _ i j k l m c d) }
 
     never_on : (l : List (Answer A)) → NeverRaised can gives remaining i → Iterates can gives remaining i l j
         → NeverRaised can gives remaining j
@@ -71,7 +75,7 @@ module _ {I A : Type 0} (can : I → Type 0) (gives : I → Option A → I → T
       → Iterates can gives remaining i l j → Lowers l (size (remaining j) ∷ []) (size (remaining i) ∷ [])
   iter_lowers i j l = lowers_from i j (size (remaining i)) l (omega arith)
 
-  pub iter_laws : StreamLaws
+  pub iter_laws : StreamLaws (λ x. AlwaysNext can gives remaining x.iter)
       (λ (x : Iter I) (l : List (Answer A)) (y : Iter I). Iterates can gives remaining x.iter l y.iter)
       (λ x. IterHints (remaining x.iter))
   iter_laws =
@@ -80,6 +84,7 @@ module _ {I A : Type 0} (can : I → Type 0) (gives : I → Option A → I → T
         stays = λ x y h. ap (λ (v : I). record x { iter = v }) (sym h);
         follows = λ x y z. folds_follow _ x.iter y.iter z.iter;
         bounded = λ x y hint l e. iter_bounded x.iter y.iter hint.1 l e.1;
+        polls_on = λ x y. iter_on x.iter y.iter;
       }
 
   pub iter_counting : Counting

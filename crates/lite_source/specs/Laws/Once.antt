@@ -10,7 +10,7 @@ module _ {A : Type 0} where
   held_same (Some x) (Some y) e = cc
   held_same a b e = cc
 
-  pub once_laws : StreamLaws (GivesOnce {A = A})
+  pub once_laws : StreamLaws (λ _. ⊤) (GivesOnce {A = A})
       (λ x hint. hint ≡ (length (once_left x.value), Some (length (once_left x.value))))
   once_laws =
       record {
@@ -19,6 +19,7 @@ module _ {A : Type 0} where
         follows = λ x y z. gives_follow (once_left x.value) (once_left y.value) (once_left z.value);
         bounded = λ x y hint l e h. same_hint hint (length (once_left x.value), Some _) l e
             (gives_bounded (once_left x.value) (once_left y.value) l h);
+        polls_on = λ x y l c h. tt;
       }
 
   pub once_counting : Counting (GivesOnce {A = A}) once_ranks

@@ -1,22 +1,27 @@
 -- Laws about `once_future`.
 use Rattle.std.specs.Prelude.{IfSome, ◌≡◌, List, [], ◌∷◌, map, Option, Some, None}
 use Rattle.lite_source.specs.Uses.{◌∙◌, refl, ap, arith, inl, AllByRecursion, option_len, Poll, OptionBy, SameAnswer, SameItem, Sameness, Answer, ComparableBy}
-use Rattle.lite_source.specs.Uses.{end, strip, CalmLaws, NoPending, Lowers-below, waiting_lowers, Spends, FutureLaws, alike_agrees, comparable_nil, ends_same}
+use Rattle.lite_source.specs.Uses.{end, strip, CalmLaws, NoPending, Lowers-below, waiting_lowers, Spends, FutureLaws, FutureRunLaws, RunLaws, alike_agrees, comparable_nil, ends_same}
 use Rattle.lite_source.specs.Uses.{same_answer, all_append, calm_both, no_pending_join, handed_gives, handed_no_pending, handed_waiting, handed_waits}
-use Rattle.lite_source.specs.Uses.{spends_found, spends_follow, spends_rest, spends_stay, same_hint, Lowers, Counting, number_counting, FutureSteadyLawsBy}
-use Rattle.lite_source.specs.Uses.{SteadinessBy, SteadyLawsBy, StreamLaws, runs_of, handed, NoHint, Runs}
+use Rattle.lite_source.specs.Uses.{spends_found, spends_follow, spends_on, spends_rest, spends_stay, same_hint, Lowers, Counting, number_counting, FutureSteadyLawsBy}
+use Rattle.lite_source.specs.Uses.{SteadinessBy, SteadyLawsBy, StreamLaws, future_runs_of, laws_of, handed, NoHint, Runs}
 use Rattle.lite_source.specs.OnceFuture.{GivesFuture, once_future_ranks}
 use Rattle.lite_source.specs.Laws.Always.{answers_no_pending, answers_same, no_items_lower}
 
 module _ {F A : Type 0} (run : Runs (Poll A) F) where
-  pub once_future_laws : FutureLaws run → StreamLaws (GivesFuture run) NoHint
-  once_future_laws laws =
+  once_future_runs : FutureRunLaws run → RunLaws (GivesFuture run)
+  once_future_runs laws =
       record {
         rests = λ x. spends_rest _ _ laws tt x.future;
         stays = λ x y h. ap (λ v. record x { future = v }) (spends_stay _ _ laws x.future y.future h);
         follows = λ x y z. spends_follow _ _ laws (all_append _) x.future y.future z.future;
-        bounded = λ x y hint l e h. same_hint hint (0, None) l e tt;
       }
+
+  pub once_future_laws : {can_poll : F → Type 0} → FutureLaws can_poll run
+      → StreamLaws (λ x. IfSome x.future can_poll) (GivesFuture run) NoHint
+  once_future_laws {can_poll} laws =
+      laws_of (once_future_runs (future_runs_of laws)) (λ x y hint l e h. same_hint hint (0, None) l e tt)
+      (λ x y. spends_on run can_poll laws.waits_on _ _ x.future y.future)
 
   spends_lower : (x y : Option F) (l : List (Answer A))
       → Spends run (handed Some) (AllByRecursion (λ a. a ≡ end)) x l y
@@ -59,7 +64,7 @@ pub once_future_steady : {F A : Type 0} (same : Sameness A) {run ample : Runs (P
     → SteadyLawsBy same (GivesFuture run) (GivesFuture ample) needs_none (λ x y. OptionBy alike x.future y.future)
 once_future_steady same s =
     record {
-      laws = runs_of (once_future_laws _ s.laws);
+      laws = once_future_runs _ s.laws;
       steady = λ x y e l m x' y'. handing_same same s.steady x.future y.future x'.future y'.future l m e;
       found = λ n x y. spends_found _ _ (s.found n) x.future y.future;
     }

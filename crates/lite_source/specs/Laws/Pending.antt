@@ -6,7 +6,7 @@ use Rattle.lite_source.specs.Pending.{GivesPendings}
 use Rattle.lite_source.specs.Laws.Always.{itemless_counting, itemless_laws, pendings_strip}
 
 module _ {S A : Type 0} where
-  pub pending_laws : StreamLaws (GivesPendings {S = S} {A = A}) (λ x hint. hint ≡ (0, Some 0))
+  pub pending_laws : StreamLaws (λ _. ⊤) (GivesPendings {S = S} {A = A}) (λ x hint. hint ≡ (0, Some 0))
   pending_laws = itemless_laws _ (λ s x e. cc e)
 
   pub pending_counting : Counting (GivesPendings {S = S} {A = A}) no_ranks

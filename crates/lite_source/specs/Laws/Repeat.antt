@@ -7,7 +7,7 @@ use Rattle.lite_source.specs.Laws.Always.{always_laws}
 
 module _ {A E : Type 0} (is_clone : A → A → Type 0) (is_infallible : A → Type 0) where
   -- The size hint of a `repeat` bounds no items from above.
-  pub repeat_laws : (least : ℕ) → StreamLaws (Repeats {E = E} is_clone is_infallible) (λ x hint. hint ≡ (least, None))
+  pub repeat_laws : (least : ℕ) → StreamLaws (λ _. ⊤) (Repeats {E = E} is_clone is_infallible) (λ x hint. hint ≡ (least, None))
   repeat_laws least = always_laws _ (least, None) _
 
   module _ (n : (x : A) → is_infallible x) (own : A) where

@@ -23,13 +23,14 @@ module _ {A : Type 0} where
   gives_lowers (b ∷ x) y (a ∷ l) h =
       Lowers-below (a ∷ l) _ _ (Below-one (Lowers-at_most l _ _ (gives_lowers x y l h.1)) (omega arith))
 
-  pub script_laws : StreamLaws (GivesScript {A = A}) NoHint
+  pub script_laws : StreamLaws (λ _. ⊤) (GivesScript {A = A}) NoHint
   script_laws =
       record {
         rests = λ x. refl;
         stays = λ x y h. h;
         follows = gives_follow;
         bounded = λ x y hint l e h. same_hint hint (0, None) l e tt;
+        polls_on = λ x y l c h. tt;
       }
 
   -- The results of a list in order, and then ends of stream.

@@ -1,10 +1,10 @@
 -- The results of `unfold` and `try_unfold`, `Pending`s aside: the same for futures that are alike.
 use Rattle.std.specs.Prelude.{⊤, ◌≡◌, ◌⊎◌, List, [], ◌∷◌, ◌++◌, map, flat_map, Option, Some, None}
 use Rattle.lite_source.specs.Uses.{inl, inr, ◌∙◌, refl, ap, sym, append-nil, Mut, AllByRecursion, FoldsTo, Poll, OptionBy, SameAnswer, SameItem, Sameness}
-use Rattle.lite_source.specs.Uses.{Answer, ComparableBy, Waiting, end, strip, CalmLaws, NoPending, AgreeFrom, Calls, MakesAlways, Finishes, handed, FutureLaws}
+use Rattle.lite_source.specs.Uses.{Answer, ComparableBy, Waiting, end, strip, CalmLaws, NoPending, AgreeFrom, Calls, MakesAlways, Finishes, handed, FutureRunLaws}
 use Rattle.lite_source.specs.Uses.{alike_agrees, equal_options, strip_join, agree_from_matches, calm_both, no_pending_join, finishes_found, finishes_later}
-use Rattle.lite_source.specs.Uses.{handed_gives, handed_no_pending, handed_waits, FutureSteadyLawsBy, SteadinessBy, SteadyLawsBy, TakesNone, StreamLaws}
-use Rattle.lite_source.specs.Uses.{runs_of, Hints, Question, Runs, makes_on}
+use Rattle.lite_source.specs.Uses.{handed_gives, handed_no_pending, handed_waits, FutureSteadyLawsBy, SteadinessBy, SteadyLawsBy, TakesNone, RunLaws}
+use Rattle.lite_source.specs.Uses.{Question, Runs, makes_on}
 use Rattle.lite_source.specs.Laws.Always.{answers_no_pending}
 use Rattle.lite_source.specs.Unfolding.{BothHave, Holding, HoldingsBy, IfHeldFuture, IsCurrent, Leads, PartOf}
 use Rattle.lite_source.specs.Unfolding.{UnfoldAlike, UnfoldPart, Unfolds, comes}
@@ -20,7 +20,7 @@ module _ {F S V O B : Type 0} (call : Mut F (S × Unit {0}) V) (gives : Runs (Po
       ⊎ ((x ≡ Holding.Over) × (b ≡ None) × FutureValues p Holding.Over out)
 
   -- A `Pending` of a future leaves the list of values as it was.
-  module _ (laws : FutureLaws gives) (p q : F) (x : Holding S V) (v w : V) (ins : List (Poll O)) where
+  module _ (laws : FutureRunLaws gives) (p q : F) (x : Holding S V) (v w : V) (ins : List (Poll O)) where
     waited : (out : List (Option B)) → IsCurrent call p x q v → Waiting ins → gives v ins w
         → FutureValues q (Holding.Asked w) out → FutureValues p x out
     waited [] c i g h = tt
@@ -42,7 +42,7 @@ module _ {F S V O B : Type 0} (call : Mut F (S × Unit {0}) V) (gives : Runs (Po
   over p [] out h k = k
   over p (a ∷ l) out h k = rw h.0 (inr (refl, refl, over p l out h.1 k))
 
-  module _ (laws : FutureLaws gives) (p q : F) (x y : Holding S V) (l : List (Answer B)) (out : List (Option B)) where
+  module _ (laws : FutureRunLaws gives) (p q : F) (x y : Holding S V) (l : List (Answer B)) (out : List (Option B)) where
     part_values : UnfoldPart call gives after shown p x l q y → FutureValues q y out → FutureValues p x (strip l ++ out)
     part_values (inr h) k = rw h.0 (over p l out h.2.0 (rw h.1 at (rw h.2.1 at k)))
     part_values (inl h) k = leading h.0 h.1 h.2 h.3 h.4
@@ -57,7 +57,7 @@ module _ {F S V O B : Type 0} (call : Mut F (S × Unit {0}) V) (gives : Runs (Po
             ∙ handed_gives shown ins [] d.0 d.1.gives in
             rw one (inl (v, q, ins, d.0, c, d.1, refl, rw d.2 at k))
 
-  unfolds_values : FutureLaws gives → (x y : F × Holding S V) (parts : List (Answer B × List (Answer B)))
+  unfolds_values : FutureRunLaws gives → (x y : F × Holding S V) (parts : List (Answer B × List (Answer B)))
       → FoldsTo (λ s part t. UnfoldPart call gives after shown s.0 s.1 (part.0 ∷ part.1) t.0 t.1) x parts y
       → FutureValues x.0 x.1 (strip (flat_map (λ part. part.0 ∷ part.1) parts))
   unfolds_values laws x y [] h = tt
@@ -181,15 +181,15 @@ module _ {F S V O B : Type 0} (call : Mut F (S × Unit {0}) V) {run ample : Runs
 module _ {F S V O B : Type 0} (call : Mut F (S × Unit {0}) V) {run ample : Runs (Poll O) V} {none : Type 0}
     {alike : V → V → Type 0} (after : O → Option S) (shown : O → Option B) where
   -- The steadiness of a source that holds such a pair of function and state.
-  pub unfolds_steady : (same : Sameness O) {X : Type 0} (pair : X → F × Holding S V) {hints : Hints X}
-      → StreamLaws (λ x l y. Unfolds call ample after shown (pair x) l (pair y)) hints
+  pub unfolds_steady : (same : Sameness O) {X : Type 0} (pair : X → F × Holding S V)
+      → RunLaws (λ x l y. Unfolds call ample after shown (pair x) l (pair y))
       → FutureSteadyLawsBy same run ample none alike
       → SteadyLawsBy (PartOf same shown) (λ x l y. Unfolds call run after shown (pair x) l (pair y))
       (λ x l y. Unfolds call ample after shown (pair x) l (pair y)) none
       (λ x y. UnfoldAlike same alike (Calls call) after shown (pair x) (pair y))
   unfolds_steady same pair laws s =
       record {
-        laws = runs_of laws;
+        laws = laws;
         steady = λ x y e l m x' y' h k.
             rw (ap strip h.2, ap strip k.2)
             (unfolds_same call ample after shown same s.steady (pair x) (pair y) _ _ e

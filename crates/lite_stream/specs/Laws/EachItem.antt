@@ -1,7 +1,24 @@
 -- Laws about facts that hold of each item that a source may still yield.
-use Rattle.std.specs.Prelude.{◌≡◌, List, [], ◌∷◌, ◌++◌}
-use Rattle.lite_stream.specs.Uses.{refl, Pending, Answer, end, item, Hints, Question, Runs, StreamLaws}
-use Rattle.lite_stream.specs.EachItem.{AtEachItem}
+use Rattle.std.specs.Prelude.{◌≡◌, List, [], ◌∷◌, ◌++◌, Some, None}
+use Rattle.lite_stream.specs.Uses.{ap, append_assoc, folds_follow, refl, FoldsTo, Pending, Ready, Answer, end, item, Hints, Question, Runs, StreamLaws}
+use Rattle.lite_stream.specs.EachItem.{AtEachItem, items_in}
+
+items_in_join : {A : Type 0} (l m : List (Answer A)) → items_in (l ++ m) ≡ items_in l ++ items_in m
+items_in_join [] m = refl
+items_in_join (Pending ∷ l) m = items_in_join l m
+items_in_join (Ready None ∷ l) m = items_in_join l m
+items_in_join (Ready (Some x) ∷ l) m = ap (λ k. x ∷ k) (items_in_join l m)
+
+-- The fact goes on to hold after any run, once the closure was called with its items.
+pub each_along : {S F A O : Type 0} {run : Runs (Answer A) S} {call : Question F A O} {P : F → A → Type 0}
+    {can_poll : S → Type 0} {hints : Hints S} {s t : S} {f g : F} → StreamLaws can_poll run hints → (ins : List (Answer A)) → AtEachItem run call P s f
+    → run s ins t → FoldsTo (λ p x q. (o : O) × call p x o q) f (items_in ins) g → AtEachItem run call P t g
+each_along {run} {s} {t} {f} {g} laws ins h came called =
+    record {
+      at = λ more x u p ran asked.
+          h.at (ins ++ more) x u p (rw append_assoc (laws.follows s t u ins (more ++ item x ∷ []) came ran))
+          (rw (items_in_join ins more) (folds_follow _ f g p (items_in ins) (items_in more) called asked));
+    }
 
 -- The fact holds of the item that the source has just yielded.
 module _ {S F A O : Type 0} {run : Runs (Answer A) S} {call : Question F A O} {P : F → A → Type 0} {s t : S}
@@ -10,7 +27,7 @@ module _ {S F A O : Type 0} {run : Runs (Answer A) S} {call : Question F A O} {P
   each_here {x} h came is = h.at [] x t f (rw (← is) came) refl
 
   -- The fact goes on to hold after an item, once the closure was called with it.
-  module _ {hints : Hints S} {g : F} {a : Answer A} {x : A} {o : O} (laws : StreamLaws run hints) where
+  module _ {can_poll : S → Type 0} {hints : Hints S} {g : F} {a : Answer A} {x : A} {o : O} (laws : StreamLaws can_poll run hints) where
     pub each_asked : AtEachItem run call P s f → run s (a ∷ []) t → a ≡ item x → call f x o g
         → AtEachItem run call P t g
     each_asked h came is called =

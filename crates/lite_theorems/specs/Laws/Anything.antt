@@ -13,8 +13,8 @@ module _ {S : Type 0} where
   anything_writes = anything_laws
 
 module _ {S A : Type 0} where
-  pub anything_stream : StreamLaws (AnyAnswers {S = S} {A = A}) NoHint
+  pub anything_stream : StreamLaws (λ _. ⊤) (AnyAnswers {S = S} {A = A}) NoHint
   anything_stream = stream_by_steps (λ x a y. ⊤)
 
-  pub anything_future : FutureLaws (AnyValue {F = S} {A = A})
+  pub anything_future : FutureLaws (λ _. ⊤) (AnyValue {F = S} {A = A})
   anything_future = future_by_steps (λ x a y. ⊤)

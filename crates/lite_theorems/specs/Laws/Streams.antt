@@ -1,7 +1,7 @@
 -- Laws of a stream that is specified by a step.
-use Rattle.std.specs.Prelude.{◌≤◌, ℕ, List, [], ◌∷◌, Some, None}
+use Rattle.std.specs.Prelude.{⊤, ◌≤◌, ℕ, List, [], ◌∷◌, Some, None}
 use Rattle.lite_theorems.specs.Uses.{FoldsTo, ap, arith, inl, inr, refl, subst, sym, Ready, Pending, Answer, before_end, Below-one, Lowers-at_most, at_most_one}
-use Rattle.lite_theorems.specs.Uses.{folds_follow, same_hint, AtMost, Lowers, Counting, Ranks, number_ranks, RunLaws, StreamLaws, items, laws_of, NoHint}
+use Rattle.lite_theorems.specs.Uses.{folds_follow, same_hint, AtMost, Lowers, Counting, PollsOn, Ranks, number_ranks, RunLaws, StreamLaws, items, laws_of, NoHint}
 use Rattle.lite_base.specs.Laws.Ranks.{number_counting}
 use Rattle.lite_stream.specs.Laws.Lower.{at_most_below, lowers_at_most}
 use Rattle.lite_theorems.specs.Streams.{HintsAt, ItemsLower, RankLowers}
@@ -11,8 +11,20 @@ module _ {S A : Type 0} (step : S → Answer A → S → Type 0) where
   folds_runs : RunLaws (FoldsTo step)
   folds_runs = record { rests = λ x. refl; stays = λ x y h. sym h; follows = folds_follow step }
 
-  pub stream_by_steps : StreamLaws (FoldsTo step) NoHint
-  stream_by_steps = laws_of folds_runs (λ x y hint l e h. same_hint hint (0, None) l e tt)
+  steps_on : {can_poll : S → Type 0} → ((x y : S) (a : Answer A) → can_poll x → step x a y → can_poll y)
+      → PollsOn can_poll (FoldsTo step)
+  steps_on {can_poll} keeps x y [] c h = subst can_poll h c
+  steps_on keeps x y (a ∷ l) c h = steps_on keeps h.0 y l (keeps x h.0 a c h.1) h.2
+
+  -- The laws of a stream that may be polled if `can_poll` holds. `keeps` says that each step keeps that.
+  pub stream_by_keeping_steps : {can_poll : S → Type 0}
+      → ((x y : S) (a : Answer A) → can_poll x → step x a y → can_poll y) → StreamLaws can_poll (FoldsTo step) NoHint
+  stream_by_keeping_steps keeps =
+      laws_of folds_runs (λ x y hint l e h. same_hint hint (0, None) l e tt) (steps_on keeps)
+
+  -- The laws of a stream that may always be polled.
+  pub stream_by_steps : StreamLaws (λ _. ⊤) (FoldsTo step) NoHint
+  stream_by_steps = stream_by_keeping_steps (λ x y a c h. tt)
 
 module _ {S A : Type 0} {step : S → Answer A → S → Type 0} {number : S → ℕ} where
   lowers_from : ItemsLower step number → (x y : S) (n : ℕ) (l : List (Answer A)) → number x ≤ n → FoldsTo step x l y
@@ -36,10 +48,11 @@ module _ {S A : Type 0} {step : S → Answer A → S → Type 0} {number : S →
   fewer_left low x y _ h = omega arith
 
   -- The number is a size hint.
-  pub stream_hinting : ItemsLower step number → StreamLaws (FoldsTo step) (HintsAt number)
+  pub stream_hinting : ItemsLower step number → StreamLaws (λ _. ⊤) (FoldsTo step) (HintsAt number)
   stream_hinting low =
       laws_of (folds_runs step)
       (λ x y hint l e h. same_hint hint (number x, Some (number x)) l e (fewer_left low x y l h))
+      (λ x y l c h. tt)
 
 module _ {A : Type 0} (l : List (Answer A)) (xs ys zs : List ℕ) (h : Lowers l xs ys) where
   lowers_then : (a : Answer A) → Lowers (a ∷ []) ys zs → Lowers (a ∷ l) xs zs

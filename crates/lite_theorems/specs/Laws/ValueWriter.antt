@@ -1,7 +1,7 @@
 -- Laws of `write_value`: those of `write_all`, and that a value which was refused writes nothing.
 use Rattle.std.specs.Prelude.{⊤, ◌≡◌, ◌≤◌, List, [], ◌∷◌, ◌++◌, length, map, Result}
 use Rattle.lite_theorems.specs.Uses.{◌∙◌, ap, arith, length-map, map-append, refl, subst, sym, Error, Poll, Pending, Ready, Comparable, Waiting, strip}
-use Rattle.lite_theorems.specs.Uses.{CalmLaws, FutureLaws, FutureSteadyLaws, NoPending, Runs, WriteAllFuture}
+use Rattle.lite_theorems.specs.Uses.{CalmLaws, FutureLaws, FutureRunLaws, FutureSteadyLaws, future_laws_of, NoPending, Runs, WriteAllFuture}
 use Rattle.lite_theorems.specs.ValueWriter.{InFirstPoll, ReturnsWritten, WritesValue, as_written, written_value}
 use Rattle.lite_theorems.specs.declared.value_writer.WriteValueFuture.{WriteValueFuture}
 use Rattle.lite_codec.specs.declared.error.EncodeError.{EncodeError}
@@ -108,9 +108,9 @@ module _ {W : Type 0} where
       let then : WriteAllFuture W → WriteValueFuture W = λ w. record { encoding = x.encoding; writing = w } in
       ap first e ∙ ap then f
 
-  pub value_laws : {writes_all : Runs (Poll (Result (Unit {0}) Error)) (WriteAllFuture W)} → FutureLaws writes_all
-      → FutureLaws (WritesValue writes_all)
-  value_laws laws = record {
+  pub value_runs : {writes_all : Runs (Poll (Result (Unit {0}) Error)) (WriteAllFuture W)} → FutureRunLaws writes_all
+      → FutureRunLaws (WritesValue writes_all)
+  value_runs laws = record {
     rests = λ x. record { written = []; came = laws.rests x.writing; returned = rests_returned x.encoding; same = refl };
     stays = λ x y h. same_future x y h.same (laws.stays _ _ (rw (none_returned _ h.written h.returned) at h.came));
     follows = λ x y z l m w h k. record {
@@ -122,12 +122,16 @@ module _ {W : Type 0} where
     once = λ x y l h. returned_once _ h.written l (laws.once _ _ h.written h.came) h.returned;
   }
 
+  pub value_laws : {writes_all : Runs (Poll (Result (Unit {0}) Error)) (WriteAllFuture W)} → FutureRunLaws writes_all
+      → FutureLaws (λ _. ⊤) (WritesValue writes_all)
+  value_laws laws = future_laws_of (value_runs laws) (λ x y l w c h. tt)
+
   -- If the encoder said the same of two values, their futures return the same, where those of `write_all` do.
   pub value_steady : {writes_all ample : Runs (Poll (Result (Unit {0}) Error)) (WriteAllFuture W)} {needs_none : Type 0}
       → FutureSteadyLaws writes_all ample needs_none (λ x y. ⊤)
       → FutureSteadyLaws (WritesValue writes_all) (WritesValue ample) needs_none (λ x y. x.encoding ≡ y.encoding)
   value_steady s = record {
-    laws = value_laws s.laws;
+    laws = value_runs s.laws;
     steady = λ x y e l m x' y' h k.
         same_returned y.encoding h.written k.written l m
         (s.steady x.writing y.writing tt h.written k.written x'.writing y'.writing h.came k.came)

@@ -50,7 +50,7 @@ module _ {S A : Type 0} (step : S → Answer A → S → Type 0) (Left : S → L
   lists_by_relation x xs left l y = related_from x y l xs left
 
 -- What one poll of any stream leaves of its items.
-module _ {S A : Type 0} {run : Runs (Answer A) S} {hints : Hints S} (laws : StreamLaws run hints) (x y : S) where
+module _ {S A : Type 0} {run : Runs (Answer A) S} {can_poll : S → Type 0} {hints : Hints S} (laws : StreamLaws can_poll run hints) (x y : S) where
   after_front : (a : Answer A) (xs : List A) → ((l : List (Answer A)) (t : S) → run y l t → Fits (a ∷ l) xs)
       → ItemsAfter (Lists run) a y xs
   unfolding Lists

@@ -1,11 +1,12 @@
 -- Laws of `copy`.
 use Rattle.std.specs.Prelude.{◌≡◌, ◌<◌, ◌+◌, ◌%◌, ◌^◌, ℕ, Bool, List, [], ◌∷◌, ◌++◌, length, Result, Ok}
 use Rattle.lite_write.specs.Uses.{◌∙◌, refl, ap, arith, append-nil, append_assoc, length-append, mod-add-mod, flat_map-append, filter-append, filter, Error}
-use Rattle.lite_write.specs.Uses.{Poll, Waiting, strip, Reaches, Reaches-back, FutureLaws, strip_join, up_to_once, waiting_strip, waiting_up_to, waits_join}
+use Rattle.lite_write.specs.Uses.{Poll, Waiting, strip, Reaches, Reaches-back, FutureLaws, FutureRunLaws, Ranks, ReadCounting, future_laws_of, strip_join, up_to_once, waiting_strip, waiting_up_to, waits_join}
 use Rattle.lite_write.specs.Uses.{Runs, ThroughBuffer, GivenRun, ReadMark, MarkLaws, WriteMark, bytes_taken, taken_both, given_of, idle_join}
 use Rattle.lite_write.specs.Copy.{Copied, CopyRuns, CopyValue, Moves, CopiesSome}
 use Rattle.lite_write.specs.MarkLists.{BytesAlone, TakesSome, TakesUpTo, TellsUpTo, byte_in, bytes_told, is_taken_wait}
 use Rattle.lite_write.specs.MarkLists.{is_told_wait}
+use Rattle.lite_write.specs.Parts.{source_of}
 use Rattle.lite_write.specs.declared.copy.CopyFuture.{CopyFuture}
 
 -- The value of a `copy`: the number of bytes, or an error.
@@ -142,8 +143,8 @@ module _ {R W : Type 0} where
           counted = counted_both x.amount y.amount z.amount h.took k.took h.counted k.counted;
         }
 
-    pub copies_laws : FutureLaws (CopyRuns reads writes)
-    copies_laws =
+    pub copies_runs : FutureRunLaws (CopyRuns reads writes)
+    copies_runs =
         record {
           rests = λ x. record { moves = moves_none x; idle = λ e. refl };
           stays = λ x y h. h.idle refl;
@@ -153,6 +154,10 @@ module _ {R W : Type 0} where
           };
           once = λ x y l h. up_to_once l h.moves.copied.once;
         }
+
+    pub copies_laws : {r : Ranks R} → ReadCounting reads r
+        → FutureLaws (λ x. r.counts (source_of x)) (CopyRuns reads writes)
+    copies_laws c = future_laws_of copies_runs (λ x y l w k h. c.counts_on _ _ h.moves.told k h.moves.came)
 
     -- Steps that do not yet return, followed by a poll result, are one run with that result.
     pub copy_answer : (x y z : CopyFuture R W) (a : Poll CopyResult) → Reaches (CopiesSome reads writes) x y

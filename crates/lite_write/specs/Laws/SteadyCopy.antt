@@ -8,7 +8,7 @@ use Rattle.lite_write.specs.Uses.{WriteMark, bytes_taken, SameByKind}
 use Rattle.lite_write.specs.Laws.SteadyWriteAll.{without_failure_laws, no_failure_both, no_failure_last}
 use Rattle.lite_write.specs.SteadyWriteAll.{NoFailure, NoneFails, WithoutFailure}
 use Rattle.lite_write.specs.Copy.{CopyRuns, CopyValue, Moves}
-use Rattle.lite_write.specs.Laws.Copy.{CopyResult, copies_laws, ok_value, told_both}
+use Rattle.lite_write.specs.Laws.Copy.{CopyResult, copies_runs, ok_value, told_both}
 use Rattle.lite_write.specs.MarkLists.{BytesAlone, TakesSome, bytes_told, waits_taken, waits_told}
 use Rattle.lite_write.specs.Parts.{held_of, met_in, source_of}
 use Rattle.lite_write.specs.declared.copy.CopyFuture.{CopyFuture}
@@ -181,7 +181,7 @@ module _ {R W : Type 0} {reads : Runs ReadMark R} {writes : Runs WriteMark W} wh
       (CopyAlike {W = W} alike)
   copy_steady s laws =
       record {
-        laws = copies_laws s.laws (without_failure_laws laws);
+        laws = copies_runs s.laws (without_failure_laws laws);
         steady = λ x y e l m x' y' h k.
             let i = h.moves in
             let j = k.moves in

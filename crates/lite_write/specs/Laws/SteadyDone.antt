@@ -1,6 +1,6 @@
 -- `flush` and `close` return `Ok` if their writer does not fail.
 use Rattle.std.specs.Prelude.{◌≡◌, List, [], ◌∷◌, Ok, Err, ⊤}
-use Rattle.lite_write.specs.Uses.{refl, Poll, Ready, Pending, strip, FutureSteadyLaws, Runs, WriteMark, done_marks, polled_laws, PolledByCalls}
+use Rattle.lite_write.specs.Uses.{refl, Poll, Ready, Pending, strip, FutureSteadyLaws, Runs, WriteMark, done_marks, polled_runs, PolledByCalls}
 use Rattle.lite_write.specs.Close.{Closes}
 use Rattle.lite_write.specs.Flush.{Flushes}
 use Rattle.lite_write.specs.Laws.SteadyWriteAll.{AllOk, all_ok_same}
@@ -26,7 +26,7 @@ module _ {F : Type 0} (call without_failure : F → Poll WriteAllResult → F �
       → FutureSteadyLaws (PolledByCalls call) (PolledByCalls without_failure) needs_none (λ x y. ⊤)
   done_steady ok so =
       record {
-        laws = polled_laws without_failure;
+        laws = polled_runs without_failure;
         steady = λ x y e l m x' y' h k. all_ok_same _ _ (values_ok ok x x' l h) (values_ok ok y y' m k);
         found = λ n. polled_so (so n);
       }

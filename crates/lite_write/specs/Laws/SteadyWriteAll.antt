@@ -2,7 +2,7 @@
 use Rattle.std.specs.Prelude.{◌≡◌, ℕ, List, [], ◌∷◌, ◌++◌, Ok, ⊤}
 use Rattle.lite_write.specs.Uses.{map, refl, subst, Poll, Ready, Pending, ComparableBy, strip, CalmLaws, NoPending, to_value_last, FutureSteadyLaws, Runs}
 use Rattle.lite_write.specs.Uses.{MarkLaws, never_waits_parts, CalmWriteLaws, NoPendingWrite, WriteMark}
-use Rattle.lite_write.specs.Laws.WriteAll.{WriteAllResult, all_laws}
+use Rattle.lite_write.specs.Laws.WriteAll.{WriteAllResult, all_runs}
 use Rattle.lite_write.specs.SteadyWriteAll.{NoFailure, NoneFails, WithoutFailure}
 use Rattle.lite_write.specs.WriteAll.{Ended, HandsMarks, HandsOver, WritesAll}
 use Rattle.lite_write.specs.declared.write_all.WriteAllFuture.{WriteAllFuture}
@@ -66,7 +66,7 @@ module _ {W : Type 0} {writes : Runs WriteMark W} where
       → FutureSteadyLaws (WritesAll writes) (WritesAll (WithoutFailure writes)) (NoneFails writes) (λ x y. ⊤)
   all_steady laws =
       record {
-        laws = all_laws (without_failure_laws laws);
+        laws = all_runs (without_failure_laws laws);
         steady = λ x y e l m x' y' h k.
             all_ok_same _ _ (hands_ok _ _ h.marks l h.came.1 h.handed) (hands_ok _ _ k.marks m k.came.1 k.handed);
         found = λ n x y l h. record {

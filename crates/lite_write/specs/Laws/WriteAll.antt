@@ -1,6 +1,6 @@
 -- Laws of `write_all`.
-use Rattle.std.specs.Prelude.{◌<◌, [], ◌∷◌, ◌++◌, length, Result}
-use Rattle.lite_write.specs.Uses.{◌∙◌, refl, ap, arith, length-append, Error, Poll, FutureLaws, up_to_once, segment_before, segments_before, to_value_join}
+use Rattle.std.specs.Prelude.{⊤, ◌<◌, [], ◌∷◌, ◌++◌, length, Result}
+use Rattle.lite_write.specs.Uses.{◌∙◌, refl, ap, arith, length-append, Error, Poll, FutureLaws, FutureRunLaws, future_laws_of, up_to_once, segment_before, segments_before, to_value_join}
 use Rattle.lite_write.specs.Uses.{Runs, MarkLaws, WriteMark, lent_still, idle_join}
 use Rattle.lite_write.specs.PollSteps.{WritesSome}
 use Rattle.lite_write.specs.WriteAll.{HandsMarks, WritesAll}
@@ -12,8 +12,8 @@ WriteAllResult = Result (Unit {0}) Error
 
 module _ {W : Type 0} where
   module _ {writes : Runs WriteMark W} (laws : MarkLaws writes) where
-    pub all_laws : FutureLaws (WritesAll writes)
-    all_laws =
+    pub all_runs : FutureRunLaws (WritesAll writes)
+    all_runs =
         record {
           rests = λ x. record {
             marks = [];
@@ -32,6 +32,9 @@ module _ {W : Type 0} where
           };
           once = λ x y l h. up_to_once l h.handed.1;
         }
+
+    pub all_laws : FutureLaws (λ _. ⊤) (WritesAll writes)
+    all_laws = future_laws_of all_runs (λ x y l w c h. tt)
 
     -- A step that does not yet return, followed by a poll result, is one run with that result.
     pub step_before : (x y z : WriteAllFuture W) (a : Poll WriteAllResult) → WritesSome writes x y

@@ -4,7 +4,7 @@ use Rattle.lite_base.specs.Uses.{arith, Pending, Poll, Ready}
 use Rattle.lite_base.specs.Answers.{Waiting, strip}
 use Rattle.lite_base.specs.Calm.{CalmLaws, NoPending}
 use Rattle.lite_base.specs.Future.Budgeted.{BudgetsPolls, SpendsPolls}
-use Rattle.lite_base.specs.FutureLaws.{FutureLaws}
+use Rattle.lite_base.specs.FutureLaws.{FutureLaws, WaitsOn}
 use Rattle.lite_base.specs.Runs.{Runs}
 use Rattle.lite_base.specs.declared.future.budgeted.Budgeted.{Budgeted}
 use Rattle.lite_base.specs.declared.future.budgeted.Exhausted.{Exhausted}
@@ -51,6 +51,21 @@ module _ {A : Type 0} where
   spent_calm (SpendsPolls.value n v) w = tt
 
 module _ {F A : Type 0} {run : Runs (Poll A) F} where
+  spent_on : {can_poll : F → Type 0} → WaitsOn can_poll run → (f g : F) {n m : ℕ} {ins : List (Poll A)}
+      {out : List (Poll (Result A Exhausted))} → Waiting out → (0 < n → can_poll f) → run f ins g
+      → SpendsPolls n ins out m → 0 < m → can_poll g
+  spent_on on f g w c came (SpendsPolls.nothing n) some = on f g [] tt (c some) came
+  spent_on on f g w c came (SpendsPolls.waits n m ins out h) some =
+      on f g (Pending ∷ ins) (waiting_in h w) (c (omega arith)) came
+  spent_on on f g w c came (SpendsPolls.last x) some = absurd w
+  spent_on on f g w c came (SpendsPolls.over x) some = absurd w
+  spent_on on f g w c came (SpendsPolls.value n v) some = absurd w
+
+  -- The inner future may be polled while a poll is left.
+  budgets_on : {can_poll : F → Type 0} → WaitsOn can_poll run
+      → WaitsOn (λ (x : Budgeted F). 0 < x.left → can_poll x.inner) (BudgetsPolls run)
+  budgets_on on x y l w c h = spent_on on x.inner y.inner w c h.1 h.2
+
   pub budgets_calm : {is_calm : F → Type 0} → CalmLaws run is_calm → CalmLaws (BudgetsPolls run) (λ x. is_calm x.inner)
   budgets_calm c =
       record {
@@ -58,14 +73,14 @@ module _ {F A : Type 0} {run : Runs (Poll A) F} where
         calm_on = λ x y l k h. c.calm_on x.inner y.inner h.0 k h.1;
       }
 
-module _ {F A : Type 0} {run : Runs (Poll A) F} (laws : FutureLaws run) where
+module _ {F A : Type 0} {can_poll : F → Type 0} {run : Runs (Poll A) F} (laws : FutureLaws can_poll run) where
   budget_stays : (x y : Budgeted F) → BudgetsPolls run x [] y → y ≡ x
   budget_stays x y h =
       let none = nothing_spent h.2 refl in
       let inner = laws.stays x.inner y.inner (rw none.0 at h.1) in
       rw (inner, none.1) refl
 
-  pub budgets_laws : FutureLaws (BudgetsPolls run)
+  pub budgets_laws : FutureLaws (λ x. 0 < x.left → can_poll x.inner) (BudgetsPolls run)
   budgets_laws =
       record {
         rests = λ x. ([], laws.rests x.inner, SpendsPolls.nothing x.left);
@@ -76,6 +91,7 @@ module _ {F A : Type 0} {run : Runs (Poll A) F} (laws : FutureLaws run) where
           spent_both h.2 w k.2,
         );
         once = λ x y l h. spent_once h.2;
+        waits_on = budgets_on laws.waits_on;
       }
 
 -- What one poll makes.

@@ -6,7 +6,7 @@ use Rattle.lite_base.specs.Answers.{Waiting}
 use Rattle.lite_base.specs.Calm.{CalmLaws}
 use Rattle.lite_base.specs.Future.Calls.{AlwaysObeys, CallAnswers, NeverPends, Polled, Poller}
 use Rattle.lite_base.specs.FutureLaws.{FutureLaws}
-use Rattle.lite_base.specs.Laws.Answers.{up_to_once, waiting_up_to}
+use Rattle.lite_base.specs.Laws.Answers.{up_to_once, waiting_up_to, waiting_waiting}
 use Rattle.lite_base.specs.Laws.Calls.{folds_follow}
 use Rattle.lite_base.specs.Laws.Calm.{calm_both, no_pending_back}
 use Rattle.lite_base.specs.Steady.{FutureSteadyLaws}
@@ -14,13 +14,21 @@ use Rattle.lite_base.specs.Laws.Steady.{future_steady_always}
 use Rattle.lite_base.specs.declared.future.poll_fn.PollFn.{PollFn}
 
 module _ {F A : Type 0} (g : Poller F A) where
-  pub polled_laws : FutureLaws (λ (x : PollFn F) (l : List (Poll A)) (y : PollFn F). Polled g x.f l y.f)
+  -- A closure that obeys until its value obeys after any calls that returned no value.
+  obeys_after : (f q : F) (l : List (Poll A)) → Waiting l → AlwaysObeys g Waiting f → FoldsTo (CallAnswers g) f l q
+      → AlwaysObeys g Waiting q
+  obeys_after f q l w h c = record {
+    at = λ m p v d. h.at _ p (waiting_waiting l m w v) (folds_follow _ f q p l m c d);
+  }
+
+  pub polled_laws : FutureLaws (λ x. AlwaysObeys g Waiting x.f) (λ (x : PollFn F) (l : List (Poll A)) (y : PollFn F). Polled g x.f l y.f)
   polled_laws =
       record {
         rests = λ x. (tt, refl);
         stays = λ x y h. ap (λ v. record x { f = v }) (sym h.1);
         follows = λ x y z l m w h k. (waiting_up_to l m w k.0, folds_follow _ x.f y.f z.f l m h.1 k.1);
         once = λ x y l h. up_to_once l h.0;
+        waits_on = λ x y l w c h. obeys_after x.f y.f l w c h.1;
       }
 
   -- A closure is its own source: its results say which closures are alike.

@@ -6,7 +6,8 @@ use Rattle.lite_base.specs.Alike.{Either as EitherSame}
 use Rattle.lite_base.specs.Answers.{ComparableBy, Waiting, strip}
 use Rattle.lite_base.specs.Calm.{CalmLaws, NoPending}
 use Rattle.lite_base.specs.Future.Either.{BothEither, EitherRuns, OfEither}
-use Rattle.lite_base.specs.FutureLaws.{FutureLaws}
+use Rattle.lite_base.specs.FutureLaws.{FutureLaws, FutureRunLaws, WaitsOn}
+use Rattle.lite_base.specs.Laws.FutureLaws.{future_laws_of, future_runs_of}
 use Rattle.lite_base.specs.Laws.Alike.{comparable_as}
 use Rattle.lite_base.specs.Runs.{Runs}
 use Rattle.lite_base.specs.Steady.{FutureSteadyLawsBy}
@@ -14,7 +15,7 @@ use Rattle.lite_base.specs.declared.future.either.Either.{Either}
 use Rattle.lite_base.specs.declared.future.either.Either.TheVariants.{Left, Right}
 
 module _ {A B O : Type 0} {one : Runs (Poll O) A} {other : Runs (Poll O) B} where
-  module _ (f : FutureLaws one) (g : FutureLaws other) where
+  module _ (f : FutureRunLaws one) (g : FutureRunLaws other) where
     rests : (x : Either A B) → EitherRuns one other x [] x
     rests (Left a) = f.rests a
     rests (Right a) = g.rests a
@@ -40,8 +41,20 @@ module _ {A B O : Type 0} {one : Runs (Poll O) A} {other : Runs (Poll O) B} wher
     once (Left a) (Right b) l h = absurd h
     once (Right a) (Left b) l h = absurd h
 
-    pub either_laws : FutureLaws (EitherRuns one other)
-    either_laws = record { rests = rests; stays = stays; follows = follows; once = once }
+    either_runs : FutureRunLaws (EitherRuns one other)
+    either_runs = record { rests = rests; stays = stays; follows = follows; once = once }
+
+  either_on : {can : A → Type 0} {may : B → Type 0} → WaitsOn can one → WaitsOn may other
+      → WaitsOn (OfEither can may) (EitherRuns one other)
+  either_on on also (Left a) (Left b) l w c h = on a b l w c h
+  either_on on also (Right a) (Right b) l w c h = also a b l w c h
+  either_on on also (Left a) (Right b) l w c h = absurd h
+  either_on on also (Right a) (Left b) l w c h = absurd h
+
+  pub either_laws : {can : A → Type 0} {may : B → Type 0} → FutureLaws can one → FutureLaws may other
+      → FutureLaws (OfEither can may) (EitherRuns one other)
+  either_laws f g =
+      future_laws_of (either_runs (future_runs_of f) (future_runs_of g)) (either_on f.waits_on g.waits_on)
 
   module _ {is_calm : A → Type 0} {is_still : B → Type 0} (c : CalmLaws one is_calm) (d : CalmLaws other is_still) where
     calm_run : (x y : Either A B) (l : List (Poll O)) → OfEither is_calm is_still x → EitherRuns one other x l y
@@ -96,4 +109,4 @@ module _ {A B O : Type 0} {one some : Runs (Poll O) A} {other others : Runs (Pol
 
   pub either_steady : FutureSteadyLawsBy (EitherSame same also) (EitherRuns one other) (EitherRuns some others)
       (none × needs) (BothEither alike like)
-  either_steady = record { laws = either_laws s.laws t.laws; steady = steady; found = found }
+  either_steady = record { laws = either_runs s.laws t.laws; steady = steady; found = found }

@@ -4,14 +4,19 @@ use Rattle.lite_base.specs.Uses.{map-append, Poll}
 use Rattle.lite_base.specs.Calm.{CalmLaws}
 use Rattle.lite_base.specs.Future.Or.{FutureOrs}
 use Rattle.lite_base.specs.FutureLaws.{FutureLaws}
+use Rattle.lite_base.specs.Laws.FutureLaws.{future_runs_of}
 use Rattle.lite_base.specs.Laws.Answers.{up_to_once}
 use Rattle.lite_base.specs.Laws.Calm.{calm_both}
-use Rattle.lite_base.specs.Laws.Future.Picks.{picks_calm, picks_follow, picks_rest, picks_stay}
+use Rattle.lite_base.specs.Laws.Future.Picks.{picks_calm, picks_follow, picks_on, picks_rest, picks_stay}
 use Rattle.lite_base.specs.Runs.{Runs}
 
 module _ {F G A : Type 0} {run_first : Runs (Poll A) F} {run_second : Runs (Poll A) G} where
-  pub ors_laws : FutureLaws run_first → FutureLaws run_second → FutureLaws (FutureOrs run_first run_second)
-  ors_laws laws_first laws_second =
+  pub ors_laws : {can_first : F → Type 0} {can_second : G → Type 0} → FutureLaws can_first run_first
+      → FutureLaws can_second run_second
+      → FutureLaws (λ x. can_first x.future1 × can_second x.future2) (FutureOrs run_first run_second)
+  ors_laws one two =
+      let laws_first = future_runs_of one in
+      let laws_second = future_runs_of two in
       record {
         rests = λ x. picks_rest laws_first laws_second x.future1 x.future2;
         stays = λ x y h. let e = picks_stay laws_first laws_second h in
@@ -19,6 +24,7 @@ module _ {F G A : Type 0} {run_first : Runs (Poll A) F} {run_second : Runs (Poll
         follows = λ x y z l m w h k.
             rw (map-append _ l m) (picks_follow laws_first laws_second w h k);
         once = λ x y l h. up_to_once l h.ends;
+        waits_on = λ x y l w c h. picks_on one.waits_on two.waits_on w c h;
       }
 
   -- `or` is never pending if one of the two futures never is.

@@ -7,13 +7,14 @@ use Rattle.lite_base.specs.Laws.Answers.{waiting_once, waiting_strip, waiting_wa
 use Rattle.lite_base.specs.Steady.{FutureSteadyLaws}
 use Rattle.lite_base.specs.Laws.Steady.{future_steady_always}
 
-pub waits_laws : {F A : Type 0} → FutureLaws (λ (x : F) (l : List (Poll A)) (y : F). Waiting l × (y ≡ x))
+pub waits_laws : {F A : Type 0} → FutureLaws (λ _. ⊤) (λ (x : F) (l : List (Poll A)) (y : F). Waiting l × (y ≡ x))
 waits_laws =
     record {
       rests = λ x. (tt, refl);
       stays = λ x y h. h.1;
       follows = λ x y z l m w h k. (waiting_waiting l m w k.0, k.1 ∙ h.1);
       once = λ x y l h. waiting_once l h.0;
+      waits_on = λ x y l w c h. tt;
     }
 
 pub waits_steady : {F A : Type 0}

@@ -4,7 +4,7 @@ use Rattle.lite_base.specs.Uses.{subst, ap, inl, inr, Poll, Ready, Pending}
 use Rattle.lite_base.specs.Answers.{Waiting}
 use Rattle.lite_base.specs.Calm.{CalmLaws, NoPending}
 use Rattle.lite_base.specs.Future.Picks.{PickRow, PickRows, Picks}
-use Rattle.lite_base.specs.FutureLaws.{FutureLaws}
+use Rattle.lite_base.specs.FutureLaws.{FutureRunLaws, WaitsOn}
 use Rattle.lite_base.specs.Laws.Answers.{waiting_up_to}
 use Rattle.lite_base.specs.Laws.Calm.{no_pending_join}
 use Rattle.lite_base.specs.Laws.Rows.{rows_by, rows_follow}
@@ -58,7 +58,7 @@ module _ {A : Type 0} where
       no_pending_join (c ∷ []) l d.0 (k (other_way d.1)))
 
 module _ {F G A : Type 0} {run_first : Runs (Poll A) F} {run_second : Runs (Poll A) G} where
-  module _ (laws_first : FutureLaws run_first) (laws_second : FutureLaws run_second) where
+  module _ (laws_first : FutureRunLaws run_first) (laws_second : FutureRunLaws run_second) where
     pub picks_rest : (f : F) (g : G)
         → Picks run_first run_second [] f g [] f g
     picks_rest f g =
@@ -91,6 +91,14 @@ module _ {F G A : Type 0} {run_first : Runs (Poll A) F} {run_second : Runs (Poll
           rows = rows_follow PickRow row_more o p h.i h.j k.i k.j l m h.rows k.rows;
           ends = waiting_up_to l m w k.ends;
         }
+
+  -- Both may be polled after rows that are pending.
+  pub picks_on : {can_first : F → Type 0} {can_second : G → Type 0} → WaitsOn can_first run_first
+      → WaitsOn can_second run_second → {o : List Bool} {f f' : F} {g g' : G} {l : List (Poll A)} → Waiting l
+      → can_first f × can_second g → Picks run_first run_second o f g l f' g' → can_first f' × can_second g'
+  picks_on on also {o} {f} {f'} {g} {g'} {l} w c h =
+      let waits = rows_wait o h.i h.j l h.rows w in
+      (on f f' h.i waits.0 c.0 h.first, also g g' h.j waits.1 c.1 h.second)
 
   -- The two are never pending if one of them never is.
   pub picks_calm : {calm_first : F → Type 0} {calm_second : G → Type 0} → CalmLaws run_first calm_first

@@ -1,11 +1,11 @@
 -- Laws of `poll_once`.
 use Rattle.std.specs.Prelude.{⊤, ◌≤◌, List, [], ◌∷◌, ◌++◌, length, Option, refl}
-use Rattle.lite_base.specs.Uses.{subst, arith, Poll, Ready, Pending}
+use Rattle.lite_base.specs.Uses.{subst, sym, arith, Poll, Ready, Pending}
 use Rattle.lite_base.specs.Answers.{Waiting, strip}
 use Rattle.lite_base.specs.Calm.{CalmLaws, NoPending}
 use Rattle.lite_base.specs.Laws.Calm.{calm_both}
 use Rattle.lite_base.specs.Future.PollOnce.{TellsFirst}
-use Rattle.lite_base.specs.FutureLaws.{FutureLaws}
+use Rattle.lite_base.specs.FutureLaws.{FutureLaws, WaitsOn}
 use Rattle.lite_base.specs.declared.future.poll_once.PollOnce.{PollOnce}
 use Rattle.lite_base.specs.Runs.{Runs}
 
@@ -21,6 +21,11 @@ module _ {F A : Type 0} (run : Runs (Poll A) F) where
   tells_once x y (Pending ∷ l) h = absurd (let e = h.2 in cc)
   tells_once x y (Ready b ∷ l) h = rw h.3 (omega arith)
 
+  tells_on : (can_poll : F → Type 0) → WaitsOn (λ (x : PollOnce F). can_poll x.f) (TellsFirst run)
+  tells_on can_poll x y [] w c h = subst (λ (t : PollOnce F). can_poll t.f) (sym h) c
+  tells_on can_poll x y (Pending ∷ l) w c h = absurd (let e = h.2 in cc)
+  tells_on can_poll x y (Ready b ∷ l) w c h = absurd w
+
   tells_no_pending : (x y : PollOnce F) (l : List (Poll (Option A))) → TellsFirst run x l y → NoPending l
   tells_no_pending x y [] h = tt
   tells_no_pending x y (Pending ∷ l) h = absurd (let e = h.2 in cc)
@@ -29,5 +34,12 @@ module _ {F A : Type 0} (run : Runs (Poll A) F) where
   pub tells_calm : CalmLaws (TellsFirst run) (λ x. ⊤)
   tells_calm = calm_both (λ x y l k h. (tells_no_pending x y l h, tt))
 
-  pub tells_laws : FutureLaws (TellsFirst run)
-  tells_laws = record { rests = λ x. refl; stays = λ x y h. h; follows = tells_follow; once = tells_once }
+  pub tells_laws : (can_poll : F → Type 0) → FutureLaws (λ x. can_poll x.f) (TellsFirst run)
+  tells_laws can_poll =
+      record {
+        rests = λ x. refl;
+        stays = λ x y h. h;
+        follows = tells_follow;
+        once = tells_once;
+        waits_on = tells_on can_poll;
+      }

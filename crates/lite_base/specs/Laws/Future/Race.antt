@@ -4,16 +4,17 @@ use Rattle.lite_base.specs.Uses.{subst, sym, append-nil, arith, map-append, Stre
 use Rattle.lite_base.specs.Answers.{Waiting, strip}
 use Rattle.lite_base.specs.Calm.{CalmLaws, NoPending}
 use Rattle.lite_base.specs.Future.Race.{FutureRacesOn, is_first}
-use Rattle.lite_base.specs.FutureLaws.{FutureLaws}
+use Rattle.lite_base.specs.FutureLaws.{FutureLaws, FutureRunLaws, WaitsOn}
+use Rattle.lite_base.specs.Laws.FutureLaws.{future_laws_of, future_runs_of}
 use Rattle.lite_base.specs.Laws.Answers.{up_to_once}
 use Rattle.lite_base.specs.Laws.Calls.{folds_follow}
 use Rattle.lite_base.specs.Laws.Calm.{calm_both}
-use Rattle.lite_base.specs.Laws.Future.Picks.{picks_calm, picks_follow}
+use Rattle.lite_base.specs.Laws.Future.Picks.{picks_calm, picks_follow, picks_on}
 use Rattle.lite_base.specs.declared.future.race.Race.{Race}
 use Rattle.lite_base.specs.Runs.{Runs}
 
 module _ {F G R A : Type 0} {run_first : Runs (Poll A) F} {run_second : Runs (Poll A) G} (stream : R → Stream) where
-  module _ (laws_first : FutureLaws run_first) (laws_second : FutureLaws run_second) where
+  module _ (laws_first : FutureRunLaws run_first) (laws_second : FutureRunLaws run_second) where
     races_once : (x y : Race F G R) (l : List (Poll A)) → FutureRacesOn run_first run_second stream x l y
         → length (strip l) ≤ 1
     races_once x y [] h = omega arith
@@ -34,8 +35,21 @@ module _ {F G R A : Type 0} {run_first : Runs (Poll A) F} {run_second : Runs (Po
               (picks_follow laws_first laws_second w h.picks k.picks);
         }
 
-    pub races_laws : FutureLaws (FutureRacesOn run_first run_second stream)
-    races_laws = record { rests = λ x. refl; stays = λ x y h. h; follows = races_follow; once = races_once }
+    races_runs : FutureRunLaws (FutureRacesOn run_first run_second stream)
+    races_runs = record { rests = λ x. refl; stays = λ x y h. h; follows = races_follow; once = races_once }
+
+  races_on : {can_first : F → Type 0} {can_second : G → Type 0} → WaitsOn can_first run_first
+      → WaitsOn can_second run_second
+      → WaitsOn (λ (x : Race F G R). can_first x.future1 × can_second x.future2)
+      (FutureRacesOn run_first run_second stream)
+  races_on on also x y [] w c h = rw h c
+  races_on on also x y (a ∷ l) w c h = picks_on on also w c h.picks
+
+  pub races_laws : {can_first : F → Type 0} {can_second : G → Type 0} → FutureLaws can_first run_first
+      → FutureLaws can_second run_second
+      → FutureLaws (λ x. can_first x.future1 × can_second x.future2) (FutureRacesOn run_first run_second stream)
+  races_laws one two =
+      future_laws_of (races_runs (future_runs_of one) (future_runs_of two)) (races_on one.waits_on two.waits_on)
 
   module _ {calm_first : F → Type 0} {calm_second : G → Type 0} (c : CalmLaws run_first calm_first)
       (d : CalmLaws run_second calm_second) where

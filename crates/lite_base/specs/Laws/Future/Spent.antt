@@ -1,9 +1,9 @@
 -- Laws of a future that is held until its value.
-use Rattle.std.specs.Prelude.{◌≡◌, List, [], ◌∷◌, ◌++◌, map, refl, Option, Some, None}
+use Rattle.std.specs.Prelude.{◌≡◌, List, [], ◌∷◌, ◌++◌, map, refl, IfSome, Option, Some, None}
 use Rattle.lite_base.specs.Uses.{append_assoc, ap, map-append, Poll}
 use Rattle.lite_base.specs.Answers.{Gives}
 use Rattle.lite_base.specs.Future.Spent.{Spends}
-use Rattle.lite_base.specs.FutureLaws.{FutureLaws}
+use Rattle.lite_base.specs.FutureLaws.{FutureRunLaws, WaitsOn}
 use Rattle.lite_base.specs.Laws.Answers.{waiting_waiting}
 use Rattle.lite_base.specs.Laws.Future.Finishes.{finishes_found, finishes_later}
 use Rattle.lite_base.specs.Steady.{TakesNone}
@@ -20,7 +20,7 @@ module _ {A B : Type 0} (shown : Poll A → Poll B) where
   shown_gives (a ∷ ins) after x e g = cc e
 
 module _ {F A B : Type 0} {run : Runs (Poll A) F} (shown : Poll A → Poll B) (Later : List (Poll B) → Type 0)
-    (laws : FutureLaws run) where
+    (laws : FutureRunLaws run) where
   pub spends_rest : Later [] → (x : Option F) → Spends run shown Later x [] x
   spends_rest none None = (none, refl)
   spends_rest none (Some f) = ([], tt, laws.rests f, refl)
@@ -77,3 +77,12 @@ module _ {F A B : Type 0} {run ample : Runs (Poll A) F} (shown : Poll A → Poll
         later = h.later;
         joined = h.joined;
       }
+
+module _ {F A B : Type 0} (run : Runs (Poll A) F) (can_poll : F → Type 0) (on : WaitsOn can_poll run)
+    (shown : Poll A → Poll B) (Later : List (Poll B) → Type 0) where
+  -- The future that is held may be polled after any run.
+  pub spends_on : (x y : Option F) (l : List (Poll B)) → IfSome x can_poll → Spends run shown Later x l y
+      → IfSome y can_poll
+  spends_on None y l c h = rw h.1 tt
+  spends_on (Some f) (Some g) l c h = on f g h.0 h.1 c h.2
+  spends_on (Some f) None l c h = tt

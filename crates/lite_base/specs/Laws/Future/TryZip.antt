@@ -3,15 +3,16 @@ use Rattle.std.specs.Prelude.{Result, Ok, ◌≡◌, ◌≤◌, ℕ, List, [], �
 use Rattle.lite_base.specs.Uses.{◌∙◌, subst, sym, inl, inr, arith, length-append, Poll, Ready, Pending}
 use Rattle.lite_base.specs.Answers.{Gives, Waiting, strip}
 use Rattle.lite_base.specs.Calm.{CalmLaws, NoPending}
-use Rattle.lite_base.specs.Future.Half.{IfAsked, Stands}
+use Rattle.lite_base.specs.Future.Half.{CanAsk, IfAsked, Stands}
 use Rattle.lite_base.specs.Future.TryZip.{Fails, TryZips, try_pair}
 use Rattle.lite_base.specs.Future.Together.{TakenWithPair}
-use Rattle.lite_base.specs.FutureLaws.{FutureLaws}
+use Rattle.lite_base.specs.FutureLaws.{FutureLaws, FutureRunLaws, WaitsOn}
+use Rattle.lite_base.specs.Laws.FutureLaws.{future_laws_of, future_runs_of}
 use Rattle.lite_base.specs.Laws.Answers.{gives_once, waiting_gives, waiting_not_gives}
 use Rattle.lite_base.specs.Laws.Calm.{calm_both}
 use Rattle.lite_base.specs.Laws.Future.Half.{stands_asked, stands_calm, stands_follow}
 use Rattle.lite_base.specs.Laws.Future.Together.{taken_waiting, rows_long, together_calm, together_follow}
-use Rattle.lite_base.specs.Laws.Future.Together.{together_once, together_rest, together_stay}
+use Rattle.lite_base.specs.Laws.Future.Together.{together_on, together_once, together_rest, together_stay}
 use Rattle.lite_base.specs.declared.future.half.Half.{Half}
 use Rattle.lite_base.specs.declared.future.try_zip.TryZip.{TryZip}
 use Rattle.lite_base.specs.Runs.{Runs}
@@ -19,7 +20,7 @@ use Rattle.lite_base.specs.Runs.{Runs}
 module _ {F G A B C E : Type 0} {run : Runs (Poll (Result A E)) F} {run_other : Runs (Poll (Result B E)) G}
     {unasked : ℕ} where
   -- A failure may follow rows without an error.
-  fails_later : FutureLaws run → FutureLaws run_other → {x y z : Half F A} {u v t : Half G B}
+  fails_later : FutureRunLaws run → FutureRunLaws run_other → {x y z : Half F A} {u v t : Half G B}
       {m : List (Poll (Result C E))} (p : Half F A) (q : Half G B) (i : List (Poll (Result A E)))
       (j : List (Poll (Result B E))) (l : List (Poll (Result C E))) → Waiting l
       → Stands Ok run x i p → Stands Ok run_other u j q → TakenWithPair l p y → TakenWithPair l q v
@@ -54,7 +55,15 @@ module _ {F G A B E : Type 0} {run_first : Runs (Poll (Result A E)) F} {run_seco
   try_zips_once {l} (inr (inl h)) = gives_once l _ h.gives
   try_zips_once {l} (inr (inr h)) = gives_once l _ h.gives
 
-  module _ (laws_first : FutureLaws run_first) (laws_second : FutureLaws run_second) where
+  try_zips_on : {can_first : F → Type 0} {can_second : G → Type 0} → WaitsOn can_first run_first
+      → WaitsOn can_second run_second → {x y : Half F A} {u v : Half G B} {l : List (Poll (Result (A × B) E))}
+      → Waiting l → CanAsk can_first x × CanAsk can_second u → TryZips run_first run_second x u l y v
+      → CanAsk can_first y × CanAsk can_second v
+  try_zips_on on also w c (inl h) = together_on on also w c h
+  try_zips_on on also {l} w c (inr (inl h)) = absurd (waiting_not_gives l _ w h.gives)
+  try_zips_on on also {l} w c (inr (inr h)) = absurd (waiting_not_gives l _ w h.gives)
+
+  module _ (laws_first : FutureRunLaws run_first) (laws_second : FutureRunLaws run_second) where
     try_zips_stay : {x y : Half F A} {u v : Half G B}
         → TryZips run_first run_second x u [] y v → (y ≡ x) × (v ≡ u)
     try_zips_stay (inl h) = together_stay laws_first laws_second h
@@ -76,10 +85,10 @@ module _ {F G A B E : Type 0} {run_first : Runs (Poll (Result A E)) F} {run_seco
         inr (inr (fails_later laws_second laws_first h.q h.p h.j h.i l w h.second h.first h.taken.1 h.taken.0 long.1
         long.0 k))
 
-    pub try_zips_laws : FutureLaws
+    try_zips_runs : FutureRunLaws
         (λ (x : TryZip F A G B) (l : List (Poll (Result (A × B) E)))
         (y : TryZip F A G B). TryZips run_first run_second x.first x.second l y.first y.second)
-    try_zips_laws =
+    try_zips_runs =
         record {
           rests = λ x. inl (together_rest laws_first laws_second x.first x.second);
           stays = λ x y h. let e = try_zips_stay h in
@@ -87,6 +96,14 @@ module _ {F G A B E : Type 0} {run_first : Runs (Poll (Result A E)) F} {run_seco
           follows = λ x y z l m. try_zips_follow;
           once = λ x y l. try_zips_once;
         }
+
+  pub try_zips_laws : {can_first : F → Type 0} {can_second : G → Type 0} → FutureLaws can_first run_first
+      → FutureLaws can_second run_second
+      → FutureLaws (λ (x : TryZip F A G B). CanAsk can_first x.first × CanAsk can_second x.second)
+      (λ x l y. TryZips run_first run_second x.first x.second l y.first y.second)
+  try_zips_laws one two =
+      future_laws_of (try_zips_runs (future_runs_of one) (future_runs_of two))
+      (λ x y l w c h. try_zips_on one.waits_on two.waits_on w c h)
 
 -- If a list without a `Pending` has a value, a list of the same length that has a value has no `Pending` either.
 gives_no_pending : {A B : Type 0} (i : List (Poll A)) (o : List (Poll B)) (x : A) (y : B) → NoPending i → Gives i x

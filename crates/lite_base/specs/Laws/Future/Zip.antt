@@ -2,15 +2,16 @@
 use Rattle.lite_base.specs.Uses.{Poll}
 use Rattle.lite_base.specs.Alike.{Pairwise, SameItem, Sameness}
 use Rattle.lite_base.specs.Calm.{CalmLaws}
-use Rattle.lite_base.specs.Future.Half.{HalvesBy, IfAsked}
+use Rattle.lite_base.specs.Future.Half.{CanAsk, HalvesBy, IfAsked}
 use Rattle.lite_base.specs.Future.Zip.{FutureZips}
-use Rattle.lite_base.specs.FutureLaws.{FutureLaws}
+use Rattle.lite_base.specs.FutureLaws.{FutureLaws, FutureRunLaws, WaitsOn}
+use Rattle.lite_base.specs.Laws.FutureLaws.{future_laws_of, future_runs_of}
 use Rattle.lite_base.specs.Laws.Alike.{alike_agrees, by_value, up_to_gives}
 use Rattle.lite_base.specs.Laws.Calm.{calm_both}
 use Rattle.lite_base.specs.Laws.Future.Agree.{HalvesAgree, zips_agree}
 use Rattle.lite_base.specs.Laws.Future.Half.{stands_found}
 use Rattle.lite_base.specs.Laws.Future.Together.{taken_up_to, together_calm, together_follow, together_once}
-use Rattle.lite_base.specs.Laws.Future.Together.{together_rest, together_stay}
+use Rattle.lite_base.specs.Laws.Future.Together.{together_on, together_rest, together_stay}
 use Rattle.lite_base.specs.Steady.{FutureSteadyLawsBy, SteadinessBy}
 use Rattle.lite_base.specs.declared.future.half.Half.{Half}
 use Rattle.lite_base.specs.declared.future.half.Half.TheVariants.{Asked}
@@ -22,8 +23,8 @@ abbrev Zipped : {F G A B : Type 0} → Runs (Poll A) F → Runs (Poll B) G → R
 Zipped run_first run_second x l y = FutureZips run_first run_second x.first x.second l y.first y.second
 
 module _ {F G A B : Type 0} {run_first : Runs (Poll A) F} {run_second : Runs (Poll B) G} where
-  pub zips_laws : FutureLaws run_first → FutureLaws run_second → FutureLaws (Zipped run_first run_second)
-  zips_laws laws_first laws_second =
+  zips_runs : FutureRunLaws run_first → FutureRunLaws run_second → FutureRunLaws (Zipped run_first run_second)
+  zips_runs laws_first laws_second =
       record {
         rests = λ x. together_rest laws_first laws_second x.first x.second;
         stays = λ x y h. let e = together_stay laws_first laws_second h in
@@ -31,6 +32,13 @@ module _ {F G A B : Type 0} {run_first : Runs (Poll A) F} {run_second : Runs (Po
         follows = λ x y z l m. together_follow laws_first laws_second;
         once = λ x y l. together_once;
       }
+
+  pub zips_laws : {can_first : F → Type 0} {can_second : G → Type 0} → FutureLaws can_first run_first
+      → FutureLaws can_second run_second
+      → FutureLaws (λ x. CanAsk can_first x.first × CanAsk can_second x.second) (Zipped run_first run_second)
+  zips_laws one two =
+      future_laws_of (zips_runs (future_runs_of one) (future_runs_of two))
+      (λ x y l w c h. together_on one.waits_on two.waits_on w c h)
 
   pub zips_calm : {calm_first : F → Type 0} {calm_second : G → Type 0} → CalmLaws run_first calm_first
       → CalmLaws run_second calm_second
@@ -52,10 +60,10 @@ module _ {F G A B : Type 0} {run_first ample_first : Runs (Poll A) F} {run_secon
       (λ (x y : Zip F G A B). HalvesBy same alike_first x.first y.first × HalvesBy other alike_second x.second y.second)
   zips_steady =
       record {
-        laws = zips_laws s.laws t.laws;
+        laws = zips_runs s.laws t.laws;
         steady = λ x y e l m x' y' h k.
-            by_value _ _ ((zips_laws s.laws t.laws).once x x' l h)
-            ((zips_laws s.laws t.laws).once y y' m k)
+            by_value _ _ ((zips_runs s.laws t.laws).once x x' l h)
+            ((zips_runs s.laws t.laws).once y y' m k)
             (λ v w f g.
             zips_agree ample_first ample_second same other x.first y.first x'.first y'.first x.second y.second x'.second
             y'.second l m v w

@@ -14,6 +14,6 @@ returns-clause-agree g c =
       two.0,
       one.1,
       two.1,
-      both_read g.met.T.SteadyRead.steady _ _ _ _ one.0 two.0 _ _ c.requires.alike one.2 two.2,
+      both_read g.met.T.SteadyRead.steady _ _ _ _ _ _ one.0 two.0 _ _ c.requires.alike one.2 two.2,
       tt,
     )

@@ -10,7 +10,8 @@ use Rattle.nests_polled.specs.TryCount.{CountsUntil, DecidesCount, TrySteps, cou
 use Rattle.nests_polled.specs.declared.try_count.TryCount.{TryCount}
 use Rattle.nests_polled.proofs.try_count.poll_count.Goals as goal
 
-module _ {S T E : Type 0} (run : Runs (Answer (Result T E)) S) (hints : Hints S) (laws : StreamLaws run hints)
+module _ {S T E : Type 0} (run : Runs (Answer (Result T E)) S) (hints : Hints S) {can_poll : S → Type 0}
+    (laws : StreamLaws can_poll run hints)
     (Can : S → Type 0) where
   decided_last : (x y : TryCount S) (b : Poll (Result ℕ E)) → TrySteps run Can x (Some b) y → CountsUntil run x b y
   decided_last x y b h =

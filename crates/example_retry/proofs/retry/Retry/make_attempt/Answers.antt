@@ -1,4 +1,4 @@
-use Rattle.example_retry.proofs.Polls.{makes_on}
+use Rattle.futures_lite.specs.Streams.{makes_on}
 use Rattle.example_retry.proofs.retry.Retry.make_attempt.Goals as goal
 
 pub returns-then-is_none-clause-held : goal.returns-then-is_none-clause-held

@@ -1,4 +1,4 @@
-use Rattle.lite_consume.proofs.Given.{lent_each, lent_given}
+use Rattle.lite_consume.proofs.Given.{given_on, lent_each, lent_given}
 use Rattle.lite_consume.proofs.block_on.BlockOn.ask.Goals as goal
 
 pub wait_for-requires : goal.wait_for-requires
@@ -15,3 +15,8 @@ returns-clause-gave g c =
     rw c.consume.ensures at
     (lent_given g.S.Stream.run g.F.Folder.fold c.consume.result c.wait_for.new.future c.wait_for.result
     c.wait_for.ensures.gave)
+
+pub returns-clause-again : goal.returns-clause-again
+returns-clause-again g c =
+    given_on g.F.Folder.fold g.met.S.Stream.laws _ _ _ _ c.wait_for.ensures.waited c.requires.polls
+    (returns-clause-gave g c)

@@ -12,7 +12,7 @@ returns-then-is_err-clause-stepped g c =
     let w = c.make_room.new.self in
     let filled : w.filled ≡ x.filled = λ i. (m.same i).filled in
     let full : vec_capacity x.buf.now < x.filled + max 32 x.room = search (rules, common_steps) in
-    gives_value x w
+    gives_value x w m.within
     (refused _ g.R.Tale.read_laws x w c.into.result (0, omega (arith, filled), omega (arith, filled, full)) m.same
     m.front c.into.ensures)
 
@@ -40,7 +40,8 @@ returns-in-Ready-Ok-eq0-clause-stepped g c =
     let start : w.start ≡ x.start = λ i. (m.same i).start in
     let count : length (read_front x) ≡ x.start + (w.filled - w.start) =
     omega (arith, front, ap length m.front, start, c.requires.started, held) in
-    gives_value x _
+    let made = room_made x w new.self old new.buf m.same m.within c.deref_mut.ensures.value c.poll_read.auto.buf m.grows in
+    gives_value x _ made.within
     (read_none _ g.R.Tale.reads x w new.self old new.buf (ReadMark.end ∷ [])
     (Ready (Ok (w.filled - w.start))) m.same m.front m.within c.deref_mut.ensures.value c.poll_read.auto.buf
     (count, refl) (rw (is, end) at c.poll_read.ensures.ran))
@@ -49,7 +50,9 @@ pub returns-in-Ready-Err-clause-stepped : goal.returns-in-Ready-Err-clause-stepp
 returns-in-Ready-Err-clause-stepped g c =
     let m = c.make_room.ensures in
     let is : c.poll_read.result ≡ Ready (Err c.in-Ready-Err.e) = search rules in
-    gives_value c.args.self.now _
+    let made = room_made c.args.self.now c.make_room.new.self c.poll_read.new.self c.deref_mut.result.now c.poll_read.new.buf
+    m.same m.within c.deref_mut.ensures.value c.poll_read.auto.buf m.grows in
+    gives_value c.args.self.now _ made.within
     (read_none _ g.R.Tale.reads c.args.self.now c.make_room.new.self c.poll_read.new.self c.deref_mut.result.now
     c.poll_read.new.buf _ (Ready (Err c.in-Ready-Err.e)) m.same m.front m.within c.deref_mut.ensures.value
     c.poll_read.auto.buf (refl, refl) (rw is at c.poll_read.ensures.ran))

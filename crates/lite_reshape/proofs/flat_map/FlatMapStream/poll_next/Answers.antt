@@ -1,6 +1,6 @@
 use Rattle.lite_reshape.specs.FlatMap.{flat_map_parts}
-use Rattle.lite_reshape.specs.Laws.FlatMap.{each_made, made_promises}
-use Rattle.lite_reshape.specs.Uses.{runs_of, Calls, replaces_relating, laws_hinted, Maps, map_parts}
+use Rattle.lite_reshape.specs.Laws.FlatMap.{each_made, made_promises, outer_laws}
+use Rattle.lite_reshape.specs.Uses.{runs_of, Calls, Maps}
 use Rattle.lite_reshape.specs.Laws.Flatten.{flat_answer}
 use Rattle.lite_reshape.proofs.flat_map.FlatMapStream.poll_next.Goals as goal
 
@@ -11,9 +11,8 @@ drive-requires g c =
 pub returns-clause-ran : goal.returns-clause-ran
 returns-clause-ran g c =
     let steps = c.drive.ensures.stepped in
-    let outer = laws_hinted map_parts g.met.S.Stream.laws (replaces_relating (Calls g.F.FnMut)) in
     flat_answer g.U.Stream.run
-    (Maps g.S.Stream.run (Calls g.F.FnMut)) (runs_of outer) flat_map_parts _ _ steps.0 _ _ steps.1 steps.2
+    (Maps g.S.Stream.run (Calls g.F.FnMut)) (runs_of (outer_laws g.F.FnMut g.met.S.Stream.laws)) flat_map_parts _ _ steps.0 _ _ steps.1 steps.2
 
 pub returns-clause-again : goal.returns-clause-again
 returns-clause-again g c =

@@ -1,6 +1,7 @@
 use Rattle.std.specs.Prelude.{[], ◌∷◌, refl, Ok, Err}
 use Rattle.lite_base.specs.Uses.{inl, inr, arith, Ready}
 use Rattle.lite_base.specs.Future.TryZip.{try_pair}
+use Rattle.lite_base.specs.Laws.FutureLaws.{future_runs_of}
 use Rattle.lite_base.specs.Laws.Future.Half.{stands_rest}
 use Rattle.lite_base.specs.Laws.Future.Together.{together_row}
 use Rattle.lite_base.proofs.future.try_zip.TryZipFuture.poll.Goals as goal
@@ -18,7 +19,7 @@ returns-in-Err-clause-ran g c =
       came = f.3;
       is_kept = f.4;
       others = [];
-      stands = stands_rest (λ b. Ok b) g.F2.Future.run g.met.F2.Future.laws _;
+      stands = stands_rest (λ b. Ok b) g.F2.Future.run (future_runs_of g.met.F2.Future.laws) _;
       asked = omega arith;
       gives = (refl, refl);
     })
