@@ -1,8 +1,18 @@
 //! A stream and futures that are given by few numbers, and what wakes its task at each poll.
+//! A pending of the first wakes the task, unless they are quiet.
 ghost use Rattle.futures_lite.specs.Own.{AnyAnswers, AnyValue, NoHint, anything_future, anything_stream};
 
 use futures_lite::stream::Counted;
 use futures_lite::{Context, Future, Poll, Stream};
+
+/// A pending, with a wake unless it is quiet.
+fn pause<T>(is_quiet: bool, cx: &mut Context<'_>) -> Poll<T> {
+    if is_quiet {
+        Poll::Pending
+    } else {
+        cx.yield_now()
+    }
+}
 
 /// Gives `left` numbers from `next` on, with a pending where it waits; after a multiple of three it waits.
 #[derive(Drop)]
@@ -10,6 +20,7 @@ pub(crate) struct Burst {
     pub(crate) left: usize,
     pub(crate) next: i64,
     pub(crate) waits: bool,
+    pub(crate) is_quiet: bool,
 }
 
 impl Stream for Burst {
@@ -24,7 +35,7 @@ impl Stream for Burst {
     fn poll_next(&mut self, cx: &mut Context<'_>) -> Poll<Option<i64>> {
         if self.waits {
             self.waits = false;
-            return cx.yield_now();
+            return pause(self.is_quiet, cx);
         }
         if self.left == 0 {
             return Poll::Ready(None);
@@ -52,6 +63,7 @@ impl Counted for Burst {
 pub(crate) struct Later {
     pub(crate) left: usize,
     pub(crate) value: i64,
+    pub(crate) is_quiet: bool,
 }
 
 impl Future for Later {
@@ -66,7 +78,7 @@ impl Future for Later {
             return Poll::Ready(self.value);
         }
         self.left -= 1;
-        cx.yield_now()
+        pause(self.is_quiet, cx)
     }
 }
 
@@ -75,6 +87,7 @@ impl Future for Later {
 pub(crate) struct UnfoldStep {
     pub(crate) waits: bool,
     pub(crate) value: Option<(i64, i64)>,
+    pub(crate) is_quiet: bool,
 }
 
 impl Future for UnfoldStep {
@@ -87,7 +100,7 @@ impl Future for UnfoldStep {
     fn poll(&mut self, cx: &mut Context<'_>) -> Poll<Option<(i64, i64)>> {
         if self.waits {
             self.waits = false;
-            return cx.yield_now();
+            return pause(self.is_quiet, cx);
         }
         Poll::Ready(self.value)
     }
@@ -98,6 +111,7 @@ impl Future for UnfoldStep {
 pub(crate) struct TryStep {
     pub(crate) waits: bool,
     pub(crate) value: Result<Option<(i64, i64)>, i64>,
+    pub(crate) is_quiet: bool,
 }
 
 impl Future for TryStep {
@@ -110,7 +124,7 @@ impl Future for TryStep {
     fn poll(&mut self, cx: &mut Context<'_>) -> Poll<Result<Option<(i64, i64)>, i64>> {
         if self.waits {
             self.waits = false;
-            return cx.yield_now();
+            return pause(self.is_quiet, cx);
         }
         Poll::Ready(self.value)
     }

@@ -41,6 +41,14 @@ pub(crate) fn answered<R: Wait + AllocGlobal + Copy + Drop>(
         "fused" => future_nest::fused(alloc, cx, words, &mut answers)?,
         "wakes" => wakes::of_stream(alloc, solo, words, &mut answers)?,
         "wakes_future" => wakes::of_future(alloc, solo, words, &mut answers)?,
+        "quiet" => {
+            words.is_quiet = true;
+            wakes::of_stream(alloc, solo, words, &mut answers)?;
+        }
+        "quiet_future" => {
+            words.is_quiet = true;
+            wakes::of_future(alloc, solo, words, &mut answers)?;
+        }
         "polls" => with_counts(alloc, cx, words, &mut answers)?,
         "rest" => of_lent_nest(alloc, cx, words, &mut answers)?,
         mode => of_nest(mode, alloc, cx, words, &mut answers)?,

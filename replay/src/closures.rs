@@ -18,6 +18,10 @@ pub(crate) type ToBurst = Box<dyn FnMut(i64) -> Burst>;
 
 pub(crate) type ToLater = Box<dyn FnMut(i64) -> Later>;
 
+pub(crate) type ToStep = Box<dyn FnMut(i64) -> UnfoldStep>;
+
+pub(crate) type ToTryStep = Box<dyn FnMut(i64) -> TryStep>;
+
 pub(crate) fn map_of(alloc: Global, k: usize) -> Result<Change, Fault> {
     let f: fn(i64) -> i64 = match k {
         0 => double,
@@ -262,34 +266,26 @@ fn ok_third(x: i64) -> Result<i64, i64> {
 pub(crate) fn nothing_seen(_x: &i64) {}
 
 /// Makes a stream of an item, or of that times how many calls there were.
-pub(crate) fn to_burst(alloc: Global, counts: bool) -> Result<ToBurst, Fault> {
-    if !counts {
-        let f: fn(i64) -> Burst = burst;
-        return Ok(Box::new(alloc, f)?);
-    }
+pub(crate) fn to_burst(alloc: Global, counts: bool, is_quiet: bool) -> Result<ToBurst, Fault> {
     let mut calls = 0i64;
     let f = move |x: i64| {
         calls = calls.wrapping_add(1);
-        burst(x.wrapping_mul(calls))
+        burst(if counts { x.wrapping_mul(calls) } else { x }, is_quiet)
     };
     Ok(Box::new(alloc, f)?)
 }
 
 /// Makes a future of an item, or of that times how many calls there were.
-pub(crate) fn to_later(alloc: Global, counts: bool) -> Result<ToLater, Fault> {
-    if !counts {
-        let f: fn(i64) -> Later = later;
-        return Ok(Box::new(alloc, f)?);
-    }
+pub(crate) fn to_later(alloc: Global, counts: bool, is_quiet: bool) -> Result<ToLater, Fault> {
     let mut calls = 0i64;
     let f = move |x: i64| {
         calls = calls.wrapping_add(1);
-        later(x.wrapping_mul(calls))
+        later(if counts { x.wrapping_mul(calls) } else { x }, is_quiet)
     };
     Ok(Box::new(alloc, f)?)
 }
 
-pub(crate) fn burst(x: i64) -> Burst {
+fn burst(x: i64, is_quiet: bool) -> Burst {
     let left = match x % 4 {
         1 | -1 => 1,
         2 | -2 => 2,
@@ -300,10 +296,11 @@ pub(crate) fn burst(x: i64) -> Burst {
         left,
         next: x.wrapping_mul(10),
         waits: x % 2 == 0,
+        is_quiet,
     }
 }
 
-pub(crate) fn later(x: i64) -> Later {
+pub(crate) fn later(x: i64, is_quiet: bool) -> Later {
     let left = match x % 3 {
         1 | -1 => 1,
         2 | -2 => 2,
@@ -312,22 +309,25 @@ pub(crate) fn later(x: i64) -> Later {
     Later {
         left,
         value: x.wrapping_add(100),
+        is_quiet,
     }
 }
 
-pub(crate) fn unfolding(x: i64) -> UnfoldStep {
-    UnfoldStep {
+pub(crate) fn to_step(alloc: Global, is_quiet: bool) -> Result<ToStep, Fault> {
+    let f = move |x: i64| UnfoldStep {
         waits: x % 2 != 0,
         value: if x > 0 {
             Some((x.wrapping_mul(7), x.wrapping_sub(1)))
         } else {
             None
         },
-    }
+        is_quiet,
+    };
+    Ok(Box::new(alloc, f)?)
 }
 
-pub(crate) fn try_unfolding(x: i64) -> TryStep {
-    TryStep {
+pub(crate) fn to_try_step(alloc: Global, is_quiet: bool) -> Result<ToTryStep, Fault> {
+    let f = move |x: i64| TryStep {
         waits: x % 2 == 0,
         value: if x == 3 {
             Err(x)
@@ -336,7 +336,9 @@ pub(crate) fn try_unfolding(x: i64) -> TryStep {
         } else {
             Ok(None)
         },
-    }
+        is_quiet,
+    };
+    Ok(Box::new(alloc, f)?)
 }
 
 /// What the folding futures make of a sum and an item.

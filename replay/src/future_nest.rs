@@ -10,7 +10,8 @@ use crate::leaf::Build;
 use crate::trying::either;
 use crate::words::{Fault, Words};
 use futures_lite::future::{
-    self, Fuse, FutureExt, Or, Pending, PollOnce, Race, Ready, TryZip, YieldNow, Zip,
+    self, Budgeted, Either, Fuse, FutureExt, Or, Pending, PollOnce, Race, Ready, TryZip, YieldNow,
+    Zip,
 };
 use futures_lite::{Context, Future, Poll};
 use std::alloc::{AllocError, Global};
@@ -106,7 +107,12 @@ impl Build for Plain {
 fn later_of(words: &mut Words<'_>) -> Result<Later, Fault> {
     let left = words.number()?;
     let value = words.signed()?;
-    Ok(Later { left, value })
+    let is_quiet = words.is_quiet;
+    Ok(Later {
+        left,
+        value,
+        is_quiet,
+    })
 }
 
 /// A future whose value may fail.
@@ -141,6 +147,8 @@ pub(crate) enum Combined<F: Future<Output = i64> + Drop> {
     TryZip(TryZip<Judged<F>, i64, Judged<F>, i64>),
     Fuse(Fuse<F>),
     PollOnce(PollOnce<F>),
+    Either(Either<F, F>),
+    Budget(Budgeted<F>),
 }
 
 impl<F: Future<Output = i64> + Drop> Future for Combined<F> {
@@ -167,6 +175,11 @@ impl<F: Future<Output = i64> + Drop> Future for Combined<F> {
             Combined::Fuse(f) => f.poll(cx),
             Combined::PollOnce(f) => match f.poll(cx) {
                 Poll::Ready(value) => Poll::Ready(value.unwrap_or(-1)),
+                Poll::Pending => Poll::Pending,
+            },
+            Combined::Either(f) => f.poll(cx),
+            Combined::Budget(f) => match f.poll(cx) {
+                Poll::Ready(value) => Poll::Ready(value.unwrap_or(-2)),
                 Poll::Pending => Poll::Pending,
             },
         }
@@ -204,6 +217,12 @@ impl<F: Build + Future<Output = i64> + Drop> Build for Combined<F> {
             }
             "fuse" => Ok(Combined::Fuse(future::fuse(F::build(alloc, words)?))),
             "poll_once" => Ok(Combined::PollOnce(future::poll_once(F::build(alloc, words)?))),
+            "left" => Ok(Combined::Either(Either::Left(F::build(alloc, words)?))),
+            "right" => Ok(Combined::Either(Either::Right(F::build(alloc, words)?))),
+            "budget" => {
+                let n = words.number()?;
+                Ok(Combined::Budget(F::build(alloc, words)?.with_budget(n)))
+            }
             _ => {
                 words.words = ahead;
                 Ok(Combined::Plain(F::build(alloc, words)?))

@@ -4,7 +4,7 @@ ghost use Rattle.futures_lite.specs.Own.{AnyAnswers, NoHint, anything_stream};
 use crate::bits::Bits;
 use crate::bursts::{Burst, Later};
 use crate::closures::{
-    Change, Part, Step, Test, ToBurst, ToLater, burst, map_of, nothing_seen, pair_of, part_of,
+    Change, Part, Step, Test, ToBurst, ToLater, map_of, nothing_seen, pair_of, part_of,
     predicate_of, step_of, to_burst, to_later,
 };
 use crate::leaf::Build;
@@ -32,7 +32,7 @@ pub(crate) enum Layer<S: Counted<Item = i64> + Drop> {
     MapWhile(MapWhile<S, Part>),
     Enumerate(Enumerate<S>),
     Inspect(Inspect<S, fn(&i64)>),
-    Flatten(Flatten<Map<S, fn(i64) -> Burst>>),
+    Flatten(Flatten<Map<S, ToBurst>>),
     FlatMap(FlatMap<S, Burst, ToBurst>),
     Then(Then<S, ToLater, Later>),
     Scan(Scan<S, i64, Step>),
@@ -208,15 +208,15 @@ fn by_streams_and_futures<S: Build + Counted<Item = i64> + Drop>(
             Layer::Inspect(S::build(alloc, words)?.inspect(f))
         }
         "flatten" => {
-            let f: fn(i64) -> Burst = burst;
+            let f = to_burst(alloc, false, words.is_quiet)?;
             Layer::Flatten(S::build(alloc, words)?.map(f).flatten())
         }
         "flat_map" | "flat_map_calls" => {
-            let f = to_burst(alloc, word == "flat_map_calls")?;
+            let f = to_burst(alloc, word == "flat_map_calls", words.is_quiet)?;
             Layer::FlatMap(S::build(alloc, words)?.flat_map(f))
         }
         "then" | "then_calls" => {
-            let f = to_later(alloc, word == "then_calls")?;
+            let f = to_later(alloc, word == "then_calls", words.is_quiet)?;
             Layer::Then(S::build(alloc, words)?.then(f))
         }
         "scan" => {
@@ -260,8 +260,13 @@ fn by_numbers<S: Build + Counted<Item = i64> + Drop>(
         }
         "stop_after" => {
             let left = words.number()?;
-            let nest = S::build(alloc, words)?;
-            Layer::StopAfter(stream::stop_after_future(nest, Later { left, value: 0 }))
+            let is_quiet = words.is_quiet;
+            let future = Later {
+                left,
+                value: 0,
+                is_quiet,
+            };
+            Layer::StopAfter(stream::stop_after_future(S::build(alloc, words)?, future))
         }
         "enumerate" => Layer::Enumerate(S::build(alloc, words)?.enumerate()),
         "fuse" => Layer::Fuse(S::build(alloc, words)?.fuse()),

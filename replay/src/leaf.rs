@@ -2,7 +2,7 @@
 ghost use Rattle.futures_lite.specs.Own.{AnyAnswers, NoHint, anything_stream};
 
 use crate::bursts::{Bell, Later, TryStep, UnfoldStep};
-use crate::closures::{later, try_unfolding, unfolding};
+use crate::closures::{ToStep, ToTryStep, later, to_step, to_try_step};
 use crate::heard::Heard;
 use crate::trying::either;
 use crate::words::{Fault, Words, answers_of, numbers_of};
@@ -45,10 +45,10 @@ pub(crate) enum Leaf {
     CycleChain(Take<Cycle<Chain<Script<i64>, Script<i64>>>>),
     RepeatWith(Take<RepeatWith<fn() -> i64>>),
     RepeatsWith(RepeatWith<fn() -> i64>),
-    TryUnfold(TryUnfold<i64, fn(i64) -> TryStep, TryStep>),
+    TryUnfold(TryUnfold<i64, ToTryStep, TryStep>),
     Copied(Copied<Iter<slice::Iter<'static, i64>>>),
     Cloned(Cloned<Iter<slice::Iter<'static, i64>>>),
-    Unfold(Unfold<i64, fn(i64) -> UnfoldStep, UnfoldStep>),
+    Unfold(Unfold<i64, ToStep, UnfoldStep>),
 }
 
 fn opened(answer: Poll<Option<Result<i64, AllocError>>>) -> Poll<Option<i64>> {
@@ -151,7 +151,7 @@ impl Build for Leaf {
         if let Some(numbers) = word.strip_prefix("I:") {
             return Ok(Leaf::Iter(stream::iter(numbers_of(alloc, numbers)?)));
         }
-        if let Some(leaf) = by_function(word, words)? {
+        if let Some(leaf) = by_function(word, alloc, words)? {
             return Ok(leaf);
         }
         if let Some(leaf) = again(word, alloc, words)? {
@@ -177,18 +177,21 @@ fn table(most: usize) -> Iter<slice::Iter<'static, i64>> {
 }
 
 /// The sources that call a function or hold a future.
-fn by_function(word: &str, words: &mut Words<'_>) -> Result<Option<Leaf>, Fault> {
+fn by_function(word: &str, alloc: Global, words: &mut Words<'_>) -> Result<Option<Leaf>, Fault> {
     let to_eleven: fn() -> i64 = eleven;
     let leaf = match word {
-        "oncefuture" => Leaf::OnceFuture(stream::once_future(later(words.signed()?))),
+        "oncefuture" => {
+            let future = later(words.signed()?, words.is_quiet);
+            Leaf::OnceFuture(stream::once_future(future))
+        }
         "repeat_with" => Leaf::RepeatWith(stream::repeat_with(to_eleven).take(words.number()?)),
         "repeats_with" => Leaf::RepeatsWith(stream::repeat_with(to_eleven)),
         "unfold" => {
-            let f: fn(i64) -> UnfoldStep = unfolding;
+            let f = to_step(alloc, words.is_quiet)?;
             Leaf::Unfold(stream::unfold(words.signed()?, f))
         }
         "try_unfold" => {
-            let f: fn(i64) -> TryStep = try_unfolding;
+            let f = to_try_step(alloc, words.is_quiet)?;
             Leaf::TryUnfold(stream::try_unfold(words.signed()?, f))
         }
         _ => return Ok(None),

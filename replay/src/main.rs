@@ -54,6 +54,7 @@ fn main(rt: HostRuntime) -> io::Result<()> {
             &mut Words {
                 words: words.as_slice(),
                 counts: None,
+                is_quiet: false,
             },
         );
         cx.cancel();

@@ -71,7 +71,12 @@ fn stopped<S: Counted<Item = i64> + Drop>(
     cx: &mut Context<'_>,
     answers: &mut Answers,
 ) -> Result<(), AllocError> {
-    let mut nest = stream::stop_after_future(nest, Later { left, value: 100 });
+    let future = Later {
+        left,
+        value: 100,
+        is_quiet: false,
+    };
+    let mut nest = stream::stop_after_future(nest, future);
     if is_released {
         answers.truth(nest.take_future().is_some())?;
     }

@@ -21,9 +21,29 @@ pub(crate) trait BuildReader: Sized {
 #[derive(Drop)]
 pub(crate) enum Source {
     Marks(Marks),
-    Memory(Cursor<Vec<u8>>),
+    Memory(Memory),
     Empty(Empty),
     Repeat(Take<Repeat>),
+}
+
+/// A cursor that is pending so many times first, without a wake.
+#[derive(Drop)]
+pub(crate) struct Memory {
+    left: usize,
+    cursor: Cursor<Vec<u8>>,
+}
+
+impl Memory {
+    fn of(alloc: Global, left: usize, word: &str) -> Result<Source, Fault> {
+        let cursor = Cursor::new(bytes_of(alloc, word)?);
+        Ok(Source::Memory(Memory { left, cursor }))
+    }
+
+    fn is_pending(&mut self) -> bool {
+        let is_pending = self.left > 0;
+        self.left = self.left.saturating_sub(1);
+        is_pending
+    }
 }
 
 impl Tale for Source {
@@ -36,7 +56,12 @@ impl AsyncRead for Source {
     fn poll_read(&mut self, cx: &mut Context<'_>, buf: &mut [u8]) -> Poll<io::Result<usize>> {
         match self {
             Source::Marks(r) => r.poll_read(cx, buf),
-            Source::Memory(r) => r.poll_read(cx, buf),
+            Source::Memory(r) => {
+                if r.is_pending() {
+                    return Poll::Pending;
+                }
+                r.cursor.poll_read(cx, buf)
+            }
             Source::Empty(r) => r.poll_read(cx, buf),
             Source::Repeat(r) => r.poll_read(cx, buf),
         }
@@ -49,7 +74,12 @@ impl AsyncRead for Source {
     ) -> Poll<io::Result<usize>> {
         match self {
             Source::Marks(r) => r.poll_read_vectored(cx, bufs),
-            Source::Memory(r) => r.poll_read_vectored(cx, bufs),
+            Source::Memory(r) => {
+                if r.is_pending() {
+                    return Poll::Pending;
+                }
+                r.cursor.poll_read_vectored(cx, bufs)
+            }
             Source::Empty(r) => r.poll_read_vectored(cx, bufs),
             Source::Repeat(r) => r.poll_read_vectored(cx, bufs),
         }
@@ -69,7 +99,11 @@ impl BuildReader for Source {
             return Ok(Source::Marks(marks_of(alloc, rest)?));
         }
         match word {
-            "mem" => Ok(Source::Memory(Cursor::new(bytes_of(alloc, words.take()?)?))),
+            "mem" => Memory::of(alloc, 0, words.take()?),
+            "still" => {
+                let left = words.number()?;
+                Memory::of(alloc, left, words.take()?)
+            }
             "none" => Ok(Source::Empty(lite::empty())),
             "rep" => {
                 let n = words.number()? as u64;

@@ -1,14 +1,16 @@
 //! Modes that make each poll in a context of its own, and tell whether it woke its task.
 use crate::answers::Answers;
 use crate::case::Nest;
-use crate::future_nest;
 use crate::leaf::Build;
+use crate::readers::BuildReader;
 use crate::words::{Fault, Words};
+use crate::{future_nest, readers};
 use futures::task::{Solo, Source};
-use futures_lite::{Context, Future, Poll, Stream, StreamExt};
+use futures_lite::{AsyncReadExt, Context, Future, Poll, Stream, StreamExt};
 use std::alloc::{AllocError, Global};
+use std::io;
 
-/// Polls a stream, `drain` of it or `count` of it; a star stands before the answer of a poll that woke its task.
+/// Polls a stream, `drain` of it, `count` of it, or the bytes of a reader; a star stands before the answer of a poll that woke its task.
 pub(crate) fn of_stream(
     alloc: Global,
     solo: &Solo,
@@ -24,12 +26,25 @@ pub(crate) fn of_stream(
                 answers.size(n)?;
             }
         }
+        "bytes" => {
+            let number: fn(io::Result<u8>) -> i64 = number_of;
+            let mut numbers = readers::Nest::build(alloc, words)?.bytes().map(number);
+            polled(solo, &mut numbers, answers)?;
+        }
         _ => {
             words.words = ahead;
             polled(solo, &mut Nest::build(alloc, words)?, answers)?;
         }
     }
     Ok(())
+}
+
+/// A byte as a number; an error is -1.
+fn number_of(byte: io::Result<u8>) -> i64 {
+    match byte {
+        Ok(byte) => byte as i64,
+        Err(_) => -1,
+    }
 }
 
 fn polled<S: Stream<Item = i64>>(

@@ -30,6 +30,8 @@ pub(crate) struct Words<'a> {
     pub(crate) words: &'a [&'a str],
     /// How often each script is polled, where the mode tells it.
     pub(crate) counts: Option<Counts>,
+    /// Whether the futures and streams that a nest holds wake nothing where they are pending.
+    pub(crate) is_quiet: bool,
 }
 
 impl<'a> Words<'a> {

@@ -1,7 +1,9 @@
 mod asking;
+mod asleep;
 mod budgets;
 mod buffered;
 mod bytes;
+mod closing;
 mod cursors;
 mod fill_buf;
 mod methods;

@@ -1,5 +1,6 @@
 mod adapters;
 mod cycles;
+mod drops;
 mod examples;
 mod scarce;
 mod sources;

@@ -17,6 +17,15 @@ fn try_fold_stops_at_the_first_error(rt: HostRuntime) -> Result<(), Fail> {
 }
 
 #[test]
+fn try_next_gives_items_an_error_and_the_end(rt: HostRuntime) -> Result<(), Fail> {
+    let mut results = stream::iter_array([Ok(1u8), Ok(2), Err("error")]);
+    for expected in [Ok(Some(1)), Ok(Some(2)), Err("error"), Ok(None)] {
+        assert_eq!(rt; future::block_on(&rt, results.try_next())?, expected);
+    }
+    Ok(())
+}
+
+#[test]
 fn partition_parts_the_even_numbers(rt: HostRuntime) -> Result<(), Fail> {
     let numbers = stream::iter_array([1u8, 2, 3]);
     let parted: PartitionFuture<_, _, Vec<u8>> = numbers.partition(rt.alloc(), |x: &u8| {

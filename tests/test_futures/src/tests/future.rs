@@ -1,9 +1,13 @@
 ghost use Rattle.std.specs.Prelude.{IfSome};
+ghost use Rattle.futures_lite.specs.Own.{AnyValue, anything_future};
 
 use super::counting::Counting;
 use futures::task::{Doorbell, Solo};
 use futures_lite::future::{self, BlockOn, Fuse, Future};
 use futures_lite::{Context, Poll};
+use std::alloc::AllocGlobal;
+use std::io;
+use std::random::RandomSource;
 use std::sync::atomic::AtomicU64;
 use std::sync::atomic::Ordering::SeqCst;
 use std::test::Fail;
@@ -144,6 +148,59 @@ fn fuse_lets_its_future_go_with_its_value(rt: HostRuntime) -> Result<(), Fail> {
     assert_eq!(rt; drops.load(SeqCst), 1);
     assert_eq!(rt; poll_fused(&solo, &mut fuse), Poll::Pending);
     assert_eq!(rt; drops.load(SeqCst), 1);
+    Ok(())
+}
+
+/// A future that is ready at once, and counts its drop.
+#[derive(Drop)]
+struct Guarded<'a, T: Copy> {
+    value: T,
+    _guard: Guard<'a>,
+}
+
+impl<T: Copy> Future for Guarded<'_, T> {
+    type Output = T;
+
+    ghost run = { AnyValue };
+
+    ghost laws = { anything_future };
+
+    fn poll(&mut self, _cx: &mut Context<'_>) -> Poll<T> {
+        Poll::Ready(self.value)
+    }
+}
+
+fn guarded<T: Copy>(drops: &AtomicU64, value: T) -> Guarded<'_, T> {
+    Guarded {
+        value,
+        _guard: Guard { drops },
+    }
+}
+
+/// How many drops there were after one poll of the future, which is still there.
+fn dropped<R, F>(rt: &R, drops: &AtomicU64, mut future: F) -> io::Result<u64>
+where
+    R: RandomSource + AllocGlobal,
+    F: Future<Output: Drop> + Drop,
+    requires { F.can_poll future }
+{
+    drops.store(0, SeqCst);
+    let _answer = polled(rt, &mut future, 1)?;
+    Ok(drops.load(SeqCst))
+}
+
+#[test]
+fn zip_and_try_zip_let_each_future_go_with_its_value(rt: HostRuntime) -> Result<(), Fail> {
+    let drops = AtomicU64::new(0);
+    let never = future::pending::<Result<u8, u8>>;
+    let ready = || guarded(&drops, Ok::<u8, u8>(7));
+    let counts = [
+        dropped(&rt, &drops, future::zip(ready(), never()))?,
+        dropped(&rt, &drops, future::zip(never(), ready()))?,
+        dropped(&rt, &drops, future::try_zip(ready(), never()))?,
+        dropped(&rt, &drops, future::try_zip(never(), ready()))?,
+    ];
+    assert_eq!(rt; counts, [1, 1, 1, 1]);
     Ok(())
 }
 

@@ -1,5 +1,5 @@
 //! Each type that carries a mark is asked for it by the bound alone.
-use lite_base::future::make as future;
+use lite_base::future::{Either, Ready, YieldNow, make as future};
 use lite_base::{
     CalmFuture, CalmStream, Context, Counted, OkCounted, Poll, SteadyFuture, SteadyStream,
 };
@@ -70,6 +70,9 @@ fn futures_are_steady_and_calm(_rt: HostRuntime) -> Result<(), Fail> {
     let good: Result<u8, char> = Ok(1);
     let bad: Result<u16, char> = Err('a');
     calm_future(&future::try_zip(future::ready(good), future::ready(bad)));
+    let either: Either<Ready<()>, YieldNow> = Either::Right(future::yield_now());
+    both_future(&either);
+    calm_future(&future::with_budget(future::ready(1u8), 1));
     Ok(())
 }
 

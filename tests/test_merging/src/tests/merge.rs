@@ -51,6 +51,37 @@ fn or_polls_nothing_once_both_have_ended(rt: HostRuntime) -> Result<(), Fail> {
 }
 
 #[test]
+fn or_leaves_the_first_stream_behind_its_end(rt: HostRuntime) -> Result<(), Fail> {
+    let mut first = stream::script(vec![in rt.alloc(); Poll::Ready(None), item(5u8)]?);
+    let list = vec![in rt.alloc(); Poll::Pending, Poll::Pending, Poll::Ready(None)]?;
+    let got = answers(&rt, &mut (&mut first).or(stream::script(list)), 4)?;
+    let expected = [
+        Poll::Pending,
+        Poll::Pending,
+        Poll::Ready(None),
+        Poll::Ready(None),
+    ];
+    assert_eq!(rt; got.as_slice(), expected.as_slice());
+    assert_eq!(rt;
+        answers(&rt, &mut first, 1)?.as_slice(),
+        [item(5)].as_slice()
+    );
+    Ok(())
+}
+
+#[test]
+fn a_stream_that_ends_leaves_neither_future_nor_result(rt: HostRuntime) -> Result<(), Fail> {
+    let none = stream::iter(Vec::<u8>::new(rt.alloc()));
+    let mut ended = stream::stop_after_future(none, future::pending::<()>());
+    let got = answers(&rt, &mut ended, 1)?;
+    assert_eq!(rt; got.as_slice(), [Poll::Ready(None)].as_slice());
+    assert!(rt; ended.is_stopped());
+    assert!(rt; ended.take_future().is_none());
+    assert_eq!(rt; ended.take_result(), None);
+    Ok(())
+}
+
+#[test]
 fn a_stream_whose_future_was_taken_out_is_never_stopped(rt: HostRuntime) -> Result<(), Fail> {
     let mut numbers = stream::stop_after_future(stream::iter(1u8..4), future::pending::<()>());
     let got = answers(&rt, &mut numbers, 1)?;

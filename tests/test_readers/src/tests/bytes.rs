@@ -1,14 +1,16 @@
-ghost use Rattle.std.specs.Prelude.{◌≡◌};
+ghost use Rattle.std.specs.Prelude.{◌≡◌, ⊤};
 
 use super::polls::told;
-use futures::task::{Doorbell, Solo, Source};
+use futures::task::{Context, Doorbell, Solo, Source};
+use futures_lite::AsyncReadExt;
 use lite_base::{OkCounted, Poll, Stream};
+use lite_io_base::{AsyncRead, Takings, Tale};
 use lite_mock::Marks;
 use lite_read::make::{bytes, read_exact, read_to_end};
 use std::io;
 use std::io::ErrorKind;
 use std::test::Fail;
-use test_support::{Answered, answers, ranked, try_read_both};
+use test_support::{Answered, answers, is_woken, ranked, try_read_both};
 
 /// What the polls of a stream answer, errors by their kinds.
 fn spelled<S>(
@@ -66,6 +68,47 @@ fn an_interrupted_read_wakes_its_task(rt: HostRuntime) -> Result<(), Fail> {
         };
         assert_eq!(rt; is_woken, wakes);
     }
+    Ok(())
+}
+
+/// A reader that is pending for ever, and that nothing wakes.
+#[derive(Drop)]
+struct Still;
+
+impl Tale for Still {
+    ghost reads = { λ _ _ _. ⊤ };
+
+    ghost read_laws = { record { rests = λ x. tt; follows = λ x y z l m h k. tt } };
+}
+
+impl Takings for Still {
+    ghost writes = { λ _ _ _. ⊤ };
+
+    ghost write_laws = { record { rests = λ x. tt; follows = λ x y z l m h k. tt } };
+}
+
+impl AsyncRead for Still {
+    fn poll_read(&mut self, _cx: &mut Context<'_>, _buf: &mut [u8]) -> Poll<io::Result<usize>> {
+        Poll::Pending
+    }
+}
+
+/// Whether the next poll of the bytes of the reader is pending, and wakes nothing.
+fn waits_asleep<R: AsyncRead + Drop>(rt: &HostRuntime, reader: R) -> Result<bool, Fail> {
+    let solo = Solo::new(rt, Doorbell::spinning())?;
+    let source = Source::new();
+    let mut slot = None;
+    let mut cx = solo.begin();
+    let is_pending = bytes(reader).poll_next(&mut cx).is_pending();
+    let _: Poll<()> = cx.register(&source, &mut slot);
+    cx.park();
+    Ok(is_pending && !is_woken(&solo))
+}
+
+#[test]
+fn a_pending_read_wakes_nobody(rt: HostRuntime) -> Result<(), Fail> {
+    assert!(rt; waits_asleep(&rt, Still)?);
+    assert!(rt; waits_asleep(&rt, Still.with_budget(1))?);
     Ok(())
 }
 

@@ -128,6 +128,15 @@ fn skip_while_leaves_the_negative_ones_out(rt: HostRuntime) -> Result<(), Fail> 
     Ok(())
 }
 
+#[test]
+fn step_by_gives_every_second_number_of_a_range(rt: HostRuntime) -> Result<(), Fail> {
+    let mut numbers = stream::iter(0u8..5).step_by(2);
+    let got = answers(&rt, &mut numbers, 4)?;
+    let expected = [item(0), item(2), item(4), Poll::Ready(None)];
+    assert_eq!(rt; got.as_slice(), expected.as_slice());
+    Ok(())
+}
+
 /// The number of a copy, or that it was refused.
 fn told(copy: Result<Scarce<'_>, AllocError>) -> Result<u8, AllocError> {
     match copy {
