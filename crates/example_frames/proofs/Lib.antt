@@ -1,1 +1,3 @@
-pub mod Frames
+-- Lemmas of the proofs.
+mod Reading
+mod Back

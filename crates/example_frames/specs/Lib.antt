@@ -1,1 +1,3 @@
-pub mod Frames
+-- Frames there and back, and entries on a reader.
+pub mod Framing
+pub mod Entries

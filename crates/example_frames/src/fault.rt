@@ -1,42 +1,63 @@
 //! Why the program stops.
 
-use futures_lite::codec::{DecodeError, EncodeError};
+use crate::entries::EntryError;
+use framed::FrameError;
 use std::alloc::AllocError;
-use std::io;
+use std::{fmt, io};
 
 /// Why the program stopped.
 #[derive(Debug, Drop)]
-pub enum FrameError {
-    /// A frame was not read.
-    Decode(DecodeError),
-    /// A frame was not written.
-    Encode(EncodeError),
+pub enum Fault {
+    /// A frame was not read or not written.
+    Frame(FrameError),
+    /// An entry was not read.
+    Entry(EntryError),
     /// Standard input or output failed.
     Io(io::Error),
     /// Memory was refused.
     Memory,
 }
 
-impl From<DecodeError> for FrameError {
-    fn from(error: DecodeError) -> FrameError {
-        FrameError::Decode(error)
+impl fmt::Display for Fault {
+    fn fmt<W: fmt::Write>(&self, f: &mut fmt::Formatter<W>) -> fmt::Result {
+        match self {
+            Fault::Frame(FrameError::TooLong(length)) => write!(
+                f,
+                "a frame of {length} bytes is too long"
+            ),
+            Fault::Frame(FrameError::CutOff) => f.write_str("the input ended within a frame"),
+            // Lines alone are refused so.
+            Fault::Frame(FrameError::HasNewline(_) | FrameError::EndsInReturn) => {
+                f.write_str("a frame was refused")
+            }
+            Fault::Frame(FrameError::Io(e)) => fmt::Display::fmt(e, f),
+            Fault::Entry(_) => f.write_str("an entry was not read"),
+            Fault::Io(e) => fmt::Display::fmt(e, f),
+            Fault::Memory => f.write_str("out of memory"),
+        }
     }
 }
 
-impl From<EncodeError> for FrameError {
-    fn from(error: EncodeError) -> FrameError {
-        FrameError::Encode(error)
+impl From<FrameError> for Fault {
+    fn from(error: FrameError) -> Fault {
+        Fault::Frame(error)
     }
 }
 
-impl From<io::Error> for FrameError {
-    fn from(error: io::Error) -> FrameError {
-        FrameError::Io(error)
+impl From<EntryError> for Fault {
+    fn from(error: EntryError) -> Fault {
+        Fault::Entry(error)
     }
 }
 
-impl From<AllocError> for FrameError {
-    fn from(_: AllocError) -> FrameError {
-        FrameError::Memory
+impl From<io::Error> for Fault {
+    fn from(error: io::Error) -> Fault {
+        Fault::Io(error)
+    }
+}
+
+impl From<AllocError> for Fault {
+    fn from(_: AllocError) -> Fault {
+        Fault::Memory
     }
 }

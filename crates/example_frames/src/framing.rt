@@ -1,52 +1,114 @@
-//! Frames that are read and written, by the codec of the library.
-ghost use Rattle.std.specs.Prelude.{◌≡◌, ◌<◌, ◌++◌, [], List, IfOk, IsErr, length};
-ghost use Rattle.futures_lite.specs.Codecs.{AtValue, FrameOf, TooLong, ValueTold, as_item, framed};
-ghost use Rattle.futures_lite.specs.Marks.{ReadMark, WriteMark, bytes, bytes_taken};
-ghost use Rattle.futures_lite.specs.Readers.{ToldStripped};
-ghost use Rattle.futures_lite.specs.Writers.{TakesFront};
-ghost use Rattle.example_frames.specs.Frames.{ComesAsSent};
+//! Frames that are written and read.
+ghost use Rattle.std.specs.Prelude.{◌≡◌, ◌<◌, ◌++◌, ◌∷◌, [], IfOk, List, Ok, map, ℕ};
+ghost use Rattle.example_frames.specs.Framing.{ReadsBack};
+ghost use Rattle.futures_lite.specs.Marks.{ReadMark, bytes};
+ghost use Rattle.futures_lite.specs.Readers.{Knows, ToldStripped};
+ghost use Rattle.futures_lite.specs.Writers.{Stores};
+ghost use Rattle.tokio_util.specs.Codec.Whole.{ReadsAll};
+ghost use Rattle.framed.specs.Frames.{reading};
+ghost use Rattle.framed.specs.LengthDelimited.{FrameOf, gives_delimited};
+ghost use Rattle.framed.specs.Sending.{HandsBytes};
 
-use futures_lite::codec::{
-    DecodeError, EncodeError, LengthDelimited, Values, wait_value, wait_write_value,
-};
+use bytes::BytesMut;
+use framed::{FrameError, FramedRead, LengthDelimited, collect_frames, wait_send, wait_send_all};
 use futures_lite::future::BlockOn;
-use futures_lite::io::CountedRead;
-use futures_lite::{AsyncBufRead, AsyncWrite};
+use futures_lite::io::{AsyncBufRead, AsyncWrite, BufReader, CountedRead};
+use std::alloc::{AllocError, AllocGlobal};
 use std::sync::Wait;
 
-/// Waits for the next frame, and returns its payload, or `None` at an end of file before it. However the bytes come,
-/// and whenever the reader is pending, it is the payload that was sent.
-pub fn read_frame<R: Wait, S: AsyncBufRead + CountedRead>(
+/// Writes the frame of a text. If it is `Ok`, the writer took the length of the text in four bytes, and then the text.
+pub fn write_frame<R, O>(
     on: &mut BlockOn,
     rt: &R,
-    frames: &mut Values<S, LengthDelimited>,
-) -> Result<Option<Vec<u8>>, DecodeError>
-    requires counts { S.ranks.counts frames.old.reader }
-    requires at_value { AtValue FrameOf TooLong frames.old }
-    ensures told { (l : List ReadMark) × ToldStripped S.reads frames.old.reader l frames.new.reader
-        × ValueTold (FrameOf frames.old.codec) (TooLong frames.old.codec) frames.old.held.items l (as_item result)
-        frames.new.held.items
-        × ComesAsSent frames.old.codec (bytes frames.old.held.items ++ l) result }
-    ensures codec { frames.new.codec ≡ frames.old.codec }
-    ensures again { S.ranks.counts frames.new.reader }
-    ensures at_value { AtValue FrameOf TooLong frames.new }
+    writer: &mut O,
+    codec: &mut LengthDelimited,
+    text: &str,
+) -> Result<(), FrameError>
+where
+    R: Wait + AllocGlobal,
+    O: AsyncWrite,
+    ensures { IfOk result (λ u. (frame : List ℕ) × FrameOf codec.old text.now frame
+        × HandsBytes O.writes writer.old frame (Ok u) writer.new) }
 {
-    wait_value(on, rt, frames)
+    let mut out = BytesMut::new(rt.alloc());
+    wait_send(on, rt, writer, codec, text, &mut out)
 }
 
-/// Waits until the writer has accepted the frame of this payload, which is encoded into `bytes`. On an error it
-/// accepted a prefix of the frame, and nothing if the payload is above the limit.
-pub fn write_frame<R: Wait, W: AsyncWrite>(
+/// Returns all frames of a reader. They are those that its bytes have, up to the end of file.
+pub fn read_all<R, T>(
     on: &mut BlockOn,
     rt: &R,
-    writer: &mut W,
-    codec: &LengthDelimited,
-    payload: &Vec<u8>,
-    bytes: &mut Vec<u8>,
-) -> Result<(), EncodeError>
-    ensures { (took : List WriteMark) × TakesFront W.writes writer.old (framed payload.now.items) took writer.new
-        × IfOk result (λ _. bytes_taken took ≡ framed payload.now.items)
-        × (codec.now.max < length payload.now.items → IsErr result × (took ≡ [])) }
+    frames: &mut FramedRead<T, LengthDelimited>,
+) -> Result<Vec<BytesMut>, FrameError>
+where
+    R: Wait + AllocGlobal,
+    T: AsyncBufRead + CountedRead,
+    requires counts { T.ranks.counts frames.old.reader }
+    requires reading { frames.old.phase ≡ reading }
+    ensures { IfOk result (λ all. (xs : List ℕ)
+        × ToldStripped T.reads frames.old.reader (bytes xs ++ ReadMark.end ∷ []) frames.new.reader
+        × ReadsAll gives_delimited frames.old.decoder (frames.old.held ++ xs) (map Ok all.items)) }
 {
-    wait_write_value(on, rt, writer, codec, payload, bytes)
+    collect_frames(on, rt, frames)
+}
+
+/// Writes the frames of the texts to memory, and reads them back through a buffer of `room` bytes, which is above 0.
+///
+/// The frames that it returns are the texts, in order, wherever the buffer cuts them.
+pub fn send_and_read<R>(
+    on: &mut BlockOn,
+    rt: &R,
+    codec: LengthDelimited,
+    texts: Vec<&str>,
+    room: usize,
+) -> Result<Vec<BytesMut>, FrameError>
+where
+    R: Wait + AllocGlobal,
+    requires { 0 < room }
+    ensures { IfOk result (λ frames. map (λ f. f.items) frames.items ≡ map (λ t. t.now) texts.entry.items) }
+{
+    let mut sent = Vec::new(rt.alloc());
+    send_texts(on, rt, &mut sent, codec, texts)?;
+    match BufReader::with_capacity(rt.alloc(), room, sent.as_slice()) {
+        Ok(reader) => read_known(on, rt, reader, codec),
+        Err(_) => Err(FrameError::from(AllocError)),
+    }
+}
+
+// Writes the frames of the texts to a writer whose bytes are known.
+fn send_texts<R, O>(
+    on: &mut BlockOn,
+    rt: &R,
+    writer: &mut O,
+    codec: LengthDelimited,
+    texts: Vec<&str>,
+) -> Result<(), FrameError>
+where
+    R: Wait + AllocGlobal,
+    O: AsyncWrite,
+    requires { Stores O.writes O.stored writer.old }
+    ensures { IfOk result (λ _. (xs : List ℕ) × (O.stored.kept writer.new ≡ O.stored.kept writer.old ++ xs)
+        × ReadsBack codec texts.entry.items xs) }
+{
+    let mut encoder = codec;
+    let mut out = BytesMut::new(rt.alloc());
+    wait_send_all(on, rt, writer, &mut encoder, texts, &mut out)
+}
+
+// Reads all frames of a reader whose bytes are known.
+fn read_known<R, T>(
+    on: &mut BlockOn,
+    rt: &R,
+    reader: T,
+    codec: LengthDelimited,
+) -> Result<Vec<BytesMut>, FrameError>
+where
+    R: Wait + AllocGlobal,
+    T: AsyncBufRead + CountedRead + Drop,
+    requires counts { T.ranks.counts reader }
+    requires knows { Knows T.reads T.known reader }
+    ensures { IfOk result (λ all. ReadsAll gives_delimited codec (T.known.left reader) (map Ok all.items)) }
+{
+    let mut frames = FramedRead::new(rt.alloc(), reader, codec);
+    read_all(on, rt, &mut frames)
 }

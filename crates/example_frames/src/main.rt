@@ -1,72 +1,99 @@
-//! Frames over any reader and writer: a length in four bytes, the highest first, and then so many bytes.
+//! Frames on any reader and writer: a length in four bytes, the highest first, and then so many bytes.
 //!
 //! It writes what standard input has to memory, a frame for each line. It reads the frames back through a small
-//! buffer, and prints the payloads. Then it prints what reading says of a frame that is cut off, and of one that is
-//! too long.
+//! buffer, and prints them. Then it prints what reading says of a frame that is cut off, and of one that is too long.
+//! Last it sends texts there and back, and lists an archive whose entries have a name in a line and a body behind it.
 #![tactic(auto)]
 
+mod entries;
 mod fault;
 mod framing;
 
-use fault::FrameError;
-use framing::{read_frame, write_frame};
-use futures_lite::codec::{DecodeError, LengthDelimited, values};
+use entries::read_entries;
+use fault::Fault;
+use framed::{FrameError, FramedRead, LengthDelimited};
+use framing::{read_all, send_and_read, write_frame};
 use futures_lite::future::BlockOn;
 use futures_lite::io::{BufReader, Cursor};
 use std::alloc::AllocGlobal;
 use std::io::BufRead;
+use std::process::ExitCode;
 use std::random::RandomSource;
 use std::sync::Wait;
 
-/// Payloads have at most so many bytes.
+/// Frames have at most so many bytes.
 const LIMIT: u32 = 1 << 16;
 
-fn main(rt: HostRuntime) -> Result<(), FrameError> {
-    there_and_back(&rt, &rt)
+fn main(rt: HostRuntime) -> ExitCode {
+    match there_and_back(&rt, &rt) {
+        Ok(()) => ExitCode::from(0),
+        Err(e) => {
+            let _ = eprintln!(rt; "example_frames: {e}");
+            ExitCode::from(1)
+        }
+    }
 }
 
 /// Writes the lines as frames, and prints what is read of them. `rt` is the host as one that may wait.
-fn there_and_back<R>(host: &HostRuntime, rt: &R) -> Result<(), FrameError>
+fn there_and_back<R>(host: &HostRuntime, rt: &R) -> Result<(), Fault>
 where
     R: Wait + RandomSource + AllocGlobal,
 {
     let mut on = BlockOn::new(rt)?;
-    let (mut sent, mut bytes) = (Cursor::new(Vec::new(rt.alloc())), Vec::new(rt.alloc()));
-    let codec = LengthDelimited { max: LIMIT };
+    let mut sent = Cursor::new(Vec::new(rt.alloc()));
+    let mut codec = LengthDelimited { max: LIMIT };
     for line in std::io::BufReader::new(rt.alloc(), host.stdin())?.lines(rt.alloc()) {
-        let payload = line?.into_bytes();
-        write_frame(&mut on, rt, &mut sent, &codec, &payload, &mut bytes)?;
+        write_frame(&mut on, rt, &mut sent, &mut codec, line?.as_str())?;
     }
     show(host, rt, &mut on, &sent.into_inner())?;
     let long = (2 * LIMIT).to_be_bytes();
     for bytes in [b"\0\0\0\x05cut".as_slice(), long.as_slice()] {
         match show(host, rt, &mut on, bytes) {
-            Err(FrameError::Decode(DecodeError::Truncated)) => {
-                println!(host; "it ended within a frame")?
-            }
-            Err(FrameError::Decode(DecodeError::Malformed)) => {
-                println!(host; "a payload of {} bytes", 2 * LIMIT)?
+            Err(Fault::Frame(FrameError::CutOff)) => println!(host; "it ended within a frame")?,
+            Err(Fault::Frame(FrameError::TooLong(length))) => {
+                println!(host; "a frame of {length} bytes")?
             }
             shown => shown?,
         }
     }
-    Ok(())
+    let Ok(texts) = vec![in rt.alloc(); "four", "", "eleven"] else {
+        return Err(Fault::Memory);
+    };
+    for frame in send_and_read(&mut on, rt, codec, texts, 3)? {
+        println!(host; "{} bytes", frame.len())?;
+    }
+    list(host, rt, &mut on, b"one\n\0\0\0\x03abctwo\n\0\0\0\0")
 }
 
-/// Prints the payload of each frame of the bytes, which come three at a time.
-fn show<R>(host: &HostRuntime, rt: &R, on: &mut BlockOn, bytes: &[u8]) -> Result<(), FrameError>
+/// Prints the names of an archive's entries, and how long their bodies are. The bytes come three at a time.
+fn list<R>(host: &HostRuntime, rt: &R, on: &mut BlockOn, bytes: &[u8]) -> Result<(), Fault>
 where
     R: Wait + RandomSource + AllocGlobal,
 {
     let Ok(reader) = BufReader::with_capacity(rt.alloc(), 3, bytes) else {
-        return Err(FrameError::Memory);
+        return Err(Fault::Memory);
     };
-    let mut frames = values(rt.alloc(), reader, LengthDelimited { max: LIMIT });
-    for _ in rt.forever() {
-        match read_frame(on, rt, &mut frames)? {
-            Some(payload) => println!(host; "{}", String::from_utf8_lossy(rt.alloc(), &payload)?)?,
-            None => break,
-        }
+    let (entries, _) = read_entries(on, rt, reader);
+    for entry in entries? {
+        println!(host; "{}: {} bytes", entry.name, entry.body.len())?;
+    }
+    Ok(())
+}
+
+/// Prints each frame of the bytes, which come three at a time.
+fn show<R>(host: &HostRuntime, rt: &R, on: &mut BlockOn, bytes: &[u8]) -> Result<(), Fault>
+where
+    R: Wait + RandomSource + AllocGlobal,
+{
+    let Ok(reader) = BufReader::with_capacity(rt.alloc(), 3, bytes) else {
+        return Err(Fault::Memory);
+    };
+    let mut frames = FramedRead::new(rt.alloc(), reader, LengthDelimited { max: LIMIT });
+    for frame in read_all(on, rt, &mut frames)? {
+        println!(host;
+            "{}",
+            String::from_utf8_lossy(rt.alloc(), frame.as_slice())?
+        )?;
     }
     Ok(())
 }

@@ -2,7 +2,6 @@
 -- `Rattle.futures_lite.specs.Answers.{item}`.
 pub mod Answers
 pub mod Calls
-pub mod Codecs
 pub mod Contexts
 pub mod Copies
 pub mod Families

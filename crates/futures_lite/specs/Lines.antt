@@ -5,7 +5,3 @@ pub use Rattle.lite_read.specs.Segments.{PieceSegments, Segmented, StreamOver}
 pub use Rattle.lite_read.specs.LineText.{IsText, without_return}
 pub use Rattle.lite_theorems.specs.Lines.{AtEachValue, CollectsLines, CollectsOf, Line, StandsFor, as_lines, limited}
 pub use Rattle.lite_theorems.specs.Lines.{lines_told}
--- what a server of lines was told and wrote
-pub use Rattle.lite_theorems.specs.Services.{AllWritten, Replies, RepliesBy, ServesBy}
-pub use Rattle.lite_theorems.specs.Serving.{RefusedLine, ServedLines, Serving, ServingEnds, Stopped, reply_in}
-pub use Rattle.lite_theorems.specs.Laws.Serving.{replies_by, serves_by, steps_from}

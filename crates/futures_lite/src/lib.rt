@@ -1,11 +1,10 @@
 //! Combinators for futures, streams and byte I/O: the library as its users see it.
 //!
 //! The modules `future`, `stream` and `io` have the futures, streams, readers and writers, under the names of
-//! futures-lite. `codec` has values on byte streams. `laws` has functions that record runs, and laws. The
-//! traits are exported here too, and `prelude` exports them all.
+//! futures-lite. `laws` has functions that record runs, and laws. The traits are exported here too, and
+//! `prelude` exports them all.
 #![tactic(auto)]
 
-pub mod codec;
 pub mod future;
 pub mod io;
 pub mod laws;

@@ -7,9 +7,7 @@ pub mod Anything
 pub mod Handing
 pub mod Readers
 pub mod Reading
-pub mod Serving
 pub mod Streams
 pub mod Taken
 pub mod Told
-pub mod ValueWriter
 pub mod Writers

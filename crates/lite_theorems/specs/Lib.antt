@@ -9,11 +9,6 @@ pub mod Laws
 pub mod Lines
 pub mod Readers
 pub mod Reading
-pub mod Services
-pub mod Serving
-pub mod ServingValues
 pub mod Streams
 pub mod Told
 pub mod Uses
-pub mod ValueWriter
-pub mod Values

@@ -114,10 +114,6 @@ pub use Rattle.std.specs.declared.string.String.{String}
 pub use Rattle.std.specs.declared.vec.Vec.{Vec}
 pub use denote.MutBor.{MutBor}
 pub use denote.Ref.{Bor}
-pub use Rattle.lite_codec.specs.Codec.{CodecLaws, Undecided}
-pub use Rattle.lite_codec.specs.Values.{AtValue, Decodes, YieldsValue, decoding}
-pub use Rattle.lite_codec.specs.Laws.Values.{value_again}
-pub use Rattle.lite_codec.specs.declared.values.Values.{Values}
 pub use Rattle.lite_consume.specs.Next.{nexts}
 pub use Rattle.lite_consume.specs.declared.next.Next.{Next}
 pub use Rattle.std.specs.Option.{option_transpose}

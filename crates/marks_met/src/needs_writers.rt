@@ -14,7 +14,6 @@ use lite_buffered::{Budgeted, BufReader, BufWriter};
 use lite_halves::Journal;
 use lite_io_base::{AsyncSeek, AsyncWrite, CountedRead, SteadyRead, Tale};
 use lite_read::SeekFuture;
-use lite_theorems::WriteValueFuture;
 use lite_write::{
     CloseFuture, CopyFuture, FlushFuture, WriteAllFuture, WriteFuture, WriteVectoredFuture,
 };
@@ -67,7 +66,6 @@ pub fn written<'a, W>(
     write: &WriteFuture<'a, W>,
     write_vectored: &WriteVectoredFuture<'a, W>,
     write_all: &WriteAllFuture<'a, W>,
-    write_value: &WriteValueFuture<'a, W>,
     flush: &FlushFuture<'a, W>,
     close: &CloseFuture<'a, W>,
 )
@@ -79,9 +77,6 @@ where
     ensures write_all { TellsAll (W.write_registers write_all.now.writer.now)
         (⟦<WriteAllFuture<'a, W> as Future>⟧.registers write_all.now)
         × (NoneFails W.writes → ⟦<WriteAllFuture<'a, W> as SteadyFuture>⟧.needs_none) }
-    ensures write_value { TellsAll (W.write_registers write_value.now.writing.writer.now)
-        (⟦<WriteValueFuture<'a, W> as Future>⟧.registers write_value.now)
-        × (NoneFails W.writes → ⟦<WriteValueFuture<'a, W> as SteadyFuture>⟧.needs_none) }
     ensures flush { TellsAll (W.write_registers flush.now.writer.now) (⟦<FlushFuture<'a, W> as Future>⟧.registers flush.now)
         × (NoneFails W.writes → ⟦<FlushFuture<'a, W> as SteadyFuture>⟧.needs_none) }
     ensures close { TellsAll (W.write_registers close.now.writer.now) (⟦<CloseFuture<'a, W> as Future>⟧.registers close.now)

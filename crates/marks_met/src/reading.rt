@@ -3,7 +3,6 @@ ghost use Rattle.std.specs.Prelude.{◌≡◌, [], Some, false, true, length};
 ghost use Rattle.lite_write.specs.Parts.{NothingCopied, source_of};
 
 use lite_base::{CalmFuture, CalmStream, SteadyFuture, SteadyStream};
-use lite_codec::{Codec, Values};
 use lite_io_base::{AsyncBufRead, AsyncWrite, CalmRead, CalmWrite, CountedRead, SteadyRead};
 use lite_read::{
     Bytes, FillBuf, Lines, ReadExactFuture, ReadFuture, ReadLineFuture, ReadToEndFuture,
@@ -88,19 +87,6 @@ where
     ensures split { ⟦<Split<R> as SteadyStream>⟧.alike v.now w.now }
     ensures lines_calm { ⟦<Lines<R> as CalmStream>⟧.is_calm x.now }
     ensures split_calm { ⟦<Split<R> as CalmStream>⟧.is_calm v.now }
-{}
-
-/// Streams of values of one codec over alike readers are alike, and over calm ones calm.
-pub fn values_have_marks<R, C>(x: &Values<R, C>, y: &Values<R, C>)
-where
-    R: SteadyRead + CalmRead + CountedRead + AsyncBufRead,
-    C: Codec,
-    requires alike { R.alike x.now.reader y.now.reader }
-    requires no_value { (x.now.held.items ≡ []) × (y.now.held.items ≡ []) }
-    requires codec { x.now.codec ≡ y.now.codec }
-    requires is_calm { R.is_calm x.now.reader }
-    ensures alike { ⟦<Values<R, C> as SteadyStream>⟧.alike x.now y.now }
-    ensures is_calm { ⟦<Values<R, C> as CalmStream>⟧.is_calm x.now }
 {}
 
 /// Copies of alike readers that have not begun are alike, whatever their writers are. One of a calm reader to a calm writer

@@ -2,7 +2,6 @@
 ghost use Rattle.std.specs.Prelude.{◌≡◌, [], Some};
 ghost use Rattle.lite_buffered.specs.BufWriter.{buffered, writer_inner};
 ghost use Rattle.lite_buffered.specs.BufReader.{reader_inner as read_from};
-ghost use Rattle.lite_theorems.specs.declared.value_writer.Encoding.TheVariants.{Done};
 
 use lite_base::{CalmFuture, SteadyFuture};
 use lite_bridge::{AssertAsync, Cursor};
@@ -10,7 +9,6 @@ use lite_buffered::{Budgeted, BufReader, BufWriter};
 use lite_halves::Journal;
 use lite_io_base::{AsyncWrite, CalmWrite, IoSlice, SteadyWrite, Tale};
 use lite_mock::Takes;
-use lite_theorems::WriteValueFuture;
 use lite_write::{
     CloseFuture, FlushFuture, Sink, WriteAllFuture, WriteFuture, WriteVectoredFuture,
 };
@@ -92,14 +90,9 @@ where
     ensures flush { ⟦<FlushFuture<'a, W> as SteadyFuture>⟧.alike (record { writer = x.now }) (record { writer = y.now }) }
     ensures write_all { ⟦<WriteAllFuture<'a, W> as SteadyFuture>⟧.alike
         (record { writer = x.now; buf = bytes.entry }) (record { writer = y.now; buf = bytes.entry }) }
-    ensures write_value { ⟦<WriteValueFuture<'a, W> as SteadyFuture>⟧.alike
-        (record { encoding = Done; writing = record { writer = x.now; buf = bytes.entry } })
-        (record { encoding = Done; writing = record { writer = y.now; buf = bytes.entry } }) }
     ensures close_calm { ⟦<CloseFuture<'a, W> as CalmFuture>⟧.is_calm (record { writer = x.now }) }
     ensures flush_calm { ⟦<FlushFuture<'a, W> as CalmFuture>⟧.is_calm (record { writer = x.now }) }
     ensures write_all_calm { ⟦<WriteAllFuture<'a, W> as CalmFuture>⟧.is_calm (record { writer = x.now; buf = bytes.entry }) }
-    ensures write_value_calm { ⟦<WriteValueFuture<'a, W> as CalmFuture>⟧.is_calm
-        (record { encoding = Done; writing = record { writer = x.now; buf = bytes.entry } }) }
     ensures write_calm { ⟦<WriteFuture<'a, W> as CalmFuture>⟧.is_calm (record { writer = x.now; buf = bytes.entry }) }
     ensures write_vectored { ⟦<WriteVectoredFuture<'a, W> as CalmFuture>⟧.is_calm (record { writer = x.now; bufs = bufs.entry }) }
 {}

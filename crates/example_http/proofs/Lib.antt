@@ -1,0 +1,5 @@
+pub mod Receiving
+pub mod Steps
+pub mod Sums
+pub mod Talks
+pub mod Waits

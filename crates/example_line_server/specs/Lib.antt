@@ -1,4 +1,0 @@
-pub mod Request
-pub mod Service
-pub mod Serving
-pub mod Store

@@ -1,0 +1,12 @@
+use Rattle.std.proofs.Common.{◌∙◌, ◌-◌, ap, sym, cond, length}
+use Rattle.std.specs.Option.{is_some}
+use Rattle.example_lines.proofs.Kept.{changed, is_some-option_map, less, same_values}
+use Rattle.example_lines.proofs.store.Store.delete.Goals as goal
+
+pub returns-clause-gone : goal.returns-clause-gone
+returns-clause-gone c =
+    same_values _ _ _ _
+    (changed (λ k. k.items) (λ value. value.items) c.args.self.now.values c.remove.new.self c.args.key.now _
+    c.remove.ensures.updates)
+    (less _ _ _ c.remove.ensures.len
+    ∙ ap (λ b. length c.args.self.now.values.entries - cond b 1 0) (ap is_some c.remove.ensures.value ∙ sym (is_some-option_map (λ v. v.items) _)))

@@ -1,0 +1,4 @@
+pub mod Request
+pub mod Store
+pub mod Service
+pub mod Session

@@ -1,0 +1,64 @@
+//! A server of keys and values: each line of standard input is answered by a line of standard output.
+//!
+//! Its requests are `SET key value`, `GET key`, `DEL key`, `COUNT` and `QUIT`. A line that is cut off by the end of the input
+//! is not performed. That, or a line that is too long, is answered with an error, and ends the session.
+//!
+//! Behind `socat TCP-LISTEN:7000,fork,nodelay EXEC:out/example_lines` each connection of the network has a process and a store
+//! of its own. An error is one line on standard error, and the status 1.
+#![tactic(auto)]
+
+mod fault;
+mod request;
+mod session;
+mod store;
+#[cfg(test)]
+mod tests;
+
+use fault::Fault;
+use framed::{FramedRead, LineDelimited};
+use futures_lite::AsyncReadExt;
+use futures_lite::future::BlockOn;
+use futures_lite::io::{AssertAsync, BufReader, BufWriter};
+use session::serve_session;
+use std::alloc::AllocGlobal;
+use std::process::ExitCode;
+use std::random::RandomSource;
+use std::sync::Wait;
+
+/// How many bytes are read in a row before the program yields.
+const BYTES: usize = 1 << 16;
+
+/// How many bytes a line has at most.
+const LIMIT: usize = 1 << 16;
+
+fn main(rt: HostRuntime) -> ExitCode {
+    match serve_standard(&rt, &rt) {
+        Ok(()) => ExitCode::from(0),
+        Err(e) => {
+            let _ = eprintln!(rt; "example_lines: {e}");
+            ExitCode::from(1)
+        }
+    }
+}
+
+/// Serves standard input. `rt` is the host as one that may wait.
+fn serve_standard<R>(host: &HostRuntime, rt: &R) -> Result<(), Fault>
+where
+    R: Wait + RandomSource + AllocGlobal,
+{
+    let Ok(mut on) = BlockOn::new(rt) else {
+        return Err(Fault::Memory);
+    };
+    let input = AssertAsync::new(host.stdin()).with_budget(BYTES);
+    let Ok(reader) = BufReader::new(rt.alloc(), input) else {
+        return Err(Fault::Memory);
+    };
+    let Ok(mut writer) = BufWriter::new(rt.alloc(), AssertAsync::new(host.stdout())) else {
+        return Err(Fault::Memory);
+    };
+    let mut requests = FramedRead::new(rt.alloc(), reader, LineDelimited { max: LIMIT });
+    match serve_session(&mut on, rt, &mut requests, &mut writer) {
+        Ok(()) => Ok(()),
+        Err(e) => Err(Fault::Served(e)),
+    }
+}

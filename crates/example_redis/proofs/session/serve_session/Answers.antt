@@ -1,0 +1,10 @@
+use Rattle.example_redis.specs.Laws.Session.{session_of}
+use Rattle.example_redis.proofs.session.serve_session.Goals as goal
+
+pub returns : goal.returns
+returns g c =
+    record {
+      ends = c.serve.ensures.served;
+      whole = session_of g.T.AsyncBufRead.lent g.T.Tale.read_laws g.O.Takings.write_laws _ _ c.serve.result
+          c.requires.fresh c.serve.ensures.served;
+    }

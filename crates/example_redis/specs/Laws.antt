@@ -1,0 +1,11 @@
+pub mod Numbers
+pub mod Words
+pub mod Prompt
+pub mod Requests
+pub mod Taking
+pub mod Decoding
+pub mod Lines
+pub mod Replies
+pub mod Commands
+pub mod Sendable
+pub mod Session

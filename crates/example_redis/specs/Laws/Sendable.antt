@@ -1,0 +1,133 @@
+-- What the commands say can be encoded.
+use Rattle.std.specs.Prelude.{◌≡◌, ◌≢◌, ◌≤◌, ◌||◌, ◌==◌, ℕ, zero, suc, Bool, true, false, List, []}
+use Rattle.std.specs.Prelude.{◌∷◌, ◌++◌, Option, Some, None, codes, if◌then◌else◌, map, take, ⊤}
+use Rattle.std.specs.Char.{to_ascii_lowercase}
+use Rattle.std.proofs.Common.{◌∙◌, arith, refl, subst, sym}
+use Rattle.std.proofs.lemmas.Bool.{eq-eqb}
+use Rattle.example_redis.specs.Commands.{Said, answer, found, one_line, perform, said, shown_name, unknown_said, verb, verb_name, wrong_count}
+use Rattle.example_redis.specs.Replies.{HaveLines, IsEncodable, IsOneLine, count, greatest_depth}
+use Rattle.example_redis.specs.Store.{HeldValues}
+use Rattle.example_redis.specs.declared.reply.Reply.{Reply, Row_of-Reply, end_of-Reply, more_of-Reply}
+use Rattle.example_redis.specs.declared.reply.Reply.TheVariants.{Simple, Error, Integer, Bulk, Null, Array'}
+use Rattle.example_redis.specs.declared.verb.Verb.{Verb}
+use Rattle.example_redis.specs.declared.verb.Verb.TheVariants.{Delete, Describe, Echo, Get, Ping, Quit, Set, Size, Unknown}
+
+-- Whether a text has no carriage return and no line feed.
+abbrev is_line : List ℕ → Bool
+is_line [] = true
+is_line (b ∷ text) = if b == 13 || b == 10 then false else is_line text
+
+neither : (p q rest : Bool) → (if p || q then false else rest) ≡ true → (p ≡ false) × (q ≡ false) × (rest ≡ true)
+neither true q rest e = absurd (cc e)
+neither false true rest e = absurd (cc e)
+neither false false rest e = (refl, refl, e)
+
+differs : (b n : ℕ) → (b == n) ≡ false → b ≢ n
+differs b n other e = absurd (cc (sym other ∙ eq-eqb b n e))
+
+line_by_test : (text : List ℕ) → is_line text ≡ true → IsOneLine text
+line_by_test [] e k d inside = absurd (omega (arith, inside))
+line_by_test (b ∷ text) e zero d inside =
+    let parts = neither (b == 13) (b == 10) (is_line text) e in
+    (differs b 13 parts.0, differs b 10 parts.1)
+line_by_test (b ∷ text) e (suc k) d inside =
+    line_by_test text (neither (b == 13) (b == 10) (is_line text) e).2 k d (omega (arith, inside))
+
+line_joined : (p q : Bool) (rest : Bool) → p ≡ false → q ≡ false → rest ≡ true → (if p || q then false else rest) ≡ true
+line_joined true q rest p other e = absurd (cc p)
+line_joined false true rest p other e = absurd (cc other)
+line_joined false false rest p other e = e
+
+line_append : (a b : List ℕ) → is_line a ≡ true → is_line b ≡ true → is_line (a ++ b) ≡ true
+line_append [] b e h = h
+line_append (x ∷ a) b e h =
+    let parts = neither (x == 13) (x == 10) (is_line a) e in
+    line_joined (x == 13) (x == 10) (is_line (a ++ b)) parts.0 parts.1 (line_append a b parts.2 h)
+
+shown : (p q : Bool) (b : ℕ) → (b == 13) ≡ p → (b == 10) ≡ q
+    → (((if p || q then 32 else b) == 13) ≡ false) × (((if p || q then 32 else b) == 10) ≡ false)
+shown true q b e h = (refl, refl)
+shown false true b e h = (refl, refl)
+shown false false b e h = (e, h)
+
+one_line_is : (text : List ℕ) → is_line (one_line text) ≡ true
+one_line_is [] = refl
+one_line_is (b ∷ text) =
+    let clean = shown (b == 13) (b == 10) b refl refl in
+    line_joined _ _ (is_line (one_line text)) clean.0 clean.1 (one_line_is text)
+
+-- What is said is lines where it has to be, and no array but an empty one.
+abbrev IsPlainText : Said → Type 0
+IsPlainText (Said.simple text) = IsOneLine text
+IsPlainText (Said.wrong text) = IsOneLine text
+IsPlainText (Said.array n) = n ≡ 0
+IsPlainText _ = ⊤
+
+plain_found : (o : Option (List ℕ)) → IsPlainText (found o)
+plain_found None = tt
+plain_found (Some value) = tt
+
+name_is_line : (v : Verb) → is_line (verb_name v) ≡ true
+name_is_line Ping = refl
+name_is_line Echo = refl
+name_is_line Set = refl
+name_is_line Get = refl
+name_is_line Delete = refl
+name_is_line Size = refl
+name_is_line Describe = refl
+name_is_line Quit = refl
+name_is_line Unknown = refl
+
+-- A text between two others.
+between : (a text b : List ℕ) → is_line a ≡ true → is_line text ≡ true → is_line b ≡ true → IsOneLine (a ++ text ++ b)
+between a text b before here behind = line_by_test (a ++ text ++ b) (line_append (a ++ text) b (line_append a text before here) behind)
+
+plain_wrong : (v : Verb) → IsPlainText (wrong_count v)
+plain_wrong v = between (codes "ERR wrong number of arguments for '") (verb_name v) (codes "' command") refl (name_is_line v) refl
+
+plain_unknown : (name : List ℕ) → IsPlainText (unknown_said name)
+plain_unknown name = between (codes "ERR unknown command '") (shown_name name) (codes "'") refl (one_line_is (take 128 name)) refl
+
+plain_answer : (h : HeldValues) (name : List ℕ) (v : Verb) (ws : List (List ℕ)) → IsPlainText (answer h name v ws).0
+plain_answer h name Ping [] = line_by_test (codes "PONG") refl
+plain_answer h name Ping (a ∷ []) = tt
+plain_answer h name Ping (a ∷ b ∷ ws) = plain_wrong Ping
+plain_answer h name Echo [] = plain_wrong Echo
+plain_answer h name Echo (a ∷ []) = tt
+plain_answer h name Echo (a ∷ b ∷ ws) = plain_wrong Echo
+plain_answer h name Set [] = plain_wrong Set
+plain_answer h name Set (a ∷ []) = plain_wrong Set
+plain_answer h name Set (a ∷ b ∷ []) = line_by_test (codes "OK") refl
+plain_answer h name Set (a ∷ b ∷ d ∷ ws) = line_by_test (codes "ERR syntax error") refl
+plain_answer h name Get [] = plain_wrong Get
+plain_answer h name Get (a ∷ []) = plain_found (h.at a)
+plain_answer h name Get (a ∷ b ∷ ws) = plain_wrong Get
+plain_answer h name Delete [] = plain_wrong Delete
+plain_answer h name Delete (a ∷ ws) = tt
+plain_answer h name Size [] = tt
+plain_answer h name Size (a ∷ ws) = plain_wrong Size
+plain_answer h name Describe ws = refl
+plain_answer h name Quit ws = line_by_test (codes "OK") refl
+plain_answer h name Unknown ws = plain_unknown name
+
+plain_done : (h : HeldValues) (words : List (List ℕ)) → IsPlainText (perform h words).0
+plain_done h [] = tt
+plain_done h (name ∷ words) = plain_answer h name (verb (map to_ascii_lowercase name)) words
+
+no_replies : {m : _} (all : Row_of-Reply m) → count all ≡ 0 → (greatest_depth all ≤ 0) × HaveLines all
+no_replies end_of-Reply none = (omega arith, tt)
+no_replies (more_of-Reply reply rest) none = absurd (omega (arith, none))
+
+plain_encodable : (reply : Reply) → IsPlainText (said (Some reply)) → IsEncodable 1 reply
+plain_encodable (Simple text) line = (omega arith, line)
+plain_encodable (Error text) line = (omega arith, line)
+plain_encodable (Integer n) line = (omega arith, tt)
+plain_encodable (Bulk bytes) line = (omega arith, tt)
+plain_encodable Null line = (omega arith, tt)
+plain_encodable (Array' shape all) none =
+    let empty = no_replies all none in
+    (omega (arith, empty.0), empty.1)
+
+-- An encoder that allows an array refuses no reply of the commands.
+pub replies_encodable : (h : HeldValues) (words : List (List ℕ)) (reply : Reply) → said (Some reply) ≡ (perform h words).0 → IsEncodable 1 reply
+replies_encodable h words reply is = plain_encodable reply (subst IsPlainText (sym is) (plain_done h words))

@@ -1,0 +1,10 @@
+pub mod Bytes
+pub mod Reading
+pub mod Requests
+pub mod Service
+pub mod Session
+pub mod Taking
+pub mod Replies
+pub mod Store
+pub mod Commands
+pub mod Laws

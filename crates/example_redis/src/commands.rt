@@ -1,0 +1,196 @@
+//! What is done with a request.
+ghost use Rattle.std.specs.Prelude.{◌≡◌, ℕ, List, IfOk, true};
+ghost use Rattle.example_redis.specs.Commands.{IsDone, Said, answer, one_line, perform, said, texts, unknown_said, wrong_count};
+ghost use Rattle.example_redis.specs.Replies.{IsEncodable};
+ghost use Rattle.example_redis.specs.Store.{HeldValues, held};
+ghost use Rattle.example_redis.specs.declared.verb.Verb.TheVariants.{Delete, Echo, Get, Ping, Set, Size};
+
+use crate::reply::Reply;
+use crate::store::Store;
+use crate::verb::Verb;
+use std::alloc::{AllocError, Global};
+
+/// How much of an unknown command's name is shown.
+const SHOWN: usize = 128;
+
+/// What came of a request.
+#[derive(Debug, Drop)]
+pub struct Outcome {
+    /// The reply. A request without words has none.
+    pub reply: Option<Reply>,
+    /// Whether the session goes on.
+    pub goes_on: bool,
+}
+
+impl Store {
+    /// Does what the words of a request ask for.
+    ///
+    /// # Errors
+    ///
+    /// An allocation failed; what is held stays as it was.
+    pub fn perform(&mut self, words: &[Vec<u8>]) -> Result<Outcome, AllocError>
+        ensures { IsDone (held self.old) (perform (held self.old) (texts words.now)) result (held self.new) }
+    {
+        if words.is_empty() {
+            return Ok(Outcome {
+                reply: None,
+                goes_on: true,
+            });
+        }
+        let name = words[0].as_slice();
+        let verb = Verb::parse(self.alloc(), name)?;
+        self.answer(name, verb, &words[1..])
+    }
+
+    // Does what a command asks for, with the words behind it.
+    fn answer(&mut self, name: &[u8], verb: Verb, words: &[Vec<u8>]) -> Result<Outcome, AllocError>
+        ensures { IsDone (held self.old) (answer (held self.old) name.now verb (texts words.now)) result (held self.new) }
+    {
+        match verb {
+            Verb::Ping => ping(self.alloc(), words),
+            Verb::Echo => echo(self.alloc(), words),
+            Verb::Set => self.answer_set(words),
+            Verb::Get => self.answer_get(words),
+            Verb::Delete => self.answer_delete(words),
+            Verb::Size => self.answer_size(words),
+            Verb::Describe => Ok(reply(Reply::Array(Vec::new(self.alloc())))),
+            Verb::Quit => Ok(Outcome {
+                reply: Some(Reply::Simple("OK")),
+                goes_on: false,
+            }),
+            Verb::Unknown => unknown(self.alloc(), name),
+        }
+    }
+
+    fn answer_set(&mut self, words: &[Vec<u8>]) -> Result<Outcome, AllocError>
+        ensures { (name : List ℕ) → IsDone (held self.old) (answer (held self.old) name Set (texts words.now)) result (held self.new) }
+    {
+        if words.len() < 2 {
+            return wrong_count(self.alloc(), Verb::Set);
+        }
+        if words.len() > 2 {
+            return error(self.alloc(), b"ERR syntax error");
+        }
+        self.set(&words[0], &words[1])?;
+        Ok(reply(Reply::Simple("OK")))
+    }
+
+    fn answer_get(&self, words: &[Vec<u8>]) -> Result<Outcome, AllocError>
+        ensures { (name : List ℕ) → IsDone (held self.now) (answer (held self.now) name Get (texts words.now)) result (held self.now) }
+    {
+        if words.len() != 1 {
+            return wrong_count(self.alloc(), Verb::Get);
+        }
+        match self.get(&words[0]) {
+            Some(value) => bulk(self.alloc(), value),
+            None => Ok(reply(Reply::Null)),
+        }
+    }
+
+    fn answer_delete(&mut self, words: &[Vec<u8>]) -> Result<Outcome, AllocError>
+        ensures { (name : List ℕ) → IsDone (held self.old) (answer (held self.old) name Delete (texts words.now)) result (held self.new) }
+    {
+        if words.is_empty() {
+            return wrong_count(self.alloc(), Verb::Delete);
+        }
+        let mut count = 0usize;
+        for key in words {
+            count += usize::from(self.delete(key));
+        }
+        Ok(reply(Reply::Integer(count as i64)))
+    }
+
+    fn answer_size(&self, words: &[Vec<u8>]) -> Result<Outcome, AllocError>
+        ensures { (name : List ℕ) → IsDone (held self.now) (answer (held self.now) name Size (texts words.now)) result (held self.now) }
+    {
+        if !words.is_empty() {
+            return wrong_count(self.alloc(), Verb::Size);
+        }
+        Ok(reply(Reply::Integer(self.len() as i64)))
+    }
+}
+
+// Returns an outcome with a reply, after which the session goes on.
+fn reply(reply: Reply) -> Outcome
+    ensures reply { result.reply ≡ Some reply }
+    ensures goes_on { result.goes_on ≡ true }
+{
+    Outcome {
+        reply: Some(reply),
+        goes_on: true,
+    }
+}
+
+fn ping(alloc: Global, words: &[Vec<u8>]) -> Result<Outcome, AllocError>
+    ensures { (h : HeldValues) (name : List ℕ) → IsDone h (answer h name Ping (texts words.now)) result h }
+{
+    if words.is_empty() {
+        return Ok(reply(Reply::Simple("PONG")));
+    }
+    if words.len() != 1 {
+        return wrong_count(alloc, Verb::Ping);
+    }
+    bulk(alloc, &words[0])
+}
+
+fn echo(alloc: Global, words: &[Vec<u8>]) -> Result<Outcome, AllocError>
+    ensures { (h : HeldValues) (name : List ℕ) → IsDone h (answer h name Echo (texts words.now)) result h }
+{
+    if words.len() != 1 {
+        return wrong_count(alloc, Verb::Echo);
+    }
+    bulk(alloc, &words[0])
+}
+
+// Replies some bytes.
+fn bulk(alloc: Global, bytes: &[u8]) -> Result<Outcome, AllocError>
+    ensures { (h : HeldValues) → IsDone h (Said.bulk bytes.now, true, h) result h }
+{
+    Ok(reply(Reply::Bulk(Vec::from_slice(alloc, bytes)?)))
+}
+
+// Replies an error.
+fn error(alloc: Global, text: &[u8]) -> Result<Outcome, AllocError>
+    ensures { (h : HeldValues) → IsDone h (Said.wrong text.now, true, h) result h }
+{
+    Ok(reply(Reply::Error(Vec::from_slice(alloc, text)?)))
+}
+
+// Replies that the number of words is wrong.
+fn wrong_count(alloc: Global, verb: Verb) -> Result<Outcome, AllocError>
+    ensures { (h : HeldValues) → IsDone h (wrong_count verb, true, h) result h }
+{
+    let mut text = Vec::from_slice(alloc, b"ERR wrong number of arguments for '")?;
+    text.extend_from_slice(verb.name())?;
+    text.extend_from_slice(b"' command")?;
+    Ok(reply(Reply::Error(text)))
+}
+
+// Replies that a word names no command.
+fn unknown(alloc: Global, name: &[u8]) -> Result<Outcome, AllocError>
+    ensures { (h : HeldValues) → IsDone h (unknown_said name.now, true, h) result h }
+{
+    let mut text = Vec::from_slice(alloc, b"ERR unknown command '")?;
+    let shown = one_line(alloc, &name[..name.len().min(SHOWN)])?;
+    text.extend_from_slice(shown.as_slice())?;
+    text.push(b'\'')?;
+    Ok(reply(Reply::Error(text)))
+}
+
+// Copies a text, with a space for each carriage return and line feed.
+fn one_line(alloc: Global, text: &[u8]) -> Result<Vec<u8>, AllocError>
+    ensures { IfOk result (λ v. v.items ≡ one_line text.now) }
+{
+    text.iter()
+        .map(|byte| if *byte == b'\r' || *byte == b'\n' {
+            b' '
+        } else {
+            *byte
+        })
+        .collect(alloc)
+}
+
+/// A law of the commands: an encoder that allows an array refuses no reply.
+pub fn replies_are_encoded()
+    ensures { (h : HeldValues) (words : List (List ℕ)) (reply : Reply) → said (Some reply) ≡ (perform h words).0 → IsEncodable 1 reply }
+{}

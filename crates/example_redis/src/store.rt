@@ -1,0 +1,69 @@
+//! What the server holds.
+ghost use Rattle.std.specs.Prelude.{◌≡◌, ◌<◌, ◌^◌, OnErr, OnOk};
+ghost use Rattle.std.specs.Option.{is_some, option_map};
+ghost use Rattle.example_redis.specs.Store.{held, no_values, put, without};
+
+use std::alloc::{AllocError, Global};
+use std::collections::BTreeMap;
+
+/// Values, each at its key.
+#[derive(Drop)]
+pub struct Store {
+    alloc: Global,
+    values: BTreeMap<Vec<u8>, Vec<u8>>,
+}
+
+impl Store {
+    /// Returns a store that holds no value.
+    pub fn new(alloc: Global) -> Store
+        ensures { held result ≡ no_values }
+    {
+        Store {
+            alloc,
+            values: BTreeMap::new(alloc),
+        }
+    }
+
+    /// Returns the allocator of the store.
+    pub fn alloc(&self) -> Global {
+        self.alloc
+    }
+
+    /// Returns how many values are held.
+    pub fn len(&self) -> usize
+        ensures size { result ≡ (held self.now).size }
+        ensures small { result < 2 ^ 63 }
+    {
+        self.values.len()
+    }
+
+    /// Returns the value at a key.
+    pub fn get(&self, key: &[u8]) -> Option<&[u8]>
+        ensures { option_map (λ value. value.now) result ≡ (held self.now).at key.now }
+    {
+        self.values.get(key).map(|value| value.as_slice())
+    }
+
+    /// Holds a value at a key, in place of the value that was there.
+    ///
+    /// # Errors
+    ///
+    /// An allocation failed; what is held stays as it was.
+    pub fn set(&mut self, key: &[u8], value: &[u8]) -> Result<(), AllocError>
+        ensures set { OnOk result (held self.new ≡ put (held self.old) key.now value.now) }
+        ensures err { OnErr result (held self.new ≡ held self.old) }
+    {
+        let key = Vec::from_slice(self.alloc, key)?;
+        let value = Vec::from_slice(self.alloc, value)?;
+        self.values.insert(key, value)?;
+        Ok(())
+    }
+
+    /// Drops the value at a key. Returns whether there was one.
+    pub fn delete(&mut self, key: &[u8]) -> bool
+        ensures was { result ≡ is_some ((held self.old).at key.now) }
+        ensures gone { held self.new ≡ without (held self.old) key.now }
+    {
+        self.values.remove(key).is_some()
+    }
+}

@@ -1,0 +1,96 @@
+//! The commands.
+ghost use Rattle.std.specs.Prelude.{◌≡◌, IfOk, map};
+ghost use Rattle.std.specs.Char.{to_ascii_lowercase};
+ghost use Rattle.example_redis.specs.Commands.{verb, verb_name};
+
+use std::alloc::{AllocError, Global};
+
+/// What a request asks for, by its first word.
+#[derive(Debug, Clone, Copy, PartialEq, Eq)]
+pub enum Verb {
+    /// `PING`, or `PING text`: the text, or `PONG`.
+    Ping,
+    /// `ECHO text`: the text.
+    Echo,
+    /// `SET key value`: that the key has this value.
+    Set,
+    /// `GET key`: the value of the key.
+    Get,
+    /// `DEL key ..`: that these keys have no value.
+    Delete,
+    /// `DBSIZE`: how many keys have a value.
+    Size,
+    /// `COMMAND` and `CONFIG`: nothing is known.
+    Describe,
+    /// `QUIT`: that the session ends.
+    Quit,
+    /// Any other word.
+    Unknown,
+}
+
+impl Verb {
+    /// Returns the command that a word names, whatever the case of its letters.
+    pub fn parse(alloc: Global, word: &[u8]) -> Result<Verb, AllocError>
+        ensures { IfOk result (λ v. v ≡ verb (map to_ascii_lowercase word.now)) }
+    {
+        let lower = lowercase(alloc, word)?;
+        Ok(Verb::named(lower.as_slice()))
+    }
+
+    // Returns the command of this name.
+    fn named(name: &[u8]) -> Verb
+        ensures { result ≡ verb name.now }
+    {
+        if name == b"ping".as_slice() {
+            return Verb::Ping;
+        }
+        if name == b"echo".as_slice() {
+            return Verb::Echo;
+        }
+        if name == b"set".as_slice() {
+            return Verb::Set;
+        }
+        if name == b"get".as_slice() {
+            return Verb::Get;
+        }
+        if name == b"del".as_slice() {
+            return Verb::Delete;
+        }
+        if name == b"dbsize".as_slice() {
+            return Verb::Size;
+        }
+        if name == b"command".as_slice() || name == b"config".as_slice() {
+            return Verb::Describe;
+        }
+        if name == b"quit".as_slice() {
+            return Verb::Quit;
+        }
+        Verb::Unknown
+    }
+
+    /// Returns the name of a command.
+    pub fn name(self) -> &'static [u8]
+        ensures { result.now ≡ verb_name self }
+    {
+        match self {
+            Verb::Ping => b"ping",
+            Verb::Echo => b"echo",
+            Verb::Set => b"set",
+            Verb::Get => b"get",
+            Verb::Delete => b"del",
+            Verb::Size => b"dbsize",
+            Verb::Describe => b"command",
+            Verb::Quit => b"quit",
+            Verb::Unknown => b"",
+        }
+    }
+}
+
+// Copies a word in lower case.
+fn lowercase(alloc: Global, word: &[u8]) -> Result<Vec<u8>, AllocError>
+    ensures { IfOk result (λ v. v.items ≡ map to_ascii_lowercase word.now) }
+{
+    word.iter()
+        .map(|byte| byte.to_ascii_lowercase())
+        .collect(alloc)
+}

@@ -1,0 +1,8 @@
+-- Lemmas of the proofs.
+mod Steps
+mod Waits
+mod Encoding
+mod Serving
+mod Collecting
+mod Delimited
+mod Lines

@@ -1,0 +1,212 @@
+-- One step of a poll of a framed reader.
+use Rattle.std.specs.Prelude.{◌≡◌, ◌⊎◌, ◌≤◌, ◌-◌, ◌<◌, ◌==◌, true, false, ℕ, List, [], ◌∷◌, ◌++◌, length, take, drop, Option, Some, None, Result, Ok, Err}
+use Rattle.std.specs.IoError.{error_kind}
+use Rattle.std.specs.List.{FoldsTo}
+use Rattle.std.specs.declared.io.Error.{Error}
+use Rattle.std.proofs.Common.{◌∙◌, ap, append-nil, arith, drop_at, eqb-true, inl, inr, length-append, le_refl, refl, subst, sym, take_all, take_at}
+use Rattle.std.proofs.lemmas.List.{map-append}
+use Rattle.futures_lite.specs.Answers.{Answer, Pending, Ready}
+use Rattle.futures_lite.specs.Marks.{ReadMark, bytes, filled}
+use Rattle.futures_lite.specs.Own.{MarkLaws, Reaches, Runs}
+use Rattle.tokio_util.specs.Codec.Next.{Gives, IsStable, PartialHasNoFrame, at_end as last_frame, decoded, partial}
+use Rattle.framed.specs.FrameLaws.{TakesMore, frame_ran, goes_on, joined, last_on}
+use Rattle.framed.specs.Frames.{FrameStep, Framed, InHand, InStep, Last, PollGives, NoFrame, ended, held_at, phase_of, reading}
+use Rattle.framed.specs.Prompt.{PromptLaws}
+use Rattle.framed.specs.declared.framed_read.Stage.{Stage}
+use Rattle.framed.specs.declared.framed_read.Stage.TheVariants.{AtEnd, Done, Fresh, Open}
+
+-- One list cut in two ways: the first front goes on, or the second does.
+data Cuts (h s f ys : List ℕ) : Type 0 where
+  within : (zs : List ℕ) → f ≡ h ++ zs → s ≡ zs ++ ys → Cuts h s f ys
+  before : (z : ℕ) (zs : List ℕ) → h ≡ f ++ z ∷ zs → Cuts h s f ys
+
+more_cuts : (x : ℕ) (h s f ys : List ℕ) → Cuts h s f ys → Cuts (x ∷ h) s (x ∷ f) ys
+more_cuts x h s f ys (within zs e k) = within zs (ap (λ l. x ∷ l) e) k
+more_cuts x h s f ys (before z zs e) = before z zs (ap (λ l. x ∷ l) e)
+
+cuts : (h s f ys : List ℕ) → h ++ s ≡ f ++ ys → Cuts h s f ys
+cuts [] s f ys e = within f refl e
+cuts (x ∷ h) s [] ys e = before x h refl
+cuts (x ∷ h) s (y ∷ f) ys e =
+    let same : x ≡ y = cc e in
+    let rest : h ++ s ≡ f ++ ys = cc e in
+    subst (λ z. Cuts (x ∷ h) s (z ∷ f) ys) same (more_cuts x h s f ys (cuts h s f ys rest))
+
+-- What of the bytes `s` belongs to the frame.
+pub record Splits {D X E : Type 0} (gives : Gives D X E) (c : D) (h s : List ℕ) (v : X) (t : D) (ys : List ℕ) : Type 0 where
+  pub xs : List ℕ
+  pub cut : s ≡ xs ++ ys
+  pub some : xs ≡ [] → h ≡ []
+  pub frame : gives c (h ++ xs) (decoded (Ok v) t [])
+
+module _ {D X E : Type 0} {gives : Gives D X E} {owes : D → ℕ} (laws : PromptLaws gives owes) (stable : IsStable gives)
+    (no_frame : PartialHasNoFrame gives) (c : D) (h s : List ℕ) (v : X) (t : D) (ys : List ℕ) where
+  split_at : (f : List ℕ) → gives c f (decoded (Ok v) t []) → (h ≡ []) ⊎ gives c h partial → Cuts h s f ys
+      → Splits gives c h s v t ys
+  split_at f alone known (within zs e k) =
+      record {
+        xs = zs;
+        cut = k;
+        some = λ none. elim known [ inl n ↦ n | inr p ↦ absurd (no_frame c h v t [] p (rw (e, none, append-nil) at alone)) ];
+        frame = rw e at alone;
+      }
+  split_at f alone (inl none) (before z zs e) = let longer : [] ≡ f ++ z ∷ zs = sym none ∙ e in absurd (nothing f longer)
+    where
+      nothing : (f : List ℕ) → [] ≡ f ++ z ∷ zs → ⊥
+      nothing [] e = cc e
+      nothing (x ∷ f) e = cc e
+  split_at f alone (inr p) (before z zs e) =
+      absurd (no_frame c h v t (z ∷ zs) p (rw (← e) at (stable c f (Ok v) t [] (z ∷ zs) alone)))
+
+  -- A frame takes the bytes held and some of those that are shown.
+  splits : (h ≡ []) ⊎ gives c h partial → gives c (h ++ s) (decoded (Ok v) t ys) → Splits gives c h s v t ys
+  splits known found =
+      let one = laws.alone c (h ++ s) v t ys found in
+      split_at one.0 one.2 known (cuts h s one.0 ys one.1)
+
+-- Within a frame its bytes are no whole frame, and before one there are none.
+held_known : {D X E : Type 0} (gives : Gives D X E) (c : D) (stage : Stage) (buffer shown : List ℕ)
+    → phase_of stage ≡ reading → InStep gives c stage buffer shown
+    → (held_at stage buffer ≡ []) ⊎ gives c (held_at stage buffer) partial
+held_known gives c Fresh buffer shown e h = inl refl
+held_known gives c Open buffer shown e h = inr h
+held_known gives c AtEnd buffer shown e h = cc e
+held_known gives c Done buffer shown e h = cc e
+
+-- Where nothing is shown, the reader may come to show anything.
+pub still_in_step : {D X E : Type 0} (gives : Gives D X E) (c : D) (stage : Stage) (buffer shown later : List ℕ)
+    → shown ≡ [] → InStep gives c stage buffer shown → InStep gives c stage buffer later
+still_in_step gives c Fresh [] shown later none h = (later, refl)
+still_in_step gives c Fresh (b ∷ buffer) shown later none h = let longer = sym none ∙ h.1 in cc longer
+still_in_step gives c Open buffer shown later none h = h
+still_in_step gives c AtEnd buffer shown later none h = tt
+still_in_step gives c Done buffer shown later none h = tt
+
+-- A frame that was found in the buffer takes the bytes held and some of those that are shown.
+pub whole_taken : (xs : List ℕ) → take (length xs) xs ≡ xs
+whole_taken xs = take_all (length xs) xs (le_refl (length xs))
+
+pub look_refused : {D X E : Type 0} (gives : Gives D X E) (c : D) (held shown whole : List ℕ) (e : E) (t : D) (ys : List ℕ)
+    → whole ≡ held ++ shown → gives c whole (decoded (Err e) t ys) → gives c (held ++ shown) (decoded (Err e) t ys)
+look_refused gives c held shown whole e t ys is found = rw is at found
+
+pub look_splits : {D X E : Type 0} {gives : Gives D X E} {owes : D → ℕ} → PromptLaws gives owes → IsStable gives
+    → PartialHasNoFrame gives → (c : D) (stage : Stage) (buffer shown whole : List ℕ) (v : X) (t : D) (ys : List ℕ)
+    → phase_of stage ≡ reading → InStep gives c stage buffer shown → whole ≡ held_at stage buffer ++ shown
+    → gives c whole (decoded (Ok v) t ys) → Splits gives c (held_at stage buffer) shown v t ys
+look_splits {gives} laws stable no_frame c stage buffer shown whole v t ys was sound is found =
+    splits laws stable no_frame c (held_at stage buffer) shown v t ys (held_known gives c stage buffer shown was sound)
+    (rw is at found)
+
+module _ (s xs ys : List ℕ) (cut : s ≡ xs ++ ys) where
+  pub rest_within : length ys ≤ length s
+  rest_within = omega (arith, ap length cut, length-append xs ys)
+
+  front_length : length s - length ys ≡ length xs
+  front_length = omega (arith, ap length cut, length-append xs ys)
+
+  -- Without the bytes behind it, the bytes shown are those of the frame.
+  pub front_taken : take (length s - length ys) s ≡ xs
+  front_taken = rw (front_length, cut) (take_at xs ys (length xs) refl)
+
+  pub rest_left : drop (length s - length ys) s ≡ ys
+  rest_left = rw (front_length, cut) (drop_at xs ys (length xs) refl)
+
+pub none_shown : (xs : List ℕ) → true ≡ (length xs == 0) → xs ≡ []
+none_shown [] e = refl
+none_shown (x ∷ xs) e = absurd (omega (arith, eqb-true (length (x ∷ xs)) 0 (sym e)))
+
+pub some_shown : (xs : List ℕ) → false ≡ (length xs == 0) → 0 < length xs
+some_shown [] e = cc e
+some_shown (x ∷ xs) e = omega arith
+
+-- A fill that showed bytes left no mark.
+pub no_mark : {T : Type 0} (reads : Runs ReadMark T) (xs : List ℕ) → 0 < length xs → {a b : T} → reads a (filled xs) b
+    → reads a [] b
+no_mark reads [] some h = absurd (omega (arith, some))
+no_mark reads (x ∷ xs) some h = h
+
+more_length : (xs ys : List ℕ) → 0 < length ys → 0 < length (xs ++ ys)
+more_length xs ys some = omega (arith, length-append xs ys, some)
+
+-- No frame was in hand at `x`, which became `m`. Then the reader of `m` was filled.
+module _ {T D X E : Type 0} (gives : Gives D X E) (from_gives : Error → E → Type 0) (reads : Runs ReadMark T)
+    (laws : MarkLaws reads) (no_frame : PartialHasNoFrame gives) (lent : T → List ℕ) (x m y : Framed T D)
+    (h : InHand gives from_gives reads lent x Pending m) where
+  after_mark : (last : List ReadMark) → reads m.reader last y.reader
+      → reads x.reader (bytes (lent x.reader) ++ last) y.reader
+  after_mark last came = laws.follows _ _ _ _ _ h.1 came
+
+  pub at_end : (r : Option (Result X E)) (s : T) → reads m.reader (ReadMark.end ∷ []) s → y.reader ≡ s
+      → Last gives (record m { reader = s }) [] r y → FrameStep gives from_gives reads x (Ready r) y
+  at_end r s came same last =
+      inr (h.0, lent x.reader, ReadMark.end ∷ [], after_mark _ (rw same came), by r last given)
+    where
+      -- No whole frame was held, so a frame is one that the end gives.
+      only_last : (v : X) → Last gives (record m { reader = s }) [] (Some (Ok v)) y
+          → gives x.decoder (x.held ++ lent x.reader) (last_frame (Ok (Some v)) y.decoder y.held)
+      only_last v k =
+          elim k.1 [
+            | inl p ↦ absurd (no_frame m.decoder m.held v y.decoder y.held h.3.1 (rw (append-nil m.held) at p))
+            | inr q ↦ rw (append-nil (x.held ++ lent x.reader)) at (h.3.2 [] _ q)
+          ]
+
+      given : Last gives x (lent x.reader) r y
+      given = subst (λ l. Last gives x l r y) (append-nil (lent x.reader)) (last_on gives x m y (lent x.reader) h.3.2 [] r last)
+
+      by : (q : Option (Result X E)) → Last gives (record m { reader = s }) [] q y → Last gives x (lent x.reader) q y
+          → PollGives gives from_gives x (lent x.reader) (ReadMark.end ∷ []) (Ready q) y
+      by None l k = (refl, k)
+      by (Some (Ok v)) l k = inr (refl, (k.0, only_last v l))
+      by (Some (Err e)) l k = inr (inl (refl, k))
+
+  pub failed : (cause : Error) (e : E) (s : T) → reads m.reader (ReadMark.fault (error_kind cause) ∷ []) s
+      → from_gives cause e → y ≡ record m { reader = s; phase = ended }
+      → FrameStep gives from_gives reads x (Ready (Some (Err e))) y
+  failed cause e s came made is =
+      inr (
+        h.0,
+        lent x.reader,
+        ReadMark.fault (error_kind cause) ∷ [],
+        after_mark _ (rw is came),
+        inr (inr ((cause, made, inl refl), (rw is refl), (rw is h.3.2))),
+      )
+
+  pub pended : (s : T) → reads m.reader (ReadMark.pending ∷ []) s → y ≡ record m { reader = s }
+      → FrameStep gives from_gives reads x Pending y
+  pended s came is = inr (h.0, lent x.reader, ReadMark.pending ∷ [], after_mark _ (rw is came), (refl, rw is h.3))
+
+  -- Then the bytes that the reader showed were looked at.
+  module _ (s : T) (came : reads m.reader [] s) where
+    waits_at : (reads x.reader (bytes (lent x.reader)) s) × NoFrame gives x (lent x.reader) (record m { reader = s })
+    waits_at = (subst (λ l. reads x.reader l s) (append-nil _) (laws.follows _ _ _ _ _ h.1 came), h.3)
+
+    in_hand_step : (r : Option (Result X E)) → InHand gives from_gives reads lent (record m { reader = s }) (Ready r) y
+        → FrameStep gives from_gives reads (record m { reader = s }) (Ready r) y
+    in_hand_step r (inl after) = inl (r, refl, after)
+    in_hand_step r (inr k) =
+        inr (k.0, k.1, [], subst (λ l. reads s l y.reader) (sym (append-nil _)) k.2, k.4)
+
+    pub answered : (r : Option (Result X E)) → InHand gives from_gives reads lent (record m { reader = s }) (Ready r) y
+        → FrameStep gives from_gives reads x (Ready r) y
+    answered r k =
+        joined gives from_gives reads laws no_frame x _ y (Ready r) (lent x.reader) h.0 waits_at.1 waits_at.0
+        (in_hand_step r k)
+
+    pub took : 0 < length (lent s) → InHand gives from_gives reads lent (record m { reader = s }) Pending y
+        → TakesMore gives reads x y
+    took some k =
+        record {
+          taken = lent x.reader ++ lent s;
+          some = more_length (lent x.reader) (lent s) some;
+          came = subst (λ l. reads x.reader l y.reader) (sym (map-append ReadMark.byte (lent x.reader) (lent s)))
+              (laws.follows _ s _ _ _ waits_at.0 k.1);
+          was = h.0;
+          waits = (k.3.0, k.3.1, goes_on gives x (record m { reader = s }) y (lent x.reader) waits_at.1.2 (lent s) k.3.2);
+        }
+
+module _ {T D X E : Type 0} (gives : Gives D X E) (from_gives : Error → E → Type 0) (reads : Runs ReadMark T)
+    (laws : MarkLaws reads) (no_frame : PartialHasNoFrame gives) (x z : Framed T D) (a : Answer (Result X E)) where
+  pub polled_once : (y : Framed T D) × Reaches (TakesMore gives reads) x y × FrameStep gives from_gives reads y a z
+      → FoldsTo (FrameStep gives from_gives reads) x (a ∷ []) z
+  polled_once h = (z, frame_ran gives from_gives reads laws no_frame h, refl)

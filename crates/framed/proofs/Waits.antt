@@ -1,0 +1,45 @@
+-- Waiting for a frame.
+use Rattle.std.specs.Prelude.{◌≡◌, List, Option, Some, None, Result, refl}
+use Rattle.std.specs.List.{FoldsTo}
+use Rattle.std.specs.declared.io.Error.{Error}
+use Rattle.std.proofs.Common.{◌∙◌, ap, sym}
+use Rattle.futures_lite.specs.Answers as answers
+use Rattle.futures_lite.specs.Answers.{Answer, Poll, Ready}
+use Rattle.futures_lite.specs.Marks.{ReadMark}
+use Rattle.futures_lite.specs.Own.{MarkLaws, Runs}
+use Rattle.futures_lite.specs.Readers.{ToldStripped}
+use Rattle.lite_theorems.specs.Uses.{Consume, Consumes, Decides, Folds, Lent, MutBor, Next, consumes_steps, nexts}
+use Rattle.tokio_util.specs.Codec.Next as codec
+use Rattle.tokio_util.specs.Codec.Next.{PartialHasNoFrame}
+use Rattle.framed.specs.Frames.{FrameStep, Framed}
+use Rattle.framed.specs.ToldLaws.{polls_told}
+
+-- what is known of a value is known of one that equals it
+pub at_value : {S : Type 0} (P : S → Type 0) {x y : S} → P x → y ≡ x → P y
+at_value P h e = rw e h
+
+-- The value of `next` is the first that the stream gave, which is its last result.
+module _ {M A : Type 0} (q : M) (v : Option A) where
+  first_given : (p : M) (o r : Option A) → Decides nexts p (Ready o) (Ready r) q → r ≡ v → o ≡ v
+  first_given p None r d e = sym d ∙ e
+  first_given p (Some x) r d e = sym d ∙ e
+
+  next_gives : (p : M) (i : List (Answer A)) (l : List (Poll (Option A))) → answers.Gives l v
+      → Consumes nexts p i l q → answers.Gives i v
+  next_gives p i l g h =
+      consumes_steps nexts (λ p i l. answers.Gives l v → answers.Gives i v) (λ p m x i b l t k. absurd t)
+      (λ p i l k. k) q (λ p o r d g. (first_given p o r d g.0, refl)) p i l (λ g. g) h g
+
+-- A wait for the next frame.
+pub frame_waited : {T D X E : Type 0} (gives : codec.Gives D X E) (from_gives : Error → E → Type 0)
+    (reads : Runs ReadMark T) → PartialHasNoFrame gives → MarkLaws reads
+    → (x y : Consume (MutBor (Framed T D)) Next) (v : Option (Result X E))
+    → (l : List (Poll (Option (Result X E)))) × answers.Gives l v
+    × Folds (Lent (FoldsTo (FrameStep gives from_gives reads))) nexts x l y
+    → FrameStep gives from_gives (ToldStripped reads) x.stream.now (Ready v) y.stream.now
+    × (y.stream.ghost_name ≡ x.stream.ghost_name)
+frame_waited gives from_gives reads no_frame laws x y v (l, g, h) =
+    let given = next_gives y.folder v x.folder h.ins l g h.consumed in (
+      polls_told gives from_gives reads no_frame laws x.stream.now y.stream.now h.ins v given h.came.0,
+      ap (λ r. r.ghost_name) h.came.1,
+    )

@@ -1,0 +1,13 @@
+use Rattle.std.proofs.Common.{◌≡◌, []}
+use Rattle.futures_lite.specs.Readers.{ToldStripped}
+use Rattle.framed.proofs.Collecting.{Collected, LastCollected}
+use Rattle.framed.specs.Frames.{ended, ending, reading}
+use Rattle.framed.proofs.collect.collect_frames.Given as goal
+
+abbrev pub invariant-loop : goal.invariant-loop
+invariant-loop g l =
+    (goal.iterator-loop g).can_next l.iterator' × (goal.iterator-loop g).is_finite l.iterator'
+    × g.T.CountedRead.ranks.counts l.framed.reader
+    × (l.fn.framed.phase ≡ reading → Collected g.D.Decoder.gives (ToldStripped g.T.Tale.reads) l.fn.framed l.frames.items l.framed)
+    × (l.fn.framed.phase ≡ ending → LastCollected g.D.Decoder.gives l.fn.framed l.frames.items l.framed)
+    × (l.fn.framed.phase ≡ ended → (l.framed ≡ l.fn.framed) × (l.frames.items ≡ []))

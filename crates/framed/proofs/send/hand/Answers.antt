@@ -1,0 +1,11 @@
+use Rattle.std.proofs.Common.{rules}
+use Rattle.lite_theorems.proofs.Waited.{done}
+use Rattle.lite_theorems.proofs.BothWriters.{hand_up, writer_lent}
+use Rattle.framed.proofs.send.hand.Goals as goal
+
+pub returns : goal.returns
+returns g c =
+    let lent = writer_lent g.O.Takings.writes _ _ _ _ (done c.wait_for.result) c.write_all.ensures (c.wait_for.ensures, tt) in
+    let up = hand_up g.O.Takings.writes _ _ _ _ (done c.wait_for.result) c.write_all.ensures (c.wait_for.ensures, tt)
+    g.O.Takings.write_laws _ (search rules) in
+    (up.0, up.1, up.2)

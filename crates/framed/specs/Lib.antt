@@ -1,0 +1,26 @@
+-- Frames of a reader and a writer, and a server of frames.
+pub mod Prompt
+pub mod Frames
+pub mod FrameLaws
+pub mod Whole
+pub mod ToldLaws
+pub mod Sending
+pub mod Services
+pub mod ServiceLaws
+pub mod Serving
+pub mod Dialogues
+pub mod ServingLaws
+pub mod DialogueLaws
+pub mod Refusals
+pub mod LinesCodec
+pub mod BytesCodec
+pub mod RoundTrip
+pub mod ComingBack
+pub mod Pieces
+pub mod FrameErrors
+pub mod LengthDelimited
+pub mod LineDelimited
+pub mod PiecesBack
+pub mod DelimitedBack
+pub mod LineBack
+pub mod LinesBack

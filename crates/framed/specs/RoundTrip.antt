@@ -1,0 +1,51 @@
+-- What an encoder wrote, a decoder reads back.
+use Rattle.std.specs.Prelude.{◌≡◌, ℕ, List, [], ◌∷◌, ◌++◌, Some, None, Result, Ok, Err, ⊤}
+use Rattle.std.specs.List.{AllZip}
+use Rattle.std.specs.declared.alloc.Global.{Global}
+use Rattle.std.specs.declared.io.Error.{Error}
+use Rattle.std.specs.declared.vec.Vec.{Vec}
+use Rattle.futures_lite.specs.Marks.{ReadMark, bytes}
+use Rattle.tokio_util.specs.Codec.Next.{Gives, Next, at_end, decoded, partial}
+use Rattle.tokio_util.specs.Codec.Whole.{EncodesAll}
+use Rattle.framed.specs.Whole.{Collects, LacksMemory}
+
+-- `readable c xs d` says that a decoder `d` reads back what an encoder `c` writes for the items `xs`, and `means` what an
+-- item is read as.
+module _ {C D X V E : Type 0} (encodes : C → X → List ℕ → C → Type 0) (gives : Gives D V E) (from_gives : Error → E → Type 0)
+    (readable : C → List X → D → Type 0) (means : X → V → Type 0) where
+  -- What comes of the frame of `x` and the bytes `more` behind it: the item, and then the decoder has `more`, and reads back
+  -- the next items. Or an error, which says that memory was refused. `c` is the encoder behind the frame.
+  abbrev pub IsBack : X → List ℕ → C → List X → Next D V E → Type 0
+  IsBack x more c xs (decoded (Ok v) d ys) = means x v × (ys ≡ more) × readable c xs d
+  IsBack x more c xs (decoded (Err e) d ys) = LacksMemory from_gives e
+  IsBack x more c xs partial = ⊥
+  IsBack x more c xs (at_end r d ys) = ⊥
+
+  -- What comes of no bytes: no frame, and at the end of the input the end, or an error that says that memory was refused.
+  abbrev pub IsNoFrame : Next D V E → Type 0
+  IsNoFrame (decoded r d ys) = ⊥
+  IsNoFrame partial = ⊤
+  IsNoFrame (at_end (Ok None) d ys) = ⊤
+  IsNoFrame (at_end (Ok (Some v)) d ys) = ⊥
+  IsNoFrame (at_end (Err e) d ys) = LacksMemory from_gives e
+
+  -- What an encoder and a decoder have to meet.
+  pub record RoundTripLaws : Type 0 where
+    -- The frame of an item comes back as the item, whatever follows it.
+    pub back : (c : C) (x : X) (xs : List X) (d : D) (frame : List ℕ) (b : C) (more : List ℕ) (next : Next D V E)
+        → readable c (x ∷ xs) d → encodes c x frame b → gives d (frame ++ more) next → IsBack x more b xs next
+    -- Nothing comes of no bytes.
+    pub nothing : (c : C) (d : D) (next : Next D V E) → readable c [] d → gives d [] next → IsNoFrame next
+
+  -- What is collected of the bytes that were written for some items: these items, in order. An error says that memory was
+  -- refused.
+  abbrev pub CollectsBack : List X → Result (Vec V Global) E → Type 0
+  CollectsBack items (Ok out) = AllZip means items out.items
+  CollectsBack items (Err e) = LacksMemory from_gives e
+
+  -- What was written for `items` comes back. `told` are marks of a reader that begin the bytes written and the end of file.
+  -- Whatever is collected of them are these items, or an error that says that memory was refused.
+  abbrev pub ComesBack : C → List X → C → Type 0
+  ComesBack c items b = (frames : List ℕ) → EncodesAll encodes c items frames b → (d : D) → readable c items d
+      → (told after : List ReadMark) → bytes frames ++ ReadMark.end ∷ [] ≡ told ++ after
+      → (r : Result (Vec V Global) E) → Collects gives from_gives d [] told r → CollectsBack items r

@@ -1,0 +1,23 @@
+//! One fill of a reader's buffer.
+ghost use Rattle.std.specs.Prelude.{◌≡◌, ◌==◌, IfOk, length};
+ghost use Rattle.futures.specs.Poll.{IfReady};
+ghost use Rattle.futures_lite.specs.Contexts.{Keeps, Registered};
+ghost use Rattle.futures_lite.specs.Marks.{fill_marks};
+
+use futures_lite::io::AsyncBufRead;
+use futures_lite::{Context, Poll};
+use std::io;
+
+/// Fills the buffer of a reader. Returns whether it is at end of file.
+pub(crate) fn fill<R: AsyncBufRead>(reader: &mut R, cx: &mut Context<'_>) -> Poll<io::Result<bool>>
+    ensures ran { R.reads reader.old (fill_marks result (R.lent reader.new)) reader.new }
+    ensures ended { IfReady result (λ r. IfOk r (λ ended. ended ≡ (length (R.lent reader.new) == 0))) }
+    ensures registered { Registered result (R.registers reader.new) cx.new }
+    ensures context { Keeps cx.old cx.new }
+{
+    match reader.poll_fill_buf(cx) {
+        Poll::Ready(Ok(available)) => Poll::Ready(Ok(available.is_empty())),
+        Poll::Ready(Err(e)) => Poll::Ready(Err(e)),
+        Poll::Pending => Poll::Pending,
+    }
+}

@@ -1,0 +1,33 @@
+//! Frames on the bytes of a reader and a writer, by `tokio_util`'s `Decoder` and `Encoder`.
+#![tactic(auto)]
+
+mod bytes_codec;
+mod collect;
+mod fill;
+mod frame_error;
+mod framed_read;
+mod length_delimited;
+mod line_delimited;
+mod lines_codec;
+mod next_frame;
+mod prompt_decoder;
+mod round_trip;
+mod send;
+mod send_all;
+mod serve_error;
+mod server;
+mod service;
+
+pub use collect::collect_frames;
+pub use frame_error::FrameError;
+pub use framed_read::{FramedParts, FramedRead};
+pub use length_delimited::LengthDelimited;
+pub use line_delimited::LineDelimited;
+pub use next_frame::wait_frame;
+pub use prompt_decoder::PromptDecoder;
+pub use round_trip::RoundTrip;
+pub use send::wait_send;
+pub use send_all::wait_send_all;
+pub use serve_error::ServeError;
+pub use server::serve;
+pub use service::{Answer, Service};

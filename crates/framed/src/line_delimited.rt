@@ -1,0 +1,151 @@
+//! Lines that end with a newline.
+ghost use Rattle.std.specs.Prelude.{◌≡◌, ◌≤◌, ◌<◌, ◌↔◌, IfNone, IfOk, IfSome, IsTrue, length, take};
+ghost use Rattle.bytes.specs.Filled.{Filled};
+ghost use Rattle.futures_lite.specs.Lines.{without_return};
+ghost use Rattle.tokio_util.specs.Codec.Next.{Decodes};
+ghost use Rattle.framed.specs.FrameErrors.{SaysOutOfMemory};
+ghost use Rattle.framed.specs.LineBack.{line_back};
+ghost use Rattle.framed.specs.LineDelimited.{FirstNewline, IsLongLine, LineOf, RefusesText, gives_line_delimited, with_newline, no_line_empty};
+ghost use Rattle.framed.specs.Pieces.{pieces_end, pieces_partial, pieces_prompt, pieces_stable};
+ghost use Rattle.framed.specs.declared.frame_error.FrameError.TheVariants.{CutOff};
+
+use crate::frame_error::FrameError;
+use crate::prompt_decoder::PromptDecoder;
+use crate::round_trip::RoundTrip;
+use bytes::BytesMut;
+use memchr::memchr;
+use std::convert::AsSlice;
+use tokio_util::codec::{Decoder, Encoder};
+
+/// A codec for lines of bytes, each of which ends with a newline, `\n`.
+///
+/// It removes the newline, and one `\r` right before it. Unlike `LinesCodec` it gives no line whose newline is missing
+/// when the input ends: that is the error `CutOff`. So a request that a disconnect cut short is never given.
+///
+/// At most `max` bytes may be before a newline, and a `\r` counts. As soon as one byte more is there and no newline, the
+/// line is refused with `TooLong(max + 1)`. Nothing is taken at an error.
+///
+/// The decoder keeps no state. It searches an open line again when more bytes come: at most `max + 1` bytes, by one
+/// `memchr`. If a peer sends a line byte by byte, that is `max * max / 2` bytes for a line.
+///
+/// It encodes whatever has the bytes of a slice. It refuses what would not be decoded as the same line: with a newline in
+/// it, with a `\r` at its end, or above the limit.
+///
+/// # Examples
+///
+/// ```
+/// use bytes::BytesMut;
+/// use framed::{FrameError, LineDelimited};
+/// use tokio_util::codec::{Decoder, Encoder};
+///
+/// let mut codec = LineDelimited { max: 100 };
+/// let mut bytes = BytesMut::copy_from_slice(rt.alloc(), b"one\r\ntw")?;
+/// match codec.decode(&mut bytes) {
+///     Ok(Some(line)) => assert_eq!(rt; line.as_slice(), b"one".as_slice()),
+///     _ => return Err(Fail::from("there is a line")),
+/// }
+/// assert!(rt; matches!(codec.decode(&mut bytes), Ok(None)));
+/// assert!(rt; matches!(codec.decode_eof(&mut bytes), Err(FrameError::CutOff)));
+/// assert!(rt; matches!(codec.encode("a\nb", &mut bytes), Err(FrameError::HasNewline(1))));
+/// ```
+#[derive(Debug, Clone, Copy, PartialEq, Eq)]
+pub struct LineDelimited {
+    /// How many bytes may be before a newline at most. A `\r` before the newline counts.
+    pub max: usize,
+}
+
+impl Decoder for LineDelimited {
+    type Item = BytesMut;
+
+    type Error = FrameError;
+
+    ghost gives = { gives_line_delimited };
+
+    ghost stable = { pieces_stable (λ c v. LineOf c v.items) IsLongLine SaysOutOfMemory (λ e. e ≡ CutOff) };
+
+    ghost partial_has_no_frame = { pieces_partial (λ c v. LineOf c v.items) IsLongLine SaysOutOfMemory (λ e. e ≡ CutOff) };
+
+    ghost end_is_partial = { pieces_end (λ c v. LineOf c v.items) IsLongLine SaysOutOfMemory (λ e. e ≡ CutOff) };
+
+    fn decode(&mut self, src: &mut BytesMut) -> Result<Option<BytesMut>, FrameError>
+        ensures next { Decodes gives_line_delimited self.old src.old.items result self.new src.new.items }
+        ensures kept { IfOk result (λ r. IfNone r ((src.new.items ≡ src.old.items) × (self.new ≡ self.old))) }
+    {
+        // A newline behind these bytes ends a line that is too long.
+        let searched = src.len().min(self.max.saturating_add(1));
+        let Some(end) = find_newline(&src.as_slice()[..searched]) else {
+            if searched > self.max {
+                return Err(FrameError::TooLong(searched));
+            }
+            return Ok(None);
+        };
+        let mut line = src.split_to(end + 1)?;
+        line.truncate(end);
+        line.truncate(line_length(line.as_slice()));
+        Ok(Some(line))
+    }
+
+    fn decode_eof(&mut self, src: &mut BytesMut) -> Result<Option<BytesMut>, FrameError> {
+        match self.decode(src)? {
+            Some(line) => Ok(Some(line)),
+            None if src.is_empty() => Ok(None),
+            None => Err(FrameError::CutOff),
+        }
+    }
+}
+
+impl<T: AsSlice<u8> + Drop> Encoder<T> for LineDelimited {
+    type Error = FrameError;
+
+    ghost encodes = { λ s item frame t. LineOf s (T.items item) frame × (frame ≡ with_newline (T.items item)) × (t ≡ s) };
+
+    ghost refuses = { λ s item. RefusesText s (T.items item) };
+
+    fn encode(&mut self, item: T, dst: &mut BytesMut) -> Result<(), FrameError> {
+        let line = item.as_slice();
+        if line.len() > self.max {
+            return Err(FrameError::TooLong(line.len()));
+        }
+        if let Some(at) = find_newline(line) {
+            return Err(FrameError::HasNewline(at));
+        }
+        if line_length(line) < line.len() {
+            return Err(FrameError::EndsInReturn);
+        }
+        dst.reserve(line.len() + 1)?;
+        dst.extend_reserved(line);
+        dst.extend_reserved(b"\n");
+        Ok(())
+    }
+}
+
+impl PromptDecoder for LineDelimited {
+    ghost prompt = { pieces_prompt (λ c v. LineOf c v.items) IsLongLine SaysOutOfMemory (λ e. e ≡ CutOff) no_line_empty };
+}
+
+impl<T: AsSlice<u8> + Drop> RoundTrip<T> for LineDelimited {
+    type Decoder = LineDelimited;
+
+    ghost readable = { λ c _ d. c.max ≤ d.max };
+
+    ghost means = { λ item line. line.items ≡ T.items item };
+
+    ghost back = { line_back T.items };
+}
+
+// Returns how many bytes are before the first newline.
+fn find_newline(bytes: &[u8]) -> Option<usize>
+    ensures { FirstNewline bytes.now result }
+{
+    memchr(b'\n', bytes)
+}
+
+// Returns how many bytes a text has without the `\r` that may end it.
+fn line_length(text: &[u8]) -> usize
+    ensures { take result text.now ≡ without_return text.now }
+{
+    match text.last() {
+        Some(b'\r') => text.len() - 1,
+        _ => text.len(),
+    }
+}

@@ -1,0 +1,23 @@
+//! The kit's lines are given at their newline.
+ghost use Rattle.std.specs.Prelude.{◌≡◌, string_bytes};
+ghost use Rattle.framed.specs.LinesBack.{ReadsLines, lines_back};
+ghost use Rattle.framed.specs.LinesCodec.{lines_prompt};
+
+use crate::prompt_decoder::PromptDecoder;
+use crate::round_trip::RoundTrip;
+use std::convert::AsStr;
+use tokio_util::codec::LinesCodec;
+
+impl PromptDecoder for LinesCodec {
+    ghost prompt = { lines_prompt };
+}
+
+impl<T: AsStr + Drop> RoundTrip<T> for LinesCodec {
+    type Decoder = LinesCodec;
+
+    ghost readable = { ReadsLines T.text };
+
+    ghost means = { λ item line. string_bytes line ≡ T.text item };
+
+    ghost back = { lines_back T.text };
+}

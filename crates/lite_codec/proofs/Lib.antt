@@ -1,2 +1,0 @@
-mod Decoding
-mod RespLines

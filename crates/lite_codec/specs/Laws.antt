@@ -1,4 +1,0 @@
-pub mod Decoding
-pub mod LengthDelimited
-pub mod Resp
-pub mod Values
