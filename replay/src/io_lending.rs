@@ -6,12 +6,14 @@ use crate::io_words::{byte_of, bytes_of, text_of};
 use crate::lenders::Lender;
 use crate::readers::{BuildReader, Nest};
 use crate::words::{Fault, Words};
-use futures_lite::codec::{self, DecodeError, LengthDelimited, Resp, RespValue};
+use bytes::BytesMut;
+use framed::{FrameError, FramedRead, LengthDelimited, LineDelimited, PromptDecoder};
 use futures_lite::io::{AsyncBufRead, AsyncRead, BufReader, CountedRead, ErrorKind};
 use futures_lite::laws::{CollectLinesFuture, collect_buffered_lines, collect_lines};
 use futures_lite::stream::{Stream, TryCollectError};
 use futures_lite::{AsyncBufReadExt, Poll, StreamExt};
 use std::io;
+use tokio_util::codec::{LinesCodec, LinesCodecError};
 
 /// Runs a case of one of these modes; `false`: `mode` is none of them.
 pub(crate) fn answered(
@@ -27,8 +29,9 @@ pub(crate) fn answered(
         "lines" => lines(run, words)?,
         "split" => split(run, words)?,
         "pieces" => pieces(run, words)?,
-        "values" => values(run, words)?,
-        "resp" => resp(run, words)?,
+        "frames" => frames(run, words)?,
+        "whole_lines" => whole_lines(run, words)?,
+        "framed_lines" => framed_lines(run, words)?,
         "fill" => fill(run, words)?,
         "mixed" => mixed(run, words)?,
         "lends" => lends(run, words)?,
@@ -141,71 +144,53 @@ fn pieces(run: &mut Run<'_, '_>, words: &mut Words<'_>) -> Result<(), Fault> {
     }
 }
 
-/// `values MOST LENDER`: polls of the stream of values with their length, at most so many bytes, before them.
-fn values(run: &mut Run<'_, '_>, words: &mut Words<'_>) -> Result<(), Fault> {
+/// `frames MOST LENDER`: polls of the stream of frames with their length, at most so many bytes, before them.
+fn frames(run: &mut Run<'_, '_>, words: &mut Words<'_>) -> Result<(), Fault> {
     let max = u32::try_from(words.number()?).map_err(|_| Fault::Words)?;
-    let mut values = codec::values(
-        run.alloc,
-        Lender::build(run.alloc, words)?,
-        LengthDelimited { max },
-    );
+    let lender = Lender::build(run.alloc, words)?;
+    polled_frames(run, FramedRead::new(run.alloc, lender, LengthDelimited { max }))
+}
+
+/// `whole_lines MOST LENDER`: polls of the stream of lines that end with a newline, of at most so many bytes.
+fn whole_lines(run: &mut Run<'_, '_>, words: &mut Words<'_>) -> Result<(), Fault> {
+    let max = words.number()?;
+    let lender = Lender::build(run.alloc, words)?;
+    polled_frames(run, FramedRead::new(run.alloc, lender, LineDelimited { max }))
+}
+
+fn polled_frames<D>(run: &mut Run<'_, '_>, mut frames: FramedRead<Lender, D>) -> Result<(), Fault>
+where
+    D: PromptDecoder<Item = BytesMut, Error = FrameError> + Drop,
+{
     while run.has_polls() {
-        match values.poll_next(run.poll()) {
+        match frames.poll_next(run.poll()) {
             Poll::Pending => run.word("P")?,
             Poll::Ready(None) => run.word("E")?,
-            Poll::Ready(Some(Ok(value))) => run.bytes(value.as_slice())?,
-            Poll::Ready(Some(Err(e))) => undecoded(run, e)?,
+            Poll::Ready(Some(Ok(frame))) => run.bytes(frame.as_slice())?,
+            Poll::Ready(Some(Err(FrameError::TooLong(_)))) => run.word("!TooLong")?,
+            Poll::Ready(Some(Err(FrameError::CutOff))) => run.word("!CutOff")?,
+            Poll::Ready(Some(Err(FrameError::Io(e)))) => run.kind(e.kind())?,
+            Poll::Ready(Some(Err(_))) => run.word("!Encoder")?,
         }
     }
     Ok(())
 }
 
-/// `resp MOST LENDER`: polls of the stream of values of the Redis protocol, of at most so many bytes.
-fn resp(run: &mut Run<'_, '_>, words: &mut Words<'_>) -> Result<(), Fault> {
-    let max = u32::try_from(words.number()?).map_err(|_| Fault::Words)?;
-    let mut values = codec::values(run.alloc, Lender::build(run.alloc, words)?, Resp { max });
+/// `framed_lines MOST LENDER`: polls of the stream of lines of at most so many bytes.
+fn framed_lines(run: &mut Run<'_, '_>, words: &mut Words<'_>) -> Result<(), Fault> {
+    let codec = LinesCodec::new_with_max_length(words.number()?);
+    let lender = Lender::build(run.alloc, words)?;
+    let mut lines = FramedRead::new(run.alloc, lender, codec);
     while run.has_polls() {
-        match values.poll_next(run.poll()) {
+        match lines.poll_next(run.poll()) {
             Poll::Pending => run.word("P")?,
             Poll::Ready(None) => run.word("E")?,
-            Poll::Ready(Some(Ok(value))) => resp_value(run, &value)?,
-            Poll::Ready(Some(Err(e))) => undecoded(run, e)?,
+            Poll::Ready(Some(Ok(line))) => run.bytes(line.as_bytes())?,
+            Poll::Ready(Some(Err(LinesCodecError::MaxLineLengthExceeded))) => run.word("!TooLong")?,
+            Poll::Ready(Some(Err(LinesCodecError::Io(e)))) => run.kind(e.kind())?,
         }
     }
     Ok(())
-}
-
-/// A value of the Redis protocol: its first byte, and its contents.
-fn resp_value(run: &mut Run<'_, '_>, value: &RespValue) -> Result<(), Fault> {
-    match value {
-        RespValue::Simple(text) => {
-            run.part("+")?;
-            run.bytes(text.as_slice())
-        }
-        RespValue::Error(text) => {
-            run.part("-")?;
-            run.bytes(text.as_slice())
-        }
-        RespValue::Integer(n) => {
-            run.part(if *n < 0 { ":-" } else { ":" })?;
-            run.number(n.unsigned_abs())
-        }
-        RespValue::Bulk(bytes) => {
-            run.part("$")?;
-            run.bytes(bytes.as_slice())
-        }
-        RespValue::Null => run.word("$-1"),
-    }
-}
-
-/// Why no value was decoded.
-fn undecoded(run: &mut Run<'_, '_>, error: DecodeError) -> Result<(), Fault> {
-    match error {
-        DecodeError::Truncated => run.word("!Truncated"),
-        DecodeError::Malformed => run.word("!Malformed"),
-        DecodeError::Io(e) => run.kind(e.kind()),
-        DecodeError::Memory => run.kind(ErrorKind::OutOfMemory),
-    }
 }
 
 /// `fill MOST LENDER`: polls of a fill, of which at most so many bytes are then taken.

@@ -1,12 +1,13 @@
-//! Values through a codec, of 16 bytes each with their number before them, and lines that a server answers. They are read from a
+//! Frames of 16 bytes each with their number before them, and lines that a server answers. They are read from a
 //! slice, so that the reads of other cases keep their one caller, into which they are inlined.
 
 use crate::bytes::blocks_len;
 use crate::fault::Fault;
 use crate::texts::{repeated, text};
-use futures_lite::codec::{self, DecodeError, LengthDelimited};
+use bytes::BytesMut;
+use framed::{Answer, FrameError, FramedRead, LengthDelimited, LineDelimited, Service, serve};
 use futures_lite::future::BlockOn;
-use futures_lite::io::{AsyncReadExt, LineService, serve_lines};
+use futures_lite::io::AsyncReadExt;
 use futures_lite::{Context, Future, Poll, StreamExt};
 use std::alloc::{AllocError, AllocGlobal, Global};
 use std::random::RandomSource;
@@ -18,13 +19,16 @@ pub(crate) const VALUE: &[u8] = b"\0\0\0\x100123456789abcdef";
 /// How many bytes a value may have.
 const MAX: u32 = 64;
 
-/// The bytes of all values, without their numbers.
+/// How many bytes a line may have.
+const LINE: usize = 1 << 10;
+
+/// The bytes of all frames, without their numbers.
 #[inline(never)]
 pub(crate) fn values(alloc: Global, cx: &mut Context<'_>, n: u64) -> Result<u64, Fault> {
     let bytes = repeated(alloc, VALUE, n)?;
-    let mut values = codec::values(alloc, bytes.as_slice(), LengthDelimited { max: MAX });
-    let mut summing = values.try_fold(0u64, |sum: u64, value: Vec<u8>| {
-        Ok::<u64, DecodeError>(sum.wrapping_add(value.len() as u64))
+    let mut frames = FramedRead::new(alloc, bytes.as_slice(), LengthDelimited { max: MAX });
+    let mut summing = frames.try_fold(0u64, |sum: u64, frame: BytesMut| {
+        Ok::<u64, FrameError>(sum.wrapping_add(frame.len() as u64))
     });
     match summing.poll(cx) {
         Poll::Ready(Ok(sum)) => Ok(sum),
@@ -72,14 +76,30 @@ fn read_value(
 #[derive(Drop)]
 struct Echo;
 
-impl LineService for Echo {
-    ghost use Rattle.std.specs.Prelude.{◌++◌, ◌∷◌, []};
-    ghost use Rattle.futures_lite.specs.Lines.{RepliesBy};
+impl Service for Echo {
+    ghost use Rattle.std.specs.Prelude.{◌∷◌, [], true};
+    ghost use Rattle.framed.specs.Services.{RefusesBy, RepliesBy};
 
-    ghost serves = { RepliesBy (λ line. line ++ 10 ∷ []) };
+    type Request = BytesMut;
 
-    fn answer(&mut self, line: &mut Vec<u8>) -> Result<(), AllocError> {
-        line.extend_from_slice(b"\n")
+    type Reply = BytesMut;
+
+    type Error = FrameError;
+
+    ghost answers = { RepliesBy (λ line. (line ∷ [], true)) };
+
+    ghost refuses = { RefusesBy (λ s. s) (λ _. []) };
+
+    fn answer(&mut self, alloc: Global, line: BytesMut) -> Result<Answer<BytesMut>, AllocError> {
+        let replies = Vec::from_array(alloc, [line])?;
+        Ok(Answer {
+            replies,
+            goes_on: true,
+        })
+    }
+
+    fn refuse(&mut self, alloc: Global, _: &FrameError) -> Result<Vec<BytesMut>, AllocError> {
+        Ok(Vec::new(alloc))
     }
 }
 
@@ -90,10 +110,11 @@ where
     R: Wait + RandomSource + AllocGlobal,
 {
     let bytes = text(rt.alloc(), n)?;
-    let mut requests = bytes.as_slice();
+    let mut requests = FramedRead::new(rt.alloc(), bytes.as_slice(), LineDelimited { max: LINE });
     let mut replies = Vec::with_capacity(rt.alloc(), blocks_len(n)? as usize)?;
     let mut on = BlockOn::new(rt)?;
-    match serve_lines(&mut on, rt, &mut requests, &mut replies, &mut Echo) {
+    let mut encoder = LineDelimited { max: LINE };
+    match serve(&mut on, rt, &mut requests, &mut replies, &mut encoder, &mut Echo) {
         Ok(()) => Ok(replies.len() as u64),
         Err(_refused) => Err(Fault::Memory),
     }

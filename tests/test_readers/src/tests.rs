@@ -10,8 +10,6 @@ mod methods;
 mod polls;
 mod read_to_end;
 mod readers;
-mod serving;
-mod serving_values;
 mod shown;
 mod shrinking;
 mod told;

@@ -8,5 +8,4 @@ mod copy;
 mod examples;
 mod marks;
 mod shown;
-mod values;
 mod vectors;

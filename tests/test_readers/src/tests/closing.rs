@@ -1,15 +1,11 @@
 //! What writes and flushes closes no writer.
 ghost use Rattle.std.specs.Prelude.{⊤, []};
-ghost use Rattle.futures_lite.specs.Codecs.{RepliesBy};
 
-use futures_lite::codec::{LengthDelimited, ValueService, serve_values, values};
 use futures_lite::future::BlockOn;
-use futures_lite::io::{
-    self, AsyncWrite, LineService, Takings, Tale, serve_lines, wait_flush, wait_write_all,
-};
+use futures_lite::io::{self, AsyncWrite, Takings, Tale, wait_flush, wait_write_all};
 use futures_lite::laws::{SteadyWrite, write_both};
 use futures_lite::{Context, Poll};
-use std::alloc::{AllocError, Global};
+use std::alloc::Global;
 use std::io::ErrorKind;
 use std::test::Fail;
 
@@ -83,30 +79,6 @@ impl SteadyWrite for Closable {
     ghost steady = { record { steady = λ x y x' y' l m h i j k n o p q. (λ i. [], tt) } };
 }
 
-/// Replies to each line, or to each value, with itself.
-#[derive(Drop)]
-struct Same;
-
-impl LineService for Same {
-    ghost serves = { RepliesBy (λ line. line) };
-
-    fn answer(&mut self, _line: &mut Vec<u8>) -> Result<(), AllocError> {
-        Ok(())
-    }
-}
-
-impl ValueService for Same {
-    type Request = Vec<u8>;
-
-    type Reply = Vec<u8>;
-
-    ghost serves = { RepliesBy (λ request. request) };
-
-    fn answer(&mut self, _: Global, request: Vec<u8>) -> Result<Vec<u8>, AllocError> {
-        Ok(request)
-    }
-}
-
 #[test]
 fn a_write_and_a_flush_leave_the_writer_open(rt: HostRuntime) -> Result<(), Fail> {
     let mut on = BlockOn::new(&rt)?;
@@ -137,36 +109,5 @@ fn two_writers_are_left_open(rt: HostRuntime) -> Result<(), Fail> {
         assert_eq!(rt; writer.flushes, 2);
         assert!(rt; !writer.closed);
     }
-    Ok(())
-}
-
-#[test]
-fn a_server_of_lines_leaves_its_output_open(rt: HostRuntime) -> Result<(), Fail> {
-    let mut on = BlockOn::new(&rt)?;
-    let mut replies = Closable::new(rt.alloc());
-    let mut requests = b"one\ntwo\n".as_slice();
-    if serve_lines(&mut on, &rt, &mut requests, &mut replies, &mut Same).is_err() {
-        return Err(Fail::from("no memory to serve"));
-    }
-    assert_eq!(rt; replies.taken.as_slice(), b"onetwo".as_slice());
-    assert!(rt; replies.flushes > 0 && !replies.closed);
-    Ok(())
-}
-
-#[test]
-fn a_server_of_values_leaves_its_output_open(rt: HostRuntime) -> Result<(), Fail> {
-    let mut on = BlockOn::new(&rt)?;
-    let mut replies = Closable::new(rt.alloc());
-    let codec = LengthDelimited { max: 9 };
-    let mut reader = b"\0\0\0\x01a\0\0\0\x02bc".as_slice();
-    let mut requests = values(rt.alloc(), &mut reader, codec);
-    if serve_values(&mut on, &rt, &mut requests, &mut replies, &codec, &mut Same).is_err() {
-        return Err(Fail::from("no memory to serve"));
-    }
-    assert_eq!(rt;
-        replies.taken.as_slice(),
-        b"\0\0\0\x01a\0\0\0\x02bc".as_slice()
-    );
-    assert!(rt; replies.flushes > 0 && !replies.closed);
     Ok(())
 }

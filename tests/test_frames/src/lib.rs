@@ -1,0 +1,5 @@
+//! Tests of frames on a reader.
+#![tactic(auto)]
+
+#[cfg(test)]
+mod tests;

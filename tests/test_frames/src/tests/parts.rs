@@ -1,0 +1,44 @@
+use super::{CODEC, encoded, frames_of, polled};
+use framed::FramedRead;
+use futures_lite::io::{AsyncBufRead, BufReader};
+use lite_mock::Marks;
+use std::alloc::AllocError;
+use std::test::Fail;
+use test_support::answers;
+
+#[test]
+fn the_bytes_of_an_open_frame_are_handed_back(rt: HostRuntime) -> Result<(), Fail> {
+    let input = encoded(rt.alloc(), &[b"one", b"three"])?;
+    for at in 0..input.len() {
+        let mut marks = Marks::new(rt.alloc());
+        marks.chunk(&input.as_slice()[..at])?;
+        marks.pending()?;
+        marks.chunk(&input.as_slice()[at..])?;
+        let mut frames = frames_of(rt.alloc(), 64, marks)?;
+        let polls = if at < 7 { 1 } else { 2 };
+        for answer in answers(&rt, &mut frames, polls)? {
+            polled(rt.alloc(), answer)?;
+        }
+        let parts = frames.into_parts();
+        let begun = if at < 7 { 0 } else { 7 };
+        assert_eq!(rt; parts.held.as_slice(), &input.as_slice()[begun..at]);
+        assert_eq!(rt; parts.reader.buffer().len(), 0);
+    }
+    Ok(())
+}
+
+#[test]
+fn before_a_frame_no_byte_is_held(rt: HostRuntime) -> Result<(), Fail> {
+    let input = encoded(rt.alloc(), &[b"one", b"three"])?;
+    let Ok(reader) = BufReader::new(rt.alloc(), input.as_slice()) else {
+        return Err(AllocError.into());
+    };
+    let mut frames = FramedRead::new(rt.alloc(), reader, CODEC);
+    for answer in answers(&rt, &mut frames, 1)? {
+        polled(rt.alloc(), answer)?;
+    }
+    let parts = frames.into_parts();
+    assert_eq!(rt; parts.held.as_slice(), b"".as_slice());
+    assert_eq!(rt; parts.reader.buffer(), &input.as_slice()[7..]);
+    Ok(())
+}

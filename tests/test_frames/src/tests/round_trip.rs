@@ -1,0 +1,89 @@
+use super::{CODEC, frames_of};
+use bytes::BytesMut;
+use framed::{FrameError, FramedRead, LengthDelimited, collect_frames, wait_frame, wait_send_all};
+use futures_lite::future::BlockOn;
+use lite_mock::Marks;
+use std::alloc::{AllocError, Global};
+use std::io::ErrorKind;
+use std::test::Fail;
+use tokio_util::codec::{LinesCodec, LinesCodecError};
+
+const TEXTS: [&str; 3] = ["one", "", "three"];
+
+/// An error that says that memory was refused, as an error of the test.
+fn refused(error: FrameError) -> Fail {
+    match error {
+        FrameError::Io(e) if e.kind() == ErrorKind::OutOfMemory => AllocError.into(),
+        _ => Fail::from("no other error comes"),
+    }
+}
+
+/// The texts, in a vector.
+fn texts(alloc: Global) -> Result<Vec<&'static str>, Fail> {
+    let mut texts = Vec::with_capacity(alloc, TEXTS.len())?;
+    texts.extend_from_slice(&TEXTS)?;
+    Ok(texts)
+}
+
+#[test]
+fn what_was_sent_comes_back_wherever_it_is_cut(rt: HostRuntime) -> Result<(), Fail> {
+    let mut on = BlockOn::new(&rt)?;
+    let (mut sent, mut out) = (Vec::new(rt.alloc()), BytesMut::new(rt.alloc()));
+    let (mut codec, texts) = (CODEC, texts(rt.alloc())?);
+    if let Err(e) = wait_send_all(&mut on, &rt, &mut sent, &mut codec, texts, &mut out) {
+        return Err(refused(e));
+    }
+    assert_eq!(rt;
+        sent.as_slice(),
+        b"\0\0\0\x03one\0\0\0\0\0\0\0\x05three".as_slice()
+    );
+    for at in 0..sent.len() + 1 {
+        let mut marks = Marks::new(rt.alloc());
+        marks.chunk(&sent.as_slice()[..at])?;
+        marks.chunk(&sent.as_slice()[at..])?;
+        let mut frames = frames_of(rt.alloc(), 64, marks)?;
+        match collect_frames(&mut on, &rt, &mut frames) {
+            Ok(frames) => {
+                assert_eq!(rt; frames.len(), 3);
+                for (frame, text) in frames.iter().zip(TEXTS) {
+                    assert_eq!(rt; frame.as_slice(), text.as_bytes());
+                }
+            }
+            Err(e) => return Err(refused(e)),
+        }
+    }
+    Ok(())
+}
+
+#[test]
+fn behind_a_refused_item_nothing_is_written(rt: HostRuntime) -> Result<(), Fail> {
+    let mut on = BlockOn::new(&rt)?;
+    let (mut sent, mut out) = (Vec::new(rt.alloc()), BytesMut::new(rt.alloc()));
+    let (mut codec, texts) = (LengthDelimited { max: 4 }, texts(rt.alloc())?);
+    match wait_send_all(&mut on, &rt, &mut sent, &mut codec, texts, &mut out) {
+        Ok(()) => return Err(Fail::from("five bytes are too many")),
+        Err(FrameError::TooLong(length)) => assert_eq!(rt; length, 5),
+        Err(e) => return Err(refused(e)),
+    }
+    assert!(rt; sent.is_empty());
+    Ok(())
+}
+
+#[test]
+fn behind_a_line_without_a_newline_nothing_is_read(rt: HostRuntime) -> Result<(), Fail> {
+    let mut on = BlockOn::new(&rt)?;
+    let lines = LinesCodec::new_with_max_length(10);
+    let mut lines = FramedRead::new(rt.alloc(), b"one\ntwo".as_slice(), lines);
+    for reading in [true, false] {
+        match wait_frame(&mut on, &rt, &mut lines) {
+            Some(Ok(_)) => assert_eq!(rt; lines.is_reading(), reading),
+            Some(Err(LinesCodecError::Io(e))) if e.kind() == ErrorKind::OutOfMemory => {
+                return Err(AllocError.into());
+            }
+            _ => return Err(Fail::from("there are two lines")),
+        }
+    }
+    assert!(rt; matches!(wait_frame(&mut on, &rt, &mut lines), None));
+    assert!(rt; !lines.is_reading());
+    Ok(())
+}

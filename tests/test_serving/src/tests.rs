@@ -1,0 +1,2 @@
+mod flushes;
+mod serving;
