@@ -10,12 +10,12 @@ import tempfile
 import textwrap
 
 from repository import read_text
-from sources import MODULES, USE as SOURCE_USE, Sources, leaves
+from sources import MODULES, USE as SOURCE_USE, Sources, called, leaves
 from vocabulary import snake
 
 # The crate that the tests are compiled in, and its line for crates.txt.
 NAME = "examples"
-LINE = f"{NAME} tests_may=Threads+Wait: futures_lite futures rand_core rand_pcg"
+LINE = f"{NAME} tests_may=Threads+Wait: futures_lite framed futures bytes tokio_util rand_core rand_pcg"
 # The crates in crates.txt that have the functions with clauses: one a module, and one for the methods of `StreamExt`. They are proved side by side.
 EXTENSION = "StreamExt"
 PROVED = {it: f"proved_examples_{snake(it)}" for it in (*MODULES, EXTENSION)}
@@ -83,7 +83,7 @@ def tests():
     files = {"src/lib.rt": "//! The examples of the documentation.\n\n" + "".join(f"mod {it};\n" for it in MODULES)}
     for module in MODULES:
         written = "\n".join(test_of(*it) for it in blocks(module))
-        files[f"src/{module}.rt"] = f"//! The examples of `futures_lite::{module}`.\n{imports(written)}use std::test::Fail;\n\n{written}"
+        files[f"src/{module}.rt"] = f"//! The examples of `{called(module)}`.\n{imports(written)}use std::test::Fail;\n\n{written}"
     return files
 
 

@@ -22,8 +22,8 @@ FAULTS = f"{TOP}/tools/faults.c"
 # The programs beside the crates, with their lines for crates.txt.
 REPLAY, THROUGHPUT = "replay", "throughput"
 BESIDE = {
-    REPLAY: "replay: futures_lite lite_mock futures itoa rand_core",
-    THROUGHPUT: "throughput may_wait=15: futures_lite futures",
+    REPLAY: "replay: framed futures_lite lite_mock bytes futures itoa rand_core tokio_util",
+    THROUGHPUT: "throughput may_wait=15: framed futures_lite futures bytes tokio_util",
 }
 # A program that no tool ran for so many seconds is removed.
 KEPT_FOR = 3 * 24 * 3600
@@ -65,6 +65,18 @@ def sum_of_program(name):
     return found.hexdigest()
 
 
+def try_at(at, made, has_tests=False):
+    """Compiles the crate in the folder with checks and with tools/faults.c; it leaves itself at `made`."""
+    os.mkdir(f"{at}/c")
+    shutil.copy(FAULTS, f"{at}/c")
+    name = os.path.basename(at)
+    environment = {**os.environ, "RT_ALLOW_C": name, "CFLAGS": f"-Wall -DKEPT={shlex.quote(json.dumps(made))}"}
+    words = ["rt", "try", *["--test"] * has_tests]
+    ran = subprocess.run(words, cwd=at, env=environment, stdin=subprocess.DEVNULL, capture_output=True, encoding="utf-8")
+    if not os.path.exists(made):
+        raise NotBuilt(f"{name} was not built:\n{(ran.stdout + ran.stderr)[-3000:]}")
+
+
 def compile_program(name, kept):
     """Compiles a program in a copy of the working tree; it leaves itself where it is kept."""
     with tempfile.TemporaryDirectory(prefix=f"{name}-", dir=place()) as copy:
@@ -74,14 +86,8 @@ def compile_program(name, kept):
             at = lay_texts(copy, examples.tests(), line)
         else:
             at = f"{copy}/crates/{name}" if folder == f"crates/{name}" else lay_beside(copy, folder, line)
-        os.mkdir(f"{at}/c")
-        shutil.copy(FAULTS, f"{at}/c")
         made = f"{copy}/made"
-        environment = {**os.environ, "RT_ALLOW_C": name, "CFLAGS": f"-Wall -DKEPT={shlex.quote(json.dumps(made))}"}
-        words = ["rt", "try", *["--test"] * is_test(name)]
-        ran = subprocess.run(words, cwd=at, env=environment, stdin=subprocess.DEVNULL, capture_output=True, encoding="utf-8")
-        if not os.path.exists(made):
-            raise NotBuilt(f"{name} was not built:\n{(ran.stdout + ran.stderr)[-3000:]}")
+        try_at(at, made, is_test(name))
         os.rename(made, kept)
 
 

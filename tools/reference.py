@@ -7,7 +7,7 @@ import pictures
 from examples import CLAUSES, GHOST
 from legend import FIELDS, LEGEND, NAME, PHASES, WITH_MEANING, arguments, fields, legend, members, text_of, unexplained
 from repository import TOP, read_text
-from sources import MODULES, Sources, head_of_impl
+from sources import MODULES, Sources, called, head_of_impl
 from vocabulary import PLAIN, WIDTH, bullet, cited, definitions, imported, libraries, table, wrapped
 
 ROW = re.compile(r"^\|( .*)\|$", re.M)
@@ -40,14 +40,13 @@ GROUPS = {
         "Reading": ("lite_read",),
         "Writing": ("lite_write",),
         "Waiting for one call": ("lite_theorems/src/waits.rt",),
-        "Serving lines": ("lite_theorems/src/line_server.rt", "lite_theorems/src/serve_error.rt"),
         "Bridges to std": ("lite_bridge",),
         "Halves and journals": ("lite_halves",),
     },
-    "codec": {
-        "Codecs": ("lite_codec/src/codec.rt", "lite_codec/src/length_delimited.rt"),
-        "Values": ("lite_codec/src/values.rt", "lite_codec/src/make.rt", "lite_codec/src/error.rt"),
-        "Waiting for one value": ("lite_theorems/src/values.rt",),
+    "framed": {
+        "Frames of a reader": ("framed",),
+        "Codecs": ("framed/src/length_delimited.rt", "framed/src/line_delimited.rt", "framed/src/frame_error.rt", "framed/src/prompt_decoder.rt"),
+        "Serving": ("framed/src/server.rt", "framed/src/service.rt", "framed/src/serve_error.rt"),
     },
     "laws": {
         "Recording runs": ("lite_laws",),
@@ -511,8 +510,8 @@ class Reference:
                     yield wrapped(f"The row of `{type_.name}` is also that of its aliases: {', '.join(linked(it, f'`{it.name}`') for it in names)}.")
 
     def page(self, module):
-        source = self.sources.by_module["futures_lite", (module,)]
-        parts = [f"# `futures_lite::{module}`", source.text.splitlines()[0].removeprefix("//! "), wrapped(ABOUT_EXAMPLES), ABOUT_CONTRACTS, "## Contents"]
+        source = self.sources.source_of(module)
+        parts = [f"# `{called(module)}`", source.text.splitlines()[0].removeprefix("//! "), wrapped(ABOUT_EXAMPLES), ABOUT_CONTRACTS, "## Contents"]
         groups = {name: items for name, items in self.groups(module).items() if items}
         for name, items in groups.items():
             parts.append("\n".join([f"**{name}**\n", *map(listed, items)]))

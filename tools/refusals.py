@@ -4,6 +4,8 @@ from cases import keeps_all, without_pendings
 REFUSED = "!OutOfMemory"
 # An item that was refused, of a stream of numbers.
 REFUSED_ITEM = "-999999"
+# The modes of streams that an error ends, a refusal too.
+FRAMES = ("frames", "whole_lines", "framed_lines")
 # How many words a call of a journal or of its halves has.
 CALLS = {"r": 2, "rv": 3, "w": 2, "wv": 3, "f": 1, "c": 1}
 
@@ -32,6 +34,12 @@ def is_one_more(plain, harsh):
     """Whether a stream gives the refusal at one poll and the same items as ever at the others: it keeps what it had."""
     places = [n for n, it in enumerate(harsh) if it in (REFUSED, REFUSED_ITEM)]
     return len(harsh) == len(plain) and len(places) == 1 and begins(plain, harsh[: places[0]] + harsh[places[0] + 1 :])
+
+
+def is_ended(plain, harsh):
+    """Whether a stream gives the same as ever, the refusal at one poll, and its end at each poll behind it."""
+    n = harsh.index(REFUSED) if REFUSED in harsh else 0
+    return harsh == plain[:n] + [REFUSED] + ["E"] * (len(plain) - n - 1)
 
 
 def is_read_on(plain, harsh):
@@ -107,6 +115,8 @@ def is_refusal(words, plain, harsh, ask):
         return is_one_more(plain, harsh)
     if words[1] != "io":
         return False
+    if mode in FRAMES:
+        return is_ended(plain, harsh)
     if mode in ("until", "line", "string"):
         return is_read_on(plain, harsh)
     if mode.endswith("_onto"):

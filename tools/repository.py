@@ -13,6 +13,8 @@ TOP = os.path.dirname(os.path.dirname(os.path.abspath(__file__)))
 # The folders of a crate that its proof reads.
 PARTS = ("src", "specs", "proofs")
 FACADE = "futures_lite"
+# Crates that stand on the facade, and that users list beside it. Each has a page in docs/api.
+BESIDE = ("framed",)
 # The folder of wrong-bodies/ with those that are proved and that tools/waits refuses by a count.
 COUNTED = "counted"
 # The crates of tests stand below one folder, with their lines.

@@ -4,10 +4,18 @@ import os
 import re
 import textwrap
 
-from repository import FACADE, TOP, files_of, read_text
+from repository import BESIDE, FACADE, TOP, files_of, read_text
 from vocabulary import libraries
 
-MODULES = ("future", "stream", "io", "codec", "laws")
+# The modules of the facade, and the crates beside it.
+MODULES = ("future", "stream", "io", "laws", *BESIDE)
+
+
+def called(module):
+    """Returns what users call a module: by the facade, or by its crate."""
+    return module if module in BESIDE else f"{FACADE}::{module}"
+
+
 HEAD = re.compile(r"(?P<indent> *)(?P<public>pub |final )?(?:const )?(?P<kind>fn|struct|enum|trait|type) (?P<name>\w+)")
 BLOCK = re.compile(r"(?P<impl>impl)\b(?P<types>.*)|pub trait (?P<trait>\w+)")
 CLAUSE = re.compile(r" +(requires|ensures)\b")
@@ -224,10 +232,14 @@ class Sources:
         there = self.by_module.get((crate, (*module, *rest[1:-1])))
         return self.resolve(there, rest[-1]) if there else None
 
+    def source_of(self, module):
+        """Returns the source of a module of the facade, or the root of a crate beside it."""
+        return self.by_module.get((module, ()) if module in BESIDE else (FACADE, (module,)))
+
     @functools.cache
     def items_of(self, module):
-        """Returns the public items of a module of the facade by their titles, with the methods of their types and traits."""
-        source = self.by_module.get((FACADE, (module,)))
+        """Returns the public items of a module of the facade, or of a crate beside it, by their titles, with the methods of their types and traits."""
+        source = self.source_of(module)
         if not source:
             return {}
         found = [*source.items.values(), *(self.resolve(source, it) for it in source.passed_on)]

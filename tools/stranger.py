@@ -80,7 +80,9 @@ class Entry:
         uses = f"{TOP}/crates/{self.path.split('/')[1]}/specs/Uses.antt"
         imports = self.code + (read_text(uses) if os.path.isfile(uses) else "")
         named = rf"use Rattle\.{crate}\.specs\.{re.escape(module)}\.\{{[^}}]*(?<![\w'-]){name}(?![\w'-])"
-        return self.is_in_its_file(found) and re.search(rf"(?<![\w'-]){name}(?![\w'-])", self.contract) and re.search(named, imports)
+        by_facade = rf"use Rattle\.futures_lite\.specs\.[\w.]+\.\{{[^}}]*(?<![\w'-]){name}(?![\w'-])"
+        is_imported = re.search(named, imports) or re.search(by_facade, imports)
+        return self.is_in_its_file(found) and re.search(rf"(?<![\w'-]){name}(?![\w'-])", self.contract) and is_imported
 
 
 def faults():

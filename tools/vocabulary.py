@@ -5,12 +5,12 @@ import os
 import re
 import textwrap
 
-from repository import FACADE, TOP, crates_in, files_of, read_text, with_below
+from repository import BESIDE, FACADE, TOP, crates_in, files_of, read_text, with_below
 
 # How many columns a line of a document has at most.
 WIDTH = 120
 # (a definition is told from a lemma by its first word)
-DEFINED = re.compile(r"^ *(?!unfoldable pub use)(?:pub )?(abbrev|unfoldable|record|data) (?:pub )?(?:record |data )?(?P<word>[^\s:({]+)")
+DEFINED = re.compile(r"^ *(?!unfoldable pub use)(?:pub )?(abbrev|unfoldable|record|data) (?:pub )?(?:record |data )?(?P<word>(?!mutual\b)[^\s:({]+)")
 MEMBER = re.compile(r"^    ghost (?P<word>\w+): \{(?P<type>.*)\}", re.M)
 TRAIT = re.compile(r"^pub trait (?P<name>\w+).*?^}", re.M | re.S)
 # What says the runs of a type, by the trait whose calls they are of.
@@ -75,7 +75,7 @@ def definitions(crate):
 
 
 def libraries():
-    return with_below(crates_in(TOP), [FACADE])
+    return with_below(crates_in(TOP), [FACADE, *BESIDE])
 
 
 def members():
@@ -125,7 +125,17 @@ def module_for_programs(word):
 
 def imported(text):
     """Returns where each ghost name that a source imports is from: the crate and the module in which it is defined."""
-    return {name: passed_on_in(crate).get(name, (crate, module)) if module == USES else (crate, module) for name, (crate, module) in used(text)}
+    return {name: origin(name, crate, module) for name, (crate, module) in used(text)}
+
+
+def origin(name, crate, module):
+    """Returns the crate and the module that define a name, which a source imports from there."""
+    if module == USES:
+        return passed_on_in(crate).get(name, (crate, module))
+    if crate == FACADE:
+        found = [where for where, passed in modules_of_words().items() if passed == module and where[2] in (name, "")]
+        return next((it[:2] for it in sorted(found, key=lambda it: it[2], reverse=True)), (crate, module))
+    return crate, module
 
 
 def makers(crate):
