@@ -4,6 +4,7 @@ use crate::entries::EntryError;
 use framed::FrameError;
 use std::alloc::AllocError;
 use std::{fmt, io};
+use tokio_util::codec::LinesCodecError;
 
 /// Why the program stopped.
 #[derive(Debug, Drop)]
@@ -31,6 +32,9 @@ impl fmt::Display for Fault {
                 f.write_str("a frame was refused")
             }
             Fault::Frame(FrameError::Io(e)) => fmt::Display::fmt(e, f),
+            Fault::Entry(EntryError::Name(LinesCodecError::Io(e))) => fmt::Display::fmt(e, f),
+            Fault::Entry(EntryError::Body(FrameError::Io(e))) => fmt::Display::fmt(e, f),
+            Fault::Entry(EntryError::Memory) => f.write_str("out of memory"),
             Fault::Entry(_) => f.write_str("an entry was not read"),
             Fault::Io(e) => fmt::Display::fmt(e, f),
             Fault::Memory => f.write_str("out of memory"),
