@@ -8,6 +8,7 @@ use Rattle.futures_lite.specs.Readers.{ToldStripped}
 use Rattle.futures_lite.specs.Writers.{EndsFlushed}
 use Rattle.framed.specs.Dialogues.{EndsBy, FramesOf, EachGoesOn, answers_from}
 use Rattle.framed.specs.Frames.{Framed}
+use Rattle.framed.specs.LineBack.{EncodedText}
 use Rattle.framed.specs.LineDelimited.{LineOf, RefusesText, gives_line_delimited, with_newline}
 use Rattle.framed.specs.Services.{AnswerOf, ServesAs, all_of}
 use Rattle.framed.specs.Serving.{ServeEnds}
@@ -22,7 +23,7 @@ use Rattle.example_lines.specs.declared.store.Store.{Store}
 
 -- What the encoder writes for a reply.
 abbrev pub encodes_lines : LineDelimited → Vec ℕ → List ℕ → LineDelimited → Type 0
-encodes_lines s item frame t = LineOf s item.items frame × (frame ≡ with_newline item.items) × (t ≡ s)
+encodes_lines = EncodedText (λ reply. reply.items)
 
 -- The answers to some lines, in turn, from a server that holds nothing at first.
 abbrev pub answers_to : List (List ℕ) → List (AnswerOf (List ℕ))
