@@ -27,6 +27,7 @@ impl fmt::Display for Fault {
                 "a frame of {length} bytes is too long"
             ),
             Fault::Frame(FrameError::CutOff) => f.write_str("the input ended within a frame"),
+            Fault::Frame(FrameError::Malformed) => f.write_str("the bytes are no frame"),
             // Lines alone are refused so.
             Fault::Frame(FrameError::HasNewline(_) | FrameError::EndsInReturn) => {
                 f.write_str("a frame was refused")

@@ -2,19 +2,23 @@
 //!
 //! It writes what standard input has to memory, a frame for each line. It reads the frames back through a small
 //! buffer, and prints them. Then it prints what reading says of a frame that is cut off, and of one that is too long.
-//! Last it sends texts there and back, and lists an archive whose entries have a name in a line and a body behind it.
+//! It sends texts there and back, as frames and as netstrings. Last it lists an archive whose entries have a name in a
+//! line and a body behind it.
 #![tactic(auto)]
 
 mod entries;
 mod fault;
 mod framing;
+mod netstring;
 
+use bytes::BytesMut;
 use entries::read_entries;
 use fault::Fault;
-use framed::{FrameError, FramedRead, LengthDelimited};
+use framed::{FrameError, FramedRead, LengthDelimited, collect_frames, wait_send_all};
 use framing::{read_all, send_and_read, write_frame};
 use futures_lite::future::BlockOn;
 use futures_lite::io::{BufReader, Cursor};
+use netstring::Netstring;
 use std::alloc::AllocGlobal;
 use std::io::BufRead;
 use std::process::ExitCode;
@@ -62,7 +66,32 @@ where
     for frame in send_and_read(&mut on, rt, codec, texts, 3)? {
         println!(host; "{} bytes", frame.len())?;
     }
+    let Ok(texts) = vec![in rt.alloc(); "", "eleven"] else {
+        return Err(Fault::Memory);
+    };
+    send_strings(host, rt, &mut on, texts)?;
     list(host, rt, &mut on, b"one\n\0\0\0\x03abctwo\n\0\0\0\0")
+}
+
+/// Sends the texts to memory as netstrings, and prints these and what is read of them.
+fn send_strings<R>(
+    host: &HostRuntime,
+    rt: &R,
+    on: &mut BlockOn,
+    texts: Vec<&str>,
+) -> Result<(), Fault>
+where
+    R: Wait + RandomSource + AllocGlobal,
+{
+    let mut codec = Netstring { max: 100 };
+    let (mut sent, mut out) = (Vec::new(rt.alloc()), BytesMut::new(rt.alloc()));
+    wait_send_all(on, rt, &mut sent, &mut codec, texts, &mut out)?;
+    println!(host; "{}", String::from_utf8_lossy(rt.alloc(), sent.as_slice())?)?;
+    let mut strings = FramedRead::new(rt.alloc(), sent.as_slice(), codec);
+    for string in collect_frames(on, rt, &mut strings)? {
+        println!(host; "{} bytes", string.len())?;
+    }
+    Ok(())
 }
 
 /// Prints the names of an archive's entries, and how long their bodies are. The bytes come three at a time.

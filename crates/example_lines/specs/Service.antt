@@ -5,6 +5,7 @@ use Rattle.std.specs.declared.alloc.AllocError.{AllocError}
 use Rattle.framed.specs.Services.{AnswerOf, LastWords}
 use Rattle.framed.specs.declared.FrameError.{FrameError}
 use Rattle.framed.specs.declared.FrameError.TheVariants.{CutOff, EndsInReturn, HasNewline, Io, TooLong}
+use Rattle.framed.specs.declared.FrameError.TheVariants as error
 use Rattle.framed.specs.declared.Answer.{Answer}
 use Rattle.example_lines.specs.Request.{request_of}
 use Rattle.example_lines.specs.Store.{KeyValues, stored, with_value, without_key}
@@ -49,6 +50,7 @@ HasReplied h done (Err e) g = g ≡ h
 abbrev pub last_lines : FrameError → List (List ℕ)
 last_lines (TooLong n) = codes "error: the line is too long" ∷ []
 last_lines CutOff = codes "error: the last line has no newline" ∷ []
+last_lines error.Malformed = []
 last_lines (HasNewline at) = []
 last_lines EndsInReturn = []
 last_lines (Io e) = []

@@ -26,6 +26,7 @@ impl fmt::Display for Fault {
 fn show<W: fmt::Write>(error: &FrameError, f: &mut fmt::Formatter<W>) -> fmt::Result {
     match error {
         FrameError::TooLong(_) => f.write_str("a line is too long"),
+        FrameError::Malformed => f.write_str("the bytes are no line"),
         FrameError::CutOff => f.write_str("the input ended within a line"),
         FrameError::HasNewline(_) | FrameError::EndsInReturn => f.write_str("a reply is no line"),
         FrameError::Io(e) => fmt::Display::fmt(e, f),

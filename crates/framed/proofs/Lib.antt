@@ -6,3 +6,4 @@ mod Serving
 mod Collecting
 mod Delimited
 mod Lines
+mod Heads

@@ -1,6 +1,6 @@
 -- What `LengthDelimited` writes comes back.
 use Rattle.std.specs.Prelude.{◌≡◌, ◌≤◌, ◌<◌, ◌^◌, ℕ, List, ◌++◌, length}
-use Rattle.std.proofs.Common.{ap, append_assoc, arith, refl, sym, ◌∙◌}
+use Rattle.std.proofs.Common.{ap, append_assoc, arith, sym, ◌∙◌}
 use Rattle.bytes.specs.Filled.{Filled}
 use Rattle.framed.specs.FrameErrors.{SaysOutOfMemory}
 use Rattle.framed.specs.LengthDelimited.{FrameOf, IsTooLong, frame_bytes, gives_delimited, length_header, no_frame_empty, one_number}

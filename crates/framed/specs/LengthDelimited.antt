@@ -1,5 +1,5 @@
 -- Frames with the number of their bytes before them.
-use Rattle.std.specs.Prelude.{◌≡◌, ◌⊎◌, ◌≤◌, ◌<◌, ◌^◌, ◌+◌, ℕ, List, [], ◌∷◌, ◌++◌, length}
+use Rattle.std.specs.Prelude.{◌≡◌, ◌⊎◌, ◌≤◌, ◌<◌, ◌^◌, ◌+◌, ℕ, List, [], ◌++◌, length}
 use Rattle.std.specs.Int.{from_be_bytes, to_be_bytes, w32}
 use Rattle.std.proofs.Common.{ap, append_assoc, arith, length-append, refl, sym, ◌∙◌}
 use Rattle.std.proofs.lemmas.Nat.{from_be_bytes-to_be_bytes_4}

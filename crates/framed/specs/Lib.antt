@@ -18,9 +18,11 @@ pub mod RoundTrip
 pub mod ComingBack
 pub mod Pieces
 pub mod FrameErrors
+pub mod Heads
 pub mod LengthDelimited
 pub mod LineDelimited
 pub mod PiecesBack
 pub mod DelimitedBack
 pub mod LineBack
+pub mod HeadsBack
 pub mod LinesBack

@@ -1,13 +1,14 @@
 -- What `LineDelimited` writes comes back.
-use Rattle.std.specs.Prelude.{◌≡◌, ◌≢◌, ◌≤◌, ◌<◌, ◌+◌, ℕ, List, [], ◌∷◌, ◌++◌, length}
-use Rattle.std.proofs.Common.{ap, append_assoc, arith, length-append, refl, sym, ◌∙◌}
+use Rattle.std.specs.Prelude.{◌≡◌, ◌≤◌, ℕ, List, [], ◌∷◌, ◌++◌, length}
+use Rattle.std.proofs.Common.{ap, append_assoc, arith, sym, ◌∙◌}
 use Rattle.std.proofs.lemmas.List.{append_cancel_right}
-use Rattle.std.proofs.lemmas.List.Elements.{All-contains, All-tail}
 use Rattle.bytes.specs.Filled.{Filled}
 use Rattle.futures_lite.specs.Lines.{without_return}
 use Rattle.framed.specs.FrameErrors.{SaysOutOfMemory}
 use Rattle.framed.specs.LineDelimited.{HasNoNewline, IsLongLine, LineOf, gives_line_delimited, no_line_empty, with_newline}
-use Rattle.framed.specs.PiecesBack.{pieces_back, up_to_mark}
+use Rattle.framed.specs.Heads.{longer_text}
+use Rattle.framed.specs.Pieces.{up_to_delimiter}
+use Rattle.framed.specs.PiecesBack.{pieces_back}
 use Rattle.framed.specs.RoundTrip.{RoundTripLaws}
 use Rattle.framed.specs.declared.frame_error.FrameError.TheVariants.{CutOff, Io}
 use Rattle.framed.specs.declared.line_delimited.LineDelimited.{LineDelimited}
@@ -15,17 +16,7 @@ use Rattle.framed.specs.declared.line_delimited.LineDelimited.{LineDelimited}
 -- A line and the bytes behind it are no other line with other bytes behind.
 one_line : (a b p q : List ℕ) → HasNoNewline a → HasNoNewline b → with_newline a ++ p ≡ with_newline b ++ q → (a ≡ b) × (p ≡ q)
 one_line a b p q h k e =
-    up_to_mark 10 a b p q h k (sym (append_assoc a (10 ∷ []) p) ∙ e ∙ append_assoc b (10 ∷ []) q)
-
--- A text without a newline that is longer than a line and its newline is not at its front.
-longer_text : (a front p q : List ℕ) → HasNoNewline front → length a < length front → with_newline a ++ p ≡ front ++ q → ⊥
-longer_text [] [] p q h short e = omega (arith, short)
-longer_text [] (x ∷ front) p q h short e =
-    let first : 10 ≡ x = cc e in All-contains (λ b. b ≢ 10) (x ∷ front) 10 h (0, omega arith, sym first) refl
-longer_text (x ∷ a) [] p q h short e = omega (arith, short)
-longer_text (x ∷ a) (y ∷ front) p q h short e =
-    let others : with_newline a ++ p ≡ front ++ q = cc e in
-    longer_text a front p q (All-tail (λ b. b ≢ 10) y front h) (omega (arith, short)) others
+    up_to_delimiter 10 a b p q h k (sym (append_assoc a (10 ∷ []) p) ∙ e ∙ append_assoc b (10 ∷ []) q)
 
 -- What is written for a text comes back, if the decoder allows as much as the encoder.
 module _ {X : Type 0} (text : X → List ℕ) where
@@ -56,7 +47,8 @@ module _ {X : Type 0} (text : X → List ℕ) where
                   let o = one_line (text x) found more rest t.0 none (ap (λ l. l ++ more) (sym is) ∙ here ∙ ap (λ l. l ++ rest) front_is) in
                   (item ∙ ap without_return (sym o.0) ∙ sym t.2, sym o.1);
               right = λ e front more rest (none, long, _) here.
-                  longer_text (text x) front more rest none (omega (arith, long, t.1, within)) (ap (λ l. l ++ more) (sym is) ∙ here);
+                  longer_text 10 (text x) front more rest none (omega (arith, long, t.1, within))
+                  (sym (append_assoc (text x) (10 ∷ []) more) ∙ ap (λ l. l ++ more) (sym is) ∙ here);
               others = rw same within;
             };
         some = no_line_empty;

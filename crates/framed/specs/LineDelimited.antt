@@ -1,11 +1,11 @@
 -- Lines that end with a newline.
-use Rattle.std.specs.Prelude.{◌≡◌, ◌≢◌, ◌⊎◌, ◌≤◌, ◌<◌, ◌+◌, ℕ, List, [], ◌∷◌, ◌++◌, length, slice_index, take, Option, Some, None}
-use Rattle.std.specs.List.{All}
+use Rattle.std.specs.Prelude.{◌≡◌, ◌≢◌, ◌⊎◌, ◌≤◌, ◌<◌, ◌+◌, ℕ, List, [], ◌∷◌, ◌++◌, length, Option, Some}
 use Rattle.std.proofs.Common.{ap, arith, length-append}
 use Rattle.bytes.specs.Filled.{Filled}
 use Rattle.futures_lite.specs.Lines.{without_return}
 use Rattle.tokio_util.specs.Codec.Next.{Gives}
 use Rattle.framed.specs.FrameErrors.{SaysOutOfMemory}
+use Rattle.framed.specs.Heads.{FirstAt, Lacks}
 use Rattle.framed.specs.Pieces.{gives_pieces}
 use Rattle.framed.specs.declared.frame_error.FrameError.{FrameError}
 use Rattle.framed.specs.declared.frame_error.FrameError.TheVariants.{CutOff, EndsInReturn, HasNewline, TooLong}
@@ -13,7 +13,7 @@ use Rattle.framed.specs.declared.line_delimited.LineDelimited.{LineDelimited}
 
 -- A text without a newline.
 abbrev pub HasNoNewline : List ℕ → Type 0
-HasNoNewline text = All (λ b. b ≢ 10) text
+HasNoNewline text = Lacks 10 text
 
 -- A text with a newline behind it.
 abbrev pub with_newline : List ℕ → List ℕ
@@ -33,8 +33,7 @@ gives_line_delimited = gives_pieces (λ c v. LineOf c v.items) IsLongLine SaysOu
 
 -- The first newline has this index.
 abbrev pub FirstNewline : List ℕ → Option ℕ → Type 0
-FirstNewline xs None = HasNoNewline xs
-FirstNewline xs (Some at) = (at < length xs) × (slice_index xs at ≡ 10) × HasNoNewline (take at xs)
+FirstNewline xs at = FirstAt 10 xs at
 
 -- Why a line is not encoded into a buffer with room for `spare` more bytes: it is too long, has a newline or ends in `\r`, or
 -- memory was refused.

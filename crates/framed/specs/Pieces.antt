@@ -1,6 +1,8 @@
 -- Decoders that keep no state, by the bytes that a frame may have.
-use Rattle.std.specs.Prelude.{◌≡◌, ◌⊎◌, ◌<◌, ℕ, List, [], ◌∷◌, ◌++◌, length, Some, None, Ok, Err}
+use Rattle.std.specs.Prelude.{◌≡◌, ◌≢◌, ◌⊎◌, ◌<◌, ℕ, List, [], ◌∷◌, ◌++◌, length, Some, None, Ok, Err}
+use Rattle.std.specs.List.{All}
 use Rattle.std.proofs.Common.{ap, append-nil, append_assoc, arith, refl, subst, sym, ◌∙◌}
+use Rattle.std.proofs.lemmas.List.Elements.{All-head, All-tail}
 use Rattle.tokio_util.specs.Codec.Next.{EndIsPartial, Gives, IsStable, PartialHasNoFrame, at_end, decoded, partial}
 use Rattle.framed.specs.Dialogues.{FrameByFrame}
 use Rattle.framed.specs.Prompt.{PromptLaws}
@@ -14,6 +16,20 @@ same_fronts (a ∷ h) (b ∷ k) p q e c =
     let first : a ≡ b = cc c in
     let others : h ++ p ≡ k ++ q = cc c in
     let rest = same_fronts h k p q (omega (arith, e)) others in
+    (rw (first, rest.0) refl, rest.1)
+
+-- Texts without the byte `delimiter`, up to the first one, are the same, and so is what is behind it.
+pub up_to_delimiter : (delimiter : ℕ) (a b p q : List ℕ) → All (λ x. x ≢ delimiter) a → All (λ x. x ≢ delimiter) b → a ++ delimiter ∷ p ≡ b ++ delimiter ∷ q
+    → (a ≡ b) × (p ≡ q)
+up_to_delimiter delimiter [] [] p q h k e = (refl, cc e)
+up_to_delimiter delimiter [] (y ∷ b) p q h k e =
+    let first : delimiter ≡ y = cc e in absurd (All-head (λ x. x ≢ delimiter) y b k (sym first))
+up_to_delimiter delimiter (x ∷ a) [] p q h k e =
+    let first : x ≡ delimiter = cc e in absurd (All-head (λ x. x ≢ delimiter) x a h first)
+up_to_delimiter delimiter (x ∷ a) (y ∷ b) p q h k e =
+    let first : x ≡ y = cc e in
+    let others : a ++ delimiter ∷ p ≡ b ++ delimiter ∷ q = cc e in
+    let rest = up_to_delimiter delimiter a b p q (All-tail (λ x. x ≢ delimiter) x a h) (All-tail (λ x. x ≢ delimiter) y b k) others in
     (rw (first, rest.0) refl, rest.1)
 
 -- `piece` says which bytes a frame may have, and `refuses` at which bytes the decoder stops with which error. An error

@@ -1,27 +1,11 @@
 -- What an encoder writes comes back, by a decoder of pieces.
-use Rattle.std.specs.Prelude.{◌≡◌, ◌≢◌, ◌<◌, ℕ, List, [], ◌∷◌, ◌++◌, length, Some, None, Ok, Err}
-use Rattle.std.specs.List.{All}
+use Rattle.std.specs.Prelude.{◌≡◌, ℕ, List, [], ◌∷◌, ◌++◌, Some, None, Ok, Err}
 use Rattle.std.specs.declared.io.Error.{Error}
-use Rattle.std.proofs.Common.{arith, inl, inr, refl, sym}
-use Rattle.std.proofs.lemmas.List.Elements.{All-head, All-tail}
+use Rattle.std.proofs.Common.{arith, inl, inr, refl}
 use Rattle.tokio_util.specs.Codec.Next.{Next, at_end, decoded, partial}
 use Rattle.framed.specs.Pieces.{gives_pieces}
 use Rattle.framed.specs.RoundTrip.{IsBack, IsNoFrame, RoundTripLaws}
 use Rattle.framed.specs.Whole.{LacksMemory}
-
--- Texts without the byte `mark`, up to the first one, are the same, and so is what is behind it.
-pub up_to_mark : (mark : ℕ) (a b p q : List ℕ) → All (λ x. x ≢ mark) a → All (λ x. x ≢ mark) b → a ++ mark ∷ p ≡ b ++ mark ∷ q
-    → (a ≡ b) × (p ≡ q)
-up_to_mark mark [] [] p q h k e = (refl, cc e)
-up_to_mark mark [] (y ∷ b) p q h k e =
-    let first : mark ≡ y = cc e in absurd (All-head (λ x. x ≢ mark) y b k (sym first))
-up_to_mark mark (x ∷ a) [] p q h k e =
-    let first : x ≡ mark = cc e in absurd (All-head (λ x. x ≢ mark) x a h first)
-up_to_mark mark (x ∷ a) (y ∷ b) p q h k e =
-    let first : x ≡ y = cc e in
-    let others : a ++ mark ∷ p ≡ b ++ mark ∷ q = cc e in
-    let rest = up_to_mark mark a b p q (All-tail (λ x. x ≢ mark) x a h) (All-tail (λ x. x ≢ mark) y b k) others in
-    (rw (first, rest.0) refl, rest.1)
 
 no_front : (front rest : List ℕ) → [] ≡ front ++ rest → front ≡ []
 no_front [] rest e = refl

@@ -28,6 +28,8 @@ pub enum FrameError {
     TooLong(usize),
     /// The input ended within a frame or a line. The decoder took nothing of it.
     CutOff,
+    /// The bytes are no frame: its head is none, or other bytes than its tail are behind it. Nothing was taken of it.
+    Malformed,
     /// A line to be written has its first newline behind so many bytes, so it would be read as two. Nothing was written.
     HasNewline(usize),
     /// A line to be written ends in `\r`, so it would be read without it. Nothing was written.

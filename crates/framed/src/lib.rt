@@ -3,9 +3,11 @@
 
 mod bytes_codec;
 mod collect;
+mod delimiter;
 mod fill;
 mod frame_error;
 mod framed_read;
+mod head;
 mod length_delimited;
 mod line_delimited;
 mod lines_codec;
@@ -19,8 +21,10 @@ mod server;
 mod service;
 
 pub use collect::collect_frames;
+pub use delimiter::{Delimiter, find_delimiter};
 pub use frame_error::FrameError;
 pub use framed_read::{FramedParts, FramedRead};
+pub use head::{read_decimal, take_body};
 pub use length_delimited::LengthDelimited;
 pub use line_delimited::LineDelimited;
 pub use next_frame::wait_frame;

@@ -5,15 +5,15 @@ ghost use Rattle.futures_lite.specs.Lines.{without_return};
 ghost use Rattle.tokio_util.specs.Codec.Next.{Decodes};
 ghost use Rattle.framed.specs.FrameErrors.{SaysOutOfMemory};
 ghost use Rattle.framed.specs.LineBack.{line_back};
-ghost use Rattle.framed.specs.LineDelimited.{FirstNewline, IsLongLine, LineOf, RefusesText, gives_line_delimited, with_newline, no_line_empty};
+ghost use Rattle.framed.specs.LineDelimited.{IsLongLine, LineOf, RefusesText, gives_line_delimited, with_newline, no_line_empty};
 ghost use Rattle.framed.specs.Pieces.{pieces_end, pieces_partial, pieces_prompt, pieces_stable};
 ghost use Rattle.framed.specs.declared.frame_error.FrameError.TheVariants.{CutOff};
 
+use crate::delimiter::{Delimiter, find_delimiter, first_at};
 use crate::frame_error::FrameError;
 use crate::prompt_decoder::PromptDecoder;
 use crate::round_trip::RoundTrip;
 use bytes::BytesMut;
-use memchr::memchr;
 use std::convert::AsSlice;
 use tokio_util::codec::{Decoder, Encoder};
 
@@ -71,13 +71,10 @@ impl Decoder for LineDelimited {
         ensures next { Decodes gives_line_delimited self.old src.old.items result self.new src.new.items }
         ensures kept { IfOk result (λ r. IfNone r ((src.new.items ≡ src.old.items) × (self.new ≡ self.old))) }
     {
-        // A newline behind these bytes ends a line that is too long.
-        let searched = src.len().min(self.max.saturating_add(1));
-        let Some(end) = find_newline(&src.as_slice()[..searched]) else {
-            if searched > self.max {
-                return Err(FrameError::TooLong(searched));
-            }
-            return Ok(None);
+        let end = match find_delimiter(src.as_slice(), b'\n', self.max) {
+            Delimiter::At(end) => end,
+            Delimiter::Missing => return Ok(None),
+            Delimiter::TooFar => return Err(FrameError::TooLong(self.max + 1)),
         };
         let mut line = src.split_to(end + 1)?;
         line.truncate(end);
@@ -106,7 +103,7 @@ impl<T: AsSlice<u8> + Drop> Encoder<T> for LineDelimited {
         if line.len() > self.max {
             return Err(FrameError::TooLong(line.len()));
         }
-        if let Some(at) = find_newline(line) {
+        if let Some(at) = first_at(line, b'\n') {
             return Err(FrameError::HasNewline(at));
         }
         if line_length(line) < line.len() {
@@ -131,13 +128,6 @@ impl<T: AsSlice<u8> + Drop> RoundTrip<T> for LineDelimited {
     ghost means = { λ item line. line.items ≡ T.items item };
 
     ghost back = { line_back T.items };
-}
-
-// Returns how many bytes are before the first newline.
-fn find_newline(bytes: &[u8]) -> Option<usize>
-    ensures { FirstNewline bytes.now result }
-{
-    memchr(b'\n', bytes)
 }
 
 // Returns how many bytes a text has without the `\r` that may end it.

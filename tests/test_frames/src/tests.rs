@@ -1,4 +1,5 @@
 mod collecting;
+mod heads;
 mod in_hand;
 mod length_delimited;
 mod line_delimited;
@@ -68,6 +69,7 @@ fn polled(
 fn stopped(error: FrameError) -> Polled {
     match error {
         FrameError::TooLong(_) => Polled::Stopped("too long", ErrorKind::InvalidData),
+        FrameError::Malformed => Polled::Stopped("malformed", ErrorKind::InvalidData),
         FrameError::CutOff => Polled::Stopped("cut off", ErrorKind::UnexpectedEof),
         FrameError::HasNewline(_) | FrameError::EndsInReturn => {
             Polled::Stopped("no line", ErrorKind::InvalidData)

@@ -31,7 +31,10 @@ impl Service for Store {
         match error {
             FrameError::TooLong(_) => one_line(alloc, b"error: the line is too long", b""),
             FrameError::CutOff => one_line(alloc, b"error: the last line has no newline", b""),
-            FrameError::HasNewline(_) | FrameError::EndsInReturn | FrameError::Io(_) => {
+            FrameError::Malformed
+            | FrameError::HasNewline(_)
+            | FrameError::EndsInReturn
+            | FrameError::Io(_) => {
                 Ok(Vec::new(alloc))
             }
         }

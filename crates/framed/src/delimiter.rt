@@ -1,0 +1,51 @@
+//! Where the first delimiter is.
+ghost use Rattle.std.specs.Prelude.{◌≡◌, ◌<◌, ◌+◌, ◌^◌};
+ghost use Rattle.framed.specs.Heads.{FindsDelimiter, FirstAt};
+ghost use Rattle.framed.specs.declared.delimiter.Delimiter.TheVariants.{TooFar};
+
+use memchr::memchr;
+
+/// What `find_delimiter` found.
+#[derive(Debug, Clone, Copy, PartialEq, Eq)]
+pub enum Delimiter {
+    /// The first delimiter is behind so many bytes, which are at most the limit.
+    At(usize),
+    /// There is no delimiter yet, and no byte above the limit.
+    Missing,
+    /// More bytes than the limit come before the first delimiter.
+    TooFar,
+}
+
+/// Returns where the first byte `delimiter` is, if at most `max` bytes are before it.
+///
+/// It looks at no more than `max + 1` bytes, by one `memchr`. So a decoder knows a head or a line that is too long as
+/// soon as one byte too many is there.
+///
+/// # Examples
+///
+/// ```
+/// use framed::{find_delimiter, Delimiter};
+///
+/// assert_eq!(rt; find_delimiter(b"12:abc", b':', 3), Delimiter::At(2));
+/// assert_eq!(rt; find_delimiter(b"12", b':', 3), Delimiter::Missing);
+/// assert_eq!(rt; find_delimiter(b"1234:", b':', 3), Delimiter::TooFar);
+/// ```
+pub fn find_delimiter(bytes: &[u8], delimiter: u8, max: usize) -> Delimiter
+    ensures found { FindsDelimiter delimiter max bytes.now result }
+    ensures fits { result ≡ TooFar → max + 1 < 2 ^ 64 }
+{
+    // A delimiter behind these bytes is too far.
+    let searched = bytes.len().min(max.saturating_add(1));
+    match first_at(&bytes[..searched], delimiter) {
+        Some(at) => Delimiter::At(at),
+        None if searched > max => Delimiter::TooFar,
+        None => Delimiter::Missing,
+    }
+}
+
+// Returns how many bytes are before the first such byte.
+pub(crate) fn first_at(bytes: &[u8], byte: u8) -> Option<usize>
+    ensures { FirstAt byte bytes.now result }
+{
+    memchr(byte, bytes)
+}
