@@ -185,15 +185,6 @@ impl<T: Read> AsyncRead for AssertAsync<T> {
     }
 }
 
-// It is never pending.
-impl<T: Read> CalmRead for AssertAsync<T> {
-    ghost use Rattle.lite_bridge.specs.AssertAsync.{handle_of};
-
-    ghost is_calm = { λ _. ⊤ };
-
-    ghost calm = { spends_calm (λ x. T.remaining (handle_of x)) };
-}
-
 // For two values of which the same bytes are known, if no read fails: std does not say when an error comes.
 impl<T: Read> SteadyRead for AssertAsync<T> {
     ghost use Rattle.lite_bridge.specs.AssertAsync.{handle_of};
@@ -205,6 +196,15 @@ impl<T: Read> SteadyRead for AssertAsync<T> {
     ghost alike = { λ x y. SameKnown (T.remaining (handle_of x)) (T.remaining (handle_of y)) };
 
     ghost steady = { spends_steady (λ x. T.remaining (handle_of x)) };
+}
+
+// It is never pending.
+impl<T: Read> CalmRead for AssertAsync<T> {
+    ghost use Rattle.lite_bridge.specs.AssertAsync.{handle_of};
+
+    ghost is_calm = { λ _. ⊤ };
+
+    ghost calm = { spends_calm (λ x. T.remaining (handle_of x)) };
 }
 
 impl<T: Write> Takings for AssertAsync<T> {

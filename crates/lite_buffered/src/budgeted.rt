@@ -3,7 +3,8 @@ ghost use Rattle.lite_buffered.specs.Uses.{Lends, sem, IfReady, Keeps, Registere
 
 use lite_base::{Context, Poll, ready};
 use lite_io_base::{
-    AsyncBufRead, AsyncRead, AsyncSeek, AsyncWrite, CountedRead, Takings, Tale, fill,
+    AsyncBufRead, AsyncRead, AsyncSeek, AsyncWrite, CalmWrite, CountedRead, SteadyRead,
+    SteadyWrite, Takings, Tale, fill,
 };
 use std::io;
 use std::io::{IoSlice, SeekFrom};
@@ -296,4 +297,37 @@ impl<R: AsyncRead> CountedRead for Budgeted<R> {
     ghost ranks = { budgeted_ranks };
 
     ghost counting = { budgets_counting };
+}
+
+// Whatever the two budgets are.
+impl<R: SteadyRead> SteadyRead for Budgeted<R> {
+    ghost use Rattle.lite_buffered.specs.Budgeted.{BudgetsMarks};
+    ghost use Rattle.lite_buffered.specs.Laws.Budgeted.{budgets_steady};
+
+    ghost ample = { BudgetsMarks R.ample };
+
+    ghost needs_none = { R.needs_none };
+
+    ghost alike = { λ x y. R.alike x.reader y.reader };
+
+    ghost steady = { budgets_steady R.steady };
+}
+
+impl<R: SteadyWrite> SteadyWrite for Budgeted<R> {
+    ghost use Rattle.lite_buffered.specs.Laws.Budgeted.{within_steady};
+
+    ghost alike = { λ x y. R.alike x.reader y.reader };
+
+    ghost below = { λ x. R.below x.reader };
+
+    ghost steady = { within_steady R.steady };
+}
+
+// As a writer; as a reader it is pending by itself.
+impl<R: CalmWrite> CalmWrite for Budgeted<R> {
+    ghost use Rattle.lite_buffered.specs.Laws.Budgeted.{within_calm};
+
+    ghost is_calm = { λ x. R.is_calm x.reader };
+
+    ghost calm = { within_calm R.calm };
 }

@@ -3,8 +3,8 @@ ghost use Rattle.lite_buffered.specs.Uses.{Lends, sem, IfReady, Keeps, fill_mark
 
 use lite_base::{Context, Poll, ready};
 use lite_io_base::{
-    AsyncBufRead, AsyncRead, AsyncSeek, AsyncWrite, CountedRead, Takings, Tale, fill_slice,
-    fill_slices, total_room,
+    AsyncBufRead, AsyncRead, AsyncSeek, AsyncWrite, CalmRead, CalmWrite, CountedRead, SteadyRead,
+    SteadyWrite, Takings, Tale, fill_slice, fill_slices, total_room,
 };
 use std::alloc::Global;
 use std::io::{IoSliceMut, SeekFrom};
@@ -700,4 +700,46 @@ impl<R: CountedRead> CountedRead for BufReader<R> {
     ghost ranks = { ahead_ranks R.ranks };
 
     ghost counting = { through_counting R.counting };
+}
+
+// If its capacity is above 0: without one, a fill looks like end of file.
+impl<R: SteadyRead> SteadyRead for BufReader<R> {
+    ghost use Rattle.lite_buffered.specs.BufReader.{ThroughBuffer};
+    ghost use Rattle.lite_buffered.specs.Laws.Steady.BufReader.{AheadAlike, buf_reader_steady};
+
+    ghost ample = { ThroughBuffer R.ample };
+
+    ghost needs_none = { R.needs_none };
+
+    ghost alike = { AheadAlike R.alike };
+
+    ghost steady = { buf_reader_steady R.steady };
+}
+
+// Past what is ahead.
+impl<R: SteadyWrite> SteadyWrite for BufReader<R> {
+    ghost use Rattle.lite_buffered.specs.Laws.Steady.Past.{past_steady};
+
+    ghost alike = { λ x y. R.alike x.inner y.inner };
+
+    ghost below = { λ x. R.below x.inner };
+
+    ghost steady = { past_steady R.steady };
+}
+
+impl<R: CalmRead> CalmRead for BufReader<R> {
+    ghost use Rattle.lite_buffered.specs.Laws.Steady.BufReader.{buf_reader_calm};
+
+    ghost is_calm = { λ x. R.is_calm x.inner };
+
+    ghost calm = { buf_reader_calm R.calm };
+}
+
+// Past what is ahead.
+impl<R: CalmWrite> CalmWrite for BufReader<R> {
+    ghost use Rattle.lite_buffered.specs.Laws.Steady.Past.{past_calm};
+
+    ghost is_calm = { λ x. R.is_calm x.inner };
+
+    ghost calm = { past_calm R.calm };
 }

@@ -3,7 +3,7 @@ ghost use Rattle.lite_buffered.specs.Uses.{Lends, sem, boxed_slice_items, IfRead
 ghost use Rattle.lite_buffered.specs.Uses.{Registered};
 
 use lite_base::{Context, Poll, ready};
-use lite_io_base::{AsyncSeek, AsyncWrite, Takings, Tale};
+use lite_io_base::{AsyncSeek, AsyncWrite, CalmWrite, SteadyWrite, Takings, Tale};
 use std::alloc::Global;
 use std::boxed::BoxedSlice;
 use std::io::{ErrorKind, SeekFrom};
@@ -563,4 +563,22 @@ impl<W: AsyncWrite + AsyncSeek> AsyncSeek for BufWriter<W> {
         }
         self.inner.poll_seek(cx, pos)
     }
+}
+
+impl<W: SteadyWrite> SteadyWrite for BufWriter<W> {
+    ghost use Rattle.lite_buffered.specs.Laws.SteadyWrite.{HeldAlike, buf_writer_steady};
+
+    ghost alike = { HeldAlike W.alike };
+
+    ghost below = { λ x. W.below x.inner };
+
+    ghost steady = { buf_writer_steady W.steady };
+}
+
+impl<W: CalmWrite> CalmWrite for BufWriter<W> {
+    ghost use Rattle.lite_buffered.specs.Laws.SteadyWrite.{buf_writer_calm};
+
+    ghost is_calm = { λ x. W.is_calm x.inner };
+
+    ghost calm = { buf_writer_calm W.calm };
 }

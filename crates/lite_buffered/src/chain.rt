@@ -4,7 +4,8 @@ ghost use Rattle.lite_buffered.specs.Uses.{Registered};
 
 use lite_base::{Context, Poll, ready};
 use lite_io_base::{
-    AsyncBufRead, AsyncRead, CountedRead, Takings, Tale, fill, fill_slices, total_room,
+    AsyncBufRead, AsyncRead, CalmRead, CountedRead, SteadyRead, Takings, Tale, fill, fill_slices,
+    total_room,
 };
 use std::io::IoSliceMut;
 use std::{fmt, io};
@@ -427,4 +428,25 @@ impl<R1: CountedRead, R2: CountedRead> CountedRead for Chain<R1, R2> {
     ghost ranks = { chain_read_ranks R1.ranks R2.ranks };
 
     ghost counting = { chains_counting R1.reads R2.reads R1.counting R2.counting };
+}
+
+impl<R1: SteadyRead, R2: SteadyRead> SteadyRead for Chain<R1, R2> {
+    ghost use Rattle.lite_buffered.specs.Chain.{ChainsReaders};
+    ghost use Rattle.lite_buffered.specs.Laws.Steady.Chain.{PlaceAlike, chain_steady};
+
+    ghost ample = { ChainsReaders R1.ample R2.ample };
+
+    ghost needs_none = { R1.needs_none × R2.needs_none };
+
+    ghost alike = { PlaceAlike R1.alike R2.alike };
+
+    ghost steady = { chain_steady R1.steady R2.steady };
+}
+
+impl<R1: CalmRead, R2: CalmRead> CalmRead for Chain<R1, R2> {
+    ghost use Rattle.lite_buffered.specs.Laws.Steady.Chain.{chain_calm};
+
+    ghost is_calm = { λ x. R1.is_calm x.first × R2.is_calm x.second };
+
+    ghost calm = { chain_calm R1.calm R2.calm };
 }

@@ -1,8 +1,9 @@
-ghost use Rattle.std.specs.Prelude.{[]};
-ghost use Rattle.lite_buffered.specs.Uses.{TellsScript, told_known, told_falls, told_laws, number_ranks, number_counting, Idle, idle_laws};
+ghost use Rattle.std.specs.Prelude.{[], ◌≡◌, ⊤};
+ghost use Rattle.lite_buffered.specs.Uses.{TellsScript, told_known, told_falls, told_laws, number_ranks, number_counting, Idle, idle_laws, told_steady};
+ghost use Rattle.lite_buffered.specs.Uses.{strip_marks, told_calm};
 
 use lite_base::{Context, Poll};
-use lite_io_base::{AsyncBufRead, AsyncRead, CountedRead, Takings, Tale};
+use lite_io_base::{AsyncBufRead, AsyncRead, CalmRead, CountedRead, SteadyRead, Takings, Tale};
 use std::{fmt, io};
 
 /// A reader that is always at end of file.
@@ -64,4 +65,19 @@ impl CountedRead for Empty {
     ghost ranks = { number_ranks (λ x. 0) };
 
     ghost counting = { number_counting (λ x y. told_falls [] []) };
+}
+
+impl SteadyRead for Empty {
+    ghost ample = { λ x l y. TellsScript [] l [] };
+
+    ghost alike = { λ x y. strip_marks [] ≡ strip_marks [] };
+
+    ghost steady = { told_steady (λ x. []) };
+}
+
+// It is never pending.
+impl CalmRead for Empty {
+    ghost is_calm = { λ _. ⊤ };
+
+    ghost calm = { told_calm (λ x. []) };
 }

@@ -4,15 +4,12 @@
 mod budgeted;
 mod buf_reader;
 mod buf_writer;
-mod calm;
 mod chain;
 mod empty;
 mod in_order;
 pub mod make;
 mod repeat;
 mod seek_counts;
-mod steady;
-mod steady_write;
 mod take;
 
 pub use budgeted::Budgeted;

@@ -1,10 +1,11 @@
-ghost use Rattle.std.specs.Prelude.{◌≡◌, ◌≤◌, Ok, length, IfOk};
+ghost use Rattle.std.specs.Prelude.{◌≡◌, ◌≤◌, ⊤, Ok, length, IfOk};
 ghost use Rattle.lite_buffered.specs.Uses.{IfReady, Keeps, read_marks, Idle, idle_laws, Registered};
 ghost use Rattle.lite_buffered.specs.Repeat.{RepeatsByte, byte_of};
 ghost use Rattle.lite_buffered.specs.Laws.Repeat.{repeats_laws};
+ghost use Rattle.lite_buffered.specs.Laws.Steady.Repeat.{repeat_calm, repeat_steady};
 
 use lite_base::{Context, Poll};
-use lite_io_base::{AsyncRead, Takings, Tale};
+use lite_io_base::{AsyncRead, CalmRead, SteadyRead, Takings, Tale};
 use std::io;
 
 /// A reader that gives one byte for ever: each read fills its whole buffer.
@@ -47,4 +48,19 @@ impl AsyncRead for Repeat {
         buf.fill(self.byte);
         Poll::Ready(Ok(buf.len()))
     }
+}
+
+impl SteadyRead for Repeat {
+    ghost ample = { RepeatsByte };
+
+    ghost alike = { λ x y. x.byte ≡ y.byte };
+
+    ghost steady = { repeat_steady };
+}
+
+// It is never pending.
+impl CalmRead for Repeat {
+    ghost is_calm = { λ _. ⊤ };
+
+    ghost calm = { repeat_calm };
 }

@@ -2,7 +2,9 @@ ghost use Rattle.std.specs.Prelude.{◌≡◌, ◌≤◌, ◌⊎◌, Ok, length,
 ghost use Rattle.lite_buffered.specs.Uses.{Lends, sem, IfReady, Keeps, read_marks, Idle, ReadsInto, room_in, idle_laws, Registered};
 
 use lite_base::{Context, Poll, ready};
-use lite_io_base::{AsyncBufRead, AsyncRead, CountedRead, Takings, Tale, fill, first_room};
+use lite_io_base::{
+    AsyncBufRead, AsyncRead, CalmRead, CountedRead, SteadyRead, Takings, Tale, fill, first_room,
+};
 use std::io;
 use std::io::IoSliceMut;
 
@@ -315,4 +317,25 @@ impl<R: CountedRead> CountedRead for Take<R> {
     ghost ranks = { ranks_of take_inner R.ranks };
 
     ghost counting = { takes_counting R.counting };
+}
+
+impl<R: SteadyRead> SteadyRead for Take<R> {
+    ghost use Rattle.lite_buffered.specs.Take.{TakesMarks};
+    ghost use Rattle.lite_buffered.specs.Laws.Steady.Take.{LimitAlike, take_steady};
+
+    ghost ample = { TakesMarks R.ample };
+
+    ghost needs_none = { R.needs_none };
+
+    ghost alike = { LimitAlike R.alike };
+
+    ghost steady = { take_steady R.steady };
+}
+
+impl<R: CalmRead> CalmRead for Take<R> {
+    ghost use Rattle.lite_buffered.specs.Laws.Steady.Take.{take_calm};
+
+    ghost is_calm = { λ x. R.is_calm x.inner };
+
+    ghost calm = { take_calm R.calm };
 }

@@ -1,11 +1,14 @@
-ghost use Rattle.lite_consume.specs.Uses.{Calls};
+ghost use Rattle.std.specs.Prelude.{◌≡◌};
+ghost use Rattle.lite_consume.specs.Uses.{AgreeFrom, Calls, SameItem};
 ghost use Rattle.lite_consume.specs.Any.{anys};
 ghost use Rattle.lite_consume.specs.Consuming.{fold_of};
+ghost use Rattle.lite_consume.specs.Laws.Agreeing.{part_steady};
+ghost use Rattle.lite_consume.specs.Laws.Matching.{any_steady};
 ghost use Rattle.lite_consume.specs.Laws.Returning.{returns_counted};
 
 use crate::consume::Consume;
-use crate::folder::Folder;
-use lite_base::Counted;
+use crate::folder::{Folder, SteadyFolder};
+use lite_base::{Counted, SteadyStream};
 
 /// A future that resolves to whether a predicate returns true for an item of a stream. It is false if there
 /// is no item.
@@ -43,4 +46,12 @@ impl<S: Counted, P: FnMut(S::Item) -> bool> Folder<S> for Any<P> {
     }
 
     ghost returns = { returns_counted S.counting (λ p q x o h. tt) };
+}
+
+impl<S: Counted + SteadyStream, P: FnMut(S::Item) -> bool> SteadyFolder<S> for Any<P> {
+    ghost ample = { fold_of (λ f. f.predicate) (anys (Calls P.FnMut)) };
+
+    ghost agree = { λ f g. AgreeFrom (SameItem S.same) (λ y z. y ≡ z) (Calls P.FnMut) f.predicate g.predicate };
+
+    ghost steady_fold = { part_steady (λ f. f.predicate) (any_steady (SameItem S.same) (Calls P.FnMut)) };
 }

@@ -1,9 +1,13 @@
 ghost use Rattle.lite_consume.specs.Uses.{Terminates-map};
 ghost use Rattle.lite_consume.specs.Consume.{CanFold, ConsumePollStep, Folds};
-ghost use Rattle.lite_consume.specs.Laws.Consuming.{consumed_laws};
+ghost use Rattle.lite_consume.specs.Laws.Agreeing.{consumed_steady};
+ghost use Rattle.lite_consume.specs.Laws.Consuming.{consumed_calm, consumed_laws};
 
-use crate::folder::Folder;
-use lite_base::{Context, Future, Poll, PollSteps, Stream, drive};
+use crate::folder::{Folder, SteadyFolder};
+use lite_base::{
+    CalmFuture, CalmStream, Context, Future, Poll, PollSteps, SteadyFuture, SteadyStream, Stream,
+    drive,
+};
 
 /// A future that resolves to what a [`Folder`] makes of the items of a stream.
 ///
@@ -66,4 +70,22 @@ impl<S: Stream, F: Folder<S>> Future for Consume<S, F> {
     fn poll(&mut self, cx: &mut Context<'_>) -> Poll<F::Output> {
         drive(self, cx)
     }
+}
+
+impl<S: SteadyStream, F: SteadyFolder<S>> SteadyFuture for Consume<S, F> {
+    ghost ample = { Folds S.ample F.ample };
+
+    ghost needs_none = { S.needs_none × F.needs_none };
+
+    ghost same = { F.same };
+
+    ghost alike = { λ x y. S.alike x.stream y.stream × F.agree x.folder y.folder };
+
+    ghost steady = { consumed_steady S.same F.same S.steady F.steady_fold };
+}
+
+impl<S: CalmStream, F: Folder<S>> CalmFuture for Consume<S, F> {
+    ghost is_calm = { λ m. S.is_calm m.stream };
+
+    ghost calm = { consumed_calm F.fold S.calm };
 }

@@ -1,10 +1,13 @@
+ghost use Rattle.std.specs.Prelude.{◌≡◌};
 ghost use Rattle.lite_consume.specs.Consuming.{fold_of};
 ghost use Rattle.lite_consume.specs.Count.{counts};
+ghost use Rattle.lite_consume.specs.Laws.Agreeing.{part_steady};
+ghost use Rattle.lite_consume.specs.Laws.Matching.{count_steady};
 ghost use Rattle.lite_consume.specs.Laws.Returning.{returns_counted};
 
 use crate::consume::Consume;
-use crate::folder::Folder;
-use lite_base::Counted;
+use crate::folder::{Folder, SteadyFolder};
+use lite_base::{Counted, SteadyStream};
 
 /// A future that resolves to the number of items of a stream up to its end, modulo 2^64.
 ///
@@ -35,4 +38,12 @@ impl<S: Counted<Item: Drop>> Folder<S> for Count {
     }
 
     ghost returns = { returns_counted S.counting (λ p q x o h. tt) };
+}
+
+impl<S: Counted<Item: Drop> + SteadyStream> SteadyFolder<S> for Count {
+    ghost ample = { fold_of (λ f. f.count) counts };
+
+    ghost agree = { λ f g. g.count ≡ f.count };
+
+    ghost steady_fold = { part_steady (λ f. f.count) (count_steady S.same) };
 }

@@ -1,11 +1,13 @@
-ghost use Rattle.lite_consume.specs.Uses.{Calls};
+ghost use Rattle.lite_consume.specs.Uses.{AgreeKeeping, Calls, Keeping, Optional};
 ghost use Rattle.lite_consume.specs.Consuming.{fold_of};
 ghost use Rattle.lite_consume.specs.FindMap.{finds_map};
+ghost use Rattle.lite_consume.specs.Laws.Agreeing.{part_steady};
+ghost use Rattle.lite_consume.specs.Laws.Matching.{find_map_steady};
 ghost use Rattle.lite_consume.specs.Laws.Returning.{returns_counted};
 
 use crate::consume::Consume;
-use crate::folder::Folder;
-use lite_base::Counted;
+use crate::folder::{Folder, SteadyFolder};
+use lite_base::{Counted, SteadyStream};
 
 /// A future that resolves to the first result of a closure on the items of a stream that is not `None`, or to
 /// `None` at an end.
@@ -41,4 +43,14 @@ impl<B, S: Counted, F: FnMut(S::Item) -> Option<B>> Folder<S> for FindMap<F> {
     }
 
     ghost returns = { returns_counted S.counting (λ p q x o h. tt) };
+}
+
+impl<B, S: Counted + SteadyStream, F: FnMut(S::Item) -> Option<B>> SteadyFolder<S> for FindMap<F> {
+    ghost ample = { fold_of (λ m. m.f) (finds_map (Calls F.FnMut)) };
+
+    ghost same = { Optional (Keeping S.same (Calls F.FnMut)) };
+
+    ghost agree = { λ m n. AgreeKeeping S.same (Calls F.FnMut) m.f n.f };
+
+    ghost steady_fold = { part_steady (λ m. m.f) (find_map_steady S.same (Calls F.FnMut)) };
 }

@@ -1,12 +1,16 @@
 ghost use Rattle.std.specs.Prelude.{◌≡◌, IsSome, Some};
+ghost use Rattle.lite_consume.specs.Uses.{Agree};
 ghost use Rattle.lite_consume.specs.Calls.{CallsBoth};
 ghost use Rattle.lite_consume.specs.Consuming.{fold_of};
 ghost use Rattle.lite_consume.specs.Fold.{folds, folds_open};
+ghost use Rattle.lite_consume.specs.Kin.{AgreeBeside, AgreeOrKin, Giving};
+ghost use Rattle.lite_consume.specs.Laws.Agreeing.{part_steady};
+ghost use Rattle.lite_consume.specs.Laws.Matching.{fold_steady};
 ghost use Rattle.lite_consume.specs.Laws.Returning.{returns_counted};
 
 use crate::consume::Consume;
-use crate::folder::Folder;
-use lite_base::Counted;
+use crate::folder::{Folder, SteadyFolder};
+use lite_base::{Counted, SteadyStream};
 
 /// A future that folds the items of a stream, one after the other, into an accumulator.
 ///
@@ -52,4 +56,15 @@ impl<T: Drop, S: Counted, F: FnMut(T, S::Item) -> T> Folder<S> for Fold<F, T> {
     }
 
     ghost returns = { returns_counted S.counting (λ p q x o h. folds_open (CallsBoth F.FnMut) (p.f, p.acc) (q.f, q.acc) x h) };
+}
+
+impl<T: Drop, S: Counted + SteadyStream, F: FnMut(T, S::Item) -> T> SteadyFolder<S> for Fold<F, T> {
+    ghost ample = { fold_of (λ m. (m.f, m.acc)) (folds (CallsBoth F.FnMut)) };
+
+    ghost same = { Giving S.same (folds (CallsBoth F.FnMut)) };
+
+    ghost agree = { λ m n. AgreeOrKin S.same (AgreeBeside (Agree (CallsBoth F.FnMut))) (folds (CallsBoth F.FnMut)) (m.f, m.acc)
+        (n.f, n.acc) };
+
+    ghost steady_fold = { part_steady (λ m. (m.f, m.acc)) (fold_steady (CallsBoth F.FnMut) S.same) };
 }

@@ -1,10 +1,13 @@
+ghost use Rattle.lite_consume.specs.Uses.{Optional, SameHeld};
 ghost use Rattle.lite_consume.specs.Consuming.{fold_of};
 ghost use Rattle.lite_consume.specs.Last.{lasts};
+ghost use Rattle.lite_consume.specs.Laws.Agreeing.{part_steady};
+ghost use Rattle.lite_consume.specs.Laws.Matching.{last_steady};
 ghost use Rattle.lite_consume.specs.Laws.Returning.{returns_counted};
 
 use crate::consume::Consume;
-use crate::folder::Folder;
-use lite_base::{Counted, Stream};
+use crate::folder::{Folder, SteadyFolder};
+use lite_base::{Counted, SteadyStream, Stream};
 
 /// A future that resolves to the last item of a stream before its end, or to `None` if there is none.
 ///
@@ -35,4 +38,14 @@ impl<T: Drop, S: Counted<Item = T>> Folder<S> for Last<T> {
     }
 
     ghost returns = { returns_counted S.counting (λ p q x o h. tt) };
+}
+
+impl<T: Drop, S: Counted<Item = T> + SteadyStream> SteadyFolder<S> for Last<T> {
+    ghost ample = { fold_of (λ f. f.last) lasts };
+
+    ghost same = { Optional S.same };
+
+    ghost agree = { λ f g. SameHeld S.same f.last g.last };
+
+    ghost steady_fold = { part_steady (λ f. f.last) (last_steady S.same) };
 }

@@ -1,8 +1,9 @@
 ghost use Rattle.lite_consume.specs.Consuming.{fold_of};
+ghost use Rattle.lite_consume.specs.Laws.Agreeing.{part_steady};
 ghost use Rattle.lite_consume.specs.Laws.Returning.{lent_returns};
 
-use crate::folder::Folder;
-use lite_base::Stream;
+use crate::folder::{Folder, SteadyFolder};
+use lite_base::{SteadyStream, Stream};
 
 impl<S: Stream, F: Folder<S>> Folder<&mut S> for &mut F {
     type Output = F::Output;
@@ -24,4 +25,16 @@ impl<S: Stream, F: Folder<S>> Folder<&mut S> for &mut F {
     }
 
     ghost returns = { lent_returns S.run F.fold F.returns };
+}
+
+impl<S: SteadyStream, F: SteadyFolder<S>> SteadyFolder<&mut S> for &mut F {
+    ghost ample = { fold_of (λ f. f.now) F.ample };
+
+    ghost needs_none = { F.needs_none };
+
+    ghost same = { F.same };
+
+    ghost agree = { λ f g. F.agree f.now g.now };
+
+    ghost steady_fold = { part_steady (λ f. f.now) F.steady_fold };
 }

@@ -5,7 +5,6 @@
 mod all;
 mod any;
 mod block_on;
-mod calm;
 mod consume;
 mod count;
 mod find;
@@ -19,7 +18,6 @@ pub mod make;
 mod next;
 mod nth;
 mod position;
-mod steady;
 mod try_fold;
 mod try_for_each;
 mod try_next;

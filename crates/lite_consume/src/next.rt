@@ -1,9 +1,12 @@
+ghost use Rattle.std.specs.Prelude.{⊤};
+ghost use Rattle.lite_consume.specs.Uses.{Optional};
+ghost use Rattle.lite_consume.specs.Laws.Matching.{next_steady};
 ghost use Rattle.lite_consume.specs.Laws.Returning.{returns_none};
 ghost use Rattle.lite_consume.specs.Next.{nexts};
 
 use crate::consume::Consume;
-use crate::folder::Folder;
-use lite_base::Stream;
+use crate::folder::{Folder, SteadyFolder};
+use lite_base::{SteadyStream, Stream};
 
 /// A future that resolves to the next item of a stream, or to `None` at an end.
 ///
@@ -28,4 +31,14 @@ impl<S: Stream> Folder<S> for Next {
     }
 
     ghost returns = { returns_none (λ p q x h. h) };
+}
+
+impl<S: SteadyStream> SteadyFolder<S> for Next {
+    ghost ample = { nexts };
+
+    ghost same = { Optional S.same };
+
+    ghost agree = { λ _ _. ⊤ };
+
+    ghost steady_fold = { next_steady S.same };
 }

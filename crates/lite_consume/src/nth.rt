@@ -1,10 +1,14 @@
+ghost use Rattle.std.specs.Prelude.{◌≡◌};
+ghost use Rattle.lite_consume.specs.Uses.{Optional};
 ghost use Rattle.lite_consume.specs.Consuming.{fold_of};
+ghost use Rattle.lite_consume.specs.Laws.Agreeing.{part_steady};
+ghost use Rattle.lite_consume.specs.Laws.Matching.{nth_steady};
 ghost use Rattle.lite_consume.specs.Laws.Returning.{one_less, returns_fewer};
 ghost use Rattle.lite_consume.specs.Nth.{nths};
 
 use crate::consume::Consume;
-use crate::folder::Folder;
-use lite_base::Stream;
+use crate::folder::{Folder, SteadyFolder};
+use lite_base::{SteadyStream, Stream};
 
 /// A future that resolves to the item of a stream with a given index, counted from 0, or to `None` at an end
 /// before it.
@@ -38,4 +42,14 @@ impl<S: Stream<Item: Drop>> Folder<S> for Nth {
     }
 
     ghost returns = { returns_fewer (λ f. f.n) (λ p q x h. one_less h) (λ p q x o h. tt) };
+}
+
+impl<S: SteadyStream<Item: Drop>> SteadyFolder<S> for Nth {
+    ghost ample = { fold_of (λ f. f.n) nths };
+
+    ghost same = { Optional S.same };
+
+    ghost agree = { λ f g. g.n ≡ f.n };
+
+    ghost steady_fold = { part_steady (λ f. f.n) (nth_steady S.same) };
 }

@@ -1,11 +1,14 @@
-ghost use Rattle.lite_consume.specs.Uses.{Calls};
+ghost use Rattle.std.specs.Prelude.{◌≡◌};
+ghost use Rattle.lite_consume.specs.Uses.{AgreeFrom, Calls, SameItem};
 ghost use Rattle.lite_consume.specs.Consuming.{fold_of};
+ghost use Rattle.lite_consume.specs.Laws.Agreeing.{part_steady};
+ghost use Rattle.lite_consume.specs.Laws.Matching.{position_steady};
 ghost use Rattle.lite_consume.specs.Laws.Returning.{returns_counted};
 ghost use Rattle.lite_consume.specs.Position.{positions};
 
 use crate::consume::Consume;
-use crate::folder::Folder;
-use lite_base::Counted;
+use crate::folder::{Folder, SteadyFolder};
+use lite_base::{Counted, SteadyStream};
 
 /// A future that resolves to the index of the first item of a stream for which a predicate returns true, or
 /// to `None` at an end.
@@ -46,4 +49,13 @@ impl<S: Counted, P: FnMut(S::Item) -> bool> Folder<S> for Position<P> {
     }
 
     ghost returns = { returns_counted S.counting (λ p q x o h. tt) };
+}
+
+impl<S: Counted + SteadyStream, P: FnMut(S::Item) -> bool> SteadyFolder<S> for Position<P> {
+    ghost ample = { fold_of (λ f. (f.predicate, f.index)) (positions (Calls P.FnMut)) };
+
+    ghost agree = { λ f g. AgreeFrom (SameItem S.same) (λ y z. y ≡ z) (Calls P.FnMut) f.predicate g.predicate
+        × (g.index ≡ f.index) };
+
+    ghost steady_fold = { part_steady (λ f. (f.predicate, f.index)) (position_steady (SameItem S.same) (Calls P.FnMut)) };
 }

@@ -1,12 +1,16 @@
 ghost use Rattle.std.specs.Prelude.{◌≡◌, IsSome, Ok, Some};
+ghost use Rattle.lite_consume.specs.Uses.{Agree};
 ghost use Rattle.lite_consume.specs.Calls.{CallsBoth};
 ghost use Rattle.lite_consume.specs.Consuming.{fold_of};
+ghost use Rattle.lite_consume.specs.Kin.{AgreeBeside, AgreeDeciding, Giving};
+ghost use Rattle.lite_consume.specs.Laws.Agreeing.{part_steady};
+ghost use Rattle.lite_consume.specs.Laws.Matching.{try_fold_steady};
 ghost use Rattle.lite_consume.specs.Laws.Returning.{returns_ok};
 ghost use Rattle.lite_consume.specs.TryFold.{tries_fold, tries_fold_open};
 
 use crate::consume::Consume;
-use crate::folder::Folder;
-use lite_base::OkCounted;
+use crate::folder::{Folder, SteadyFolder};
+use lite_base::{OkCounted, SteadyStream};
 
 /// A future that folds the values in the `Ok` items of a stream into an accumulator, up to the first error.
 ///
@@ -61,4 +65,16 @@ impl<B: Drop, S: OkCounted, F: FnMut(B, S::Ok) -> Result<B, S::Err>> Folder<S> f
 
     ghost returns = { returns_ok S.ok_counting (λ p q e h. h)
         (λ p q x o h. tries_fold_open (CallsBoth F.FnMut) (p.f, p.acc) (q.f, q.acc) x h) };
+}
+
+impl<B: Drop, S: OkCounted + SteadyStream, F: FnMut(B, S::Ok) -> Result<B, S::Err>> SteadyFolder<S>
+    for TryFold<F, B> {
+    ghost ample = { fold_of (λ m. (m.f, m.acc)) (tries_fold (CallsBoth F.FnMut)) };
+
+    ghost same = { Giving S.same (tries_fold (CallsBoth F.FnMut)) };
+
+    ghost agree = { λ m n. AgreeDeciding S.same (AgreeBeside (Agree (CallsBoth F.FnMut))) (tries_fold (CallsBoth F.FnMut))
+        (m.f, m.acc) (n.f, n.acc) };
+
+    ghost steady_fold = { part_steady (λ m. (m.f, m.acc)) (try_fold_steady (CallsBoth F.FnMut) S.same) };
 }

@@ -1,11 +1,14 @@
-ghost use Rattle.lite_consume.specs.Uses.{Calls};
+ghost use Rattle.lite_consume.specs.Uses.{Agree, Calls};
 ghost use Rattle.lite_consume.specs.Consuming.{fold_of};
+ghost use Rattle.lite_consume.specs.Kin.{AgreeDeciding, Giving};
+ghost use Rattle.lite_consume.specs.Laws.Agreeing.{part_steady};
+ghost use Rattle.lite_consume.specs.Laws.Matching.{try_for_each_steady};
 ghost use Rattle.lite_consume.specs.Laws.Returning.{returns_counted};
 ghost use Rattle.lite_consume.specs.TryForEach.{tries_each};
 
 use crate::consume::Consume;
-use crate::folder::Folder;
-use lite_base::Counted;
+use crate::folder::{Folder, SteadyFolder};
+use lite_base::{Counted, SteadyStream};
 
 /// A future that calls a closure with each item of a stream, up to its end or the first error that the
 /// closure returns.
@@ -42,4 +45,15 @@ impl<E, S: Counted, F: FnMut(S::Item) -> Result<(), E>> Folder<S> for TryForEach
     }
 
     ghost returns = { returns_counted S.counting (λ p q x o h. tt) };
+}
+
+impl<E, S: Counted + SteadyStream, F: FnMut(S::Item) -> Result<(), E>> SteadyFolder<S>
+    for TryForEach<F> {
+    ghost ample = { fold_of (λ m. m.f) (tries_each (Calls F.FnMut)) };
+
+    ghost same = { Giving S.same (tries_each (Calls F.FnMut)) };
+
+    ghost agree = { λ m n. AgreeDeciding S.same (Agree (Calls F.FnMut)) (tries_each (Calls F.FnMut)) m.f n.f };
+
+    ghost steady_fold = { part_steady (λ m. m.f) (try_for_each_steady (Calls F.FnMut) S.same) };
 }

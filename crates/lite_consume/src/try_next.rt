@@ -1,10 +1,12 @@
+ghost use Rattle.std.specs.Prelude.{⊤};
+ghost use Rattle.lite_consume.specs.TryNext.{SameNext, tries_next};
+ghost use Rattle.lite_consume.specs.Laws.Matching.{try_next_steady};
 ghost use Rattle.lite_consume.specs.Laws.Returning.{returns_none};
-ghost use Rattle.lite_consume.specs.TryNext.{tries_next};
 ghost use Rattle.lite_consume.specs.Laws.TryNext.{none_given};
 
 use crate::consume::Consume;
-use crate::folder::Folder;
-use lite_base::Stream;
+use crate::folder::{Folder, SteadyFolder};
+use lite_base::{SteadyStream, Stream};
 
 /// A future that resolves to `Ok(Some(value))` for the next item `Ok(value)` of a stream, to `Err(e)` for an
 /// item `Err(e)`, and to `Ok(None)` at an end.
@@ -33,4 +35,14 @@ impl<T, E, S: Stream<Item = Result<T, E>>> Folder<S> for TryNext {
     }
 
     ghost returns = { returns_none none_given };
+}
+
+impl<T, E, S: SteadyStream<Item = Result<T, E>>> SteadyFolder<S> for TryNext {
+    ghost ample = { tries_next };
+
+    ghost same = { SameNext S.same };
+
+    ghost agree = { λ _ _. ⊤ };
+
+    ghost steady_fold = { try_next_steady S.same };
 }

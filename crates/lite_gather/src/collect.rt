@@ -1,12 +1,14 @@
 ghost use Rattle.std.specs.Prelude.{IsSome};
-ghost use Rattle.lite_gather.specs.Uses.{fold_of, returns_counted};
+ghost use Rattle.lite_gather.specs.Uses.{OptionBy, Sameness, fold_of, part_steady, returns_counted};
+ghost use Rattle.lite_gather.specs.Agreeing.{HoldsSame, SameCollected};
 ghost use Rattle.lite_gather.specs.Collect.{collects, collects_open};
-ghost use Rattle.lite_gather.specs.Gathering.{LacksRoom};
+ghost use Rattle.lite_gather.specs.Gathering.{LacksRoom, NeverRefuses};
+ghost use Rattle.lite_gather.specs.Laws.Agreeing.{collect_steady};
 
 use crate::gather::Gather;
 use crate::refused::Refused;
-use lite_base::Counted;
-use lite_consume::{Consume, Folder};
+use lite_base::{Counted, SteadyStream};
+use lite_consume::{Consume, Folder, SteadyFolder};
 use std::mem;
 
 /// A future that collects the items of a stream.
@@ -49,4 +51,16 @@ impl<S: Counted, C: Gather<S::Item>> Folder<S> for Collect<C> {
 
     ghost returns = { returns_counted S.counting
         (λ p q x o h. collects_open (LacksRoom C.has_room) C.holds p.collection q.collection x h) };
+}
+
+impl<S: Counted + SteadyStream, C: Gather<S::Item>> SteadyFolder<S> for Collect<C> {
+    ghost ample = { fold_of (λ f. f.collection) (collects NeverRefuses C.holds) };
+
+    ghost needs_none = { ⊥ };
+
+    ghost same = { Sameness.by (SameCollected (HoldsSame S.same C.holds)) };
+
+    ghost agree = { λ f g. OptionBy (HoldsSame S.same C.holds) f.collection g.collection };
+
+    ghost steady_fold = { part_steady (λ f. f.collection) (collect_steady S.same C.holds (LacksRoom C.has_room)) };
 }

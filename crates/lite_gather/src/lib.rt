@@ -8,7 +8,6 @@ mod gather;
 pub mod make;
 mod partition;
 mod refused;
-mod steady;
 mod string;
 mod try_collect;
 mod unzip;

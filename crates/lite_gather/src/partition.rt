@@ -1,12 +1,14 @@
 ghost use Rattle.std.specs.Prelude.{◌≡◌, IfErr, IsSome, OnOk};
-ghost use Rattle.lite_gather.specs.Uses.{CalledAt, TakesAt, fold_of, returns_counted};
-ghost use Rattle.lite_gather.specs.Gathering.{LacksRoom};
+ghost use Rattle.lite_gather.specs.Uses.{AgreeFrom, CalledAt, OptionBy, SameItem, Sameness, TakesAt, fold_of, part_steady, returns_counted};
+ghost use Rattle.lite_gather.specs.Agreeing.{HoldsSameBoth, SameCollected};
+ghost use Rattle.lite_gather.specs.Gathering.{LacksRoom, NeverRefuses};
 ghost use Rattle.lite_gather.specs.Partition.{Sorted, Unsorted, partitions, partitions_open};
+ghost use Rattle.lite_gather.specs.Laws.Agreeing.{partition_steady};
 
 use crate::gather::Gather;
 use crate::refused::Refused;
-use lite_base::Counted;
-use lite_consume::{Consume, Folder};
+use lite_base::{Counted, SteadyStream};
+use lite_consume::{Consume, Folder, SteadyFolder};
 
 /// A future that collects the items of a stream for which a predicate returns true, and the others.
 ///
@@ -72,4 +74,19 @@ impl<S: Counted, P: FnMut(&S::Item) -> bool, B: Gather<S::Item>> Folder<S> for P
     ghost returns = { returns_counted S.counting
         (λ p q x o h. partitions_open B.holds (CalledAt P.FnMut) (LacksRoom B.has_room) (p.predicate, p.res)
         (q.predicate, q.res) x h) };
+}
+
+impl<S: Counted + SteadyStream, P: FnMut(&S::Item) -> bool, B: Gather<S::Item>> SteadyFolder<S>
+    for Partition<P, B> {
+    ghost ample = { fold_of (λ f. (f.predicate, f.res)) (partitions B.holds (CalledAt P.FnMut) NeverRefuses) };
+
+    ghost needs_none = { ⊥ };
+
+    ghost same = { Sameness.by (SameCollected (HoldsSameBoth S.same S.same B.holds B.holds)) };
+
+    ghost agree = { λ f g. AgreeFrom (SameItem S.same) (λ y z. y ≡ z) (CalledAt P.FnMut) f.predicate g.predicate
+        × OptionBy (HoldsSameBoth S.same S.same B.holds B.holds) f.res g.res };
+
+    ghost steady_fold = { part_steady (λ f. (f.predicate, f.res))
+        (partition_steady S.same B.holds (CalledAt P.FnMut) (LacksRoom B.has_room)) };
 }

@@ -1,12 +1,14 @@
 ghost use Rattle.std.specs.Prelude.{IsSome};
-ghost use Rattle.lite_gather.specs.Uses.{fold_of, returns_ok};
-ghost use Rattle.lite_gather.specs.Gathering.{LacksRoom};
+ghost use Rattle.lite_gather.specs.Uses.{OptionBy, SameErr, SameItem, SameOk, Sameness, fold_of, part_steady, returns_ok};
+ghost use Rattle.lite_gather.specs.Agreeing.{HoldsSame, TrySameCollected, Unmixed};
+ghost use Rattle.lite_gather.specs.Gathering.{LacksRoom, NeverRefuses};
 ghost use Rattle.lite_gather.specs.TryCollect.{tries_collect, tries_collect_open};
+ghost use Rattle.lite_gather.specs.Laws.Agreeing.{try_collect_steady};
 
 use crate::gather::Gather;
 use crate::refused::{Refused, TryCollectError};
-use lite_base::OkCounted;
-use lite_consume::{Consume, Folder};
+use lite_base::{OkCounted, SteadyStream};
+use lite_consume::{Consume, Folder, SteadyFolder};
 use std::mem;
 
 /// A future that collects the values in the `Ok` items of a stream, up to the first error.
@@ -59,4 +61,16 @@ impl<S: OkCounted, C: Gather<S::Ok>> Folder<S> for TryCollect<C> {
 
     ghost returns = { returns_ok S.ok_counting (λ p q e h. h)
         (λ p q x o h. tries_collect_open (LacksRoom C.has_room) C.holds p.items q.items x h) };
+}
+
+impl<S: OkCounted + SteadyStream, C: Gather<S::Ok>> SteadyFolder<S> for TryCollect<C> {
+    ghost ample = { fold_of (λ f. f.items) (tries_collect NeverRefuses C.holds) };
+
+    ghost needs_none = { ⊥ };
+
+    ghost same = { Sameness.by (TrySameCollected (HoldsSame (SameOk S.same) C.holds) (SameItem (SameErr S.same))) };
+
+    ghost agree = { λ f g. Unmixed S.same (OptionBy (HoldsSame (SameOk S.same) C.holds) f.items g.items) };
+
+    ghost steady_fold = { part_steady (λ f. f.items) (try_collect_steady S.same C.holds (LacksRoom C.has_room)) };
 }

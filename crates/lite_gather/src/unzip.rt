@@ -1,13 +1,15 @@
 ghost use Rattle.std.specs.Prelude.{◌≡◌, IfErr, IsSome, OnOk};
-ghost use Rattle.lite_gather.specs.Uses.{fold_of, returns_counted};
-ghost use Rattle.lite_gather.specs.Gathering.{LacksRoom, Took};
+ghost use Rattle.lite_gather.specs.Uses.{OptionBy, Sameness, fold_of, part_steady, returns_counted};
+ghost use Rattle.lite_gather.specs.Agreeing.{HoldsSameParts, SameCollected};
+ghost use Rattle.lite_gather.specs.Gathering.{LacksRoom, NeverRefuses, Took};
 ghost use Rattle.lite_gather.specs.Refused.{refused_of};
 ghost use Rattle.lite_gather.specs.Unzip.{RefusedOne, unzips, unzips_open};
+ghost use Rattle.lite_gather.specs.Laws.Agreeing.{unzip_steady};
 
 use crate::gather::Gather;
 use crate::refused::UnzipRefused;
-use lite_base::Counted;
-use lite_consume::{Consume, Folder};
+use lite_base::{Counted, SteadyStream};
+use lite_consume::{Consume, Folder, SteadyFolder};
 
 /// A future that collects the first and the second parts of the items of a stream.
 ///
@@ -97,4 +99,23 @@ impl<A, B, S: Counted<Item = (A, B)>, FromA: Gather<A>, FromB: Gather<B>> Folder
     ghost returns = { returns_counted S.counting
         (λ p q x o h. unzips_open FromA.holds FromB.holds (LacksRoom FromA.has_room) (LacksRoom FromB.has_room)
         p.res q.res x h) };
+}
+
+impl<
+    A,
+    B,
+    S: Counted<Item = (A, B)> + SteadyStream,
+    FromA: Gather<A>,
+    FromB: Gather<B>,
+> SteadyFolder<S> for Unzip<FromA, FromB> {
+    ghost ample = { fold_of (λ f. f.res) (unzips FromA.holds FromB.holds NeverRefuses NeverRefuses) };
+
+    ghost needs_none = { ⊥ };
+
+    ghost same = { Sameness.by (SameCollected (HoldsSameParts S.same FromA.holds FromB.holds)) };
+
+    ghost agree = { λ f g. OptionBy (HoldsSameParts S.same FromA.holds FromB.holds) f.res g.res };
+
+    ghost steady_fold = { part_steady (λ f. f.res)
+        (unzip_steady FromA.holds FromB.holds S.same (LacksRoom FromA.has_room) (LacksRoom FromB.has_room)) };
 }

@@ -1,9 +1,9 @@
 ghost use Rattle.std.specs.Prelude.{◌∷◌, []};
-ghost use Rattle.lite_merge.specs.Uses.{HoldsWoken, Keeps, Registered, laws_hinted, through_on};
+ghost use Rattle.lite_merge.specs.Uses.{HoldsWoken, Keeps, Registered, laws_hinted, ok_counting, through_on};
 ghost use Rattle.lite_merge.specs.Budgeted.{RegistersLeft, Budgets, budget_parts, budget_ranks};
-ghost use Rattle.lite_merge.specs.Laws.Budgeted.{budget_counting, paces_relating};
+ghost use Rattle.lite_merge.specs.Laws.Budgeted.{budget_counting, budget_steady, paces_relating};
 
-use lite_base::{Context, Counted, Poll, Stream};
+use lite_base::{Context, Counted, OkCounted, Poll, SteadyStream, Stream};
 
 /// A stream that returns `Pending` once after a number of items in a row, so that another task can run.
 ///
@@ -64,4 +64,27 @@ impl<S: Stream> Counted for Budgeted<S> {
     ghost ranks = { budget_ranks };
 
     ghost counting = { budget_counting };
+}
+
+impl<T, E, S: Stream<Item = Result<T, E>>> OkCounted for Budgeted<S> {
+    type Ok = T;
+
+    type Err = E;
+
+    ghost ok_ranks = { budget_ranks };
+
+    ghost ok_counting = { ok_counting budget_counting };
+}
+
+// Whatever the two budgets are.
+impl<S: SteadyStream> SteadyStream for Budgeted<S> {
+    ghost ample = { Budgets S.ample };
+
+    ghost needs_none = { S.needs_none };
+
+    ghost same = { S.same };
+
+    ghost alike = { λ x y. S.alike x.stream y.stream };
+
+    ghost steady = { budget_steady S.same S.steady };
 }

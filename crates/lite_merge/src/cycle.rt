@@ -1,9 +1,9 @@
 ghost use Rattle.std.specs.Prelude.{◌≡◌, [], ◌∷◌, IfSome, None, Result, Some};
 ghost use Rattle.lite_merge.specs.Uses.{AllocError, Keeps, Registered, NoHint};
 ghost use Rattle.lite_merge.specs.Cycle.{AllCopies, Cycles, Renews};
-ghost use Rattle.lite_merge.specs.Laws.Cycle.{cycle_laws};
+ghost use Rattle.lite_merge.specs.Laws.Cycle.{cycle_calm, cycle_laws};
 
-use lite_base::{Context, Poll, Stream, ready};
+use lite_base::{CalmStream, Context, Poll, Stream, ready};
 use std::alloc::AllocError;
 
 /// A stream that yields the items of another stream over and over.
@@ -76,4 +76,10 @@ impl<S: Stream + Clone> Stream for Cycle<S> {
     fn size_hint(&self) -> (usize, Option<usize>) {
         (0, None)
     }
+}
+
+impl<S: CalmStream + Clone> CalmStream for Cycle<S> {
+    ghost is_calm = { AllCopies S.is_calm S.is_clone };
+
+    ghost calm = { cycle_calm S.is_clone S.is_infallible S.calm };
 }

@@ -1,9 +1,9 @@
-ghost use Rattle.std.specs.Prelude.{◌≡◌, ℕ, Option};
-ghost use Rattle.lite_merge.specs.Uses.{Lends, laws_capped, lent_counting, lent_laws, ranks_of, sem, through_counting, through_on};
+ghost use Rattle.std.specs.Prelude.{◌≡◌, ⊤, ℕ, Option};
+ghost use Rattle.lite_merge.specs.Uses.{Lends, laws_capped, lent_counting, lent_laws, ok_counting, ranks_of, sem, through_counting, through_on};
 ghost use Rattle.lite_merge.specs.Drain.{Drains, drain_parts};
-ghost use Rattle.lite_merge.specs.Laws.Drain.{drained_relating};
+ghost use Rattle.lite_merge.specs.Laws.Drain.{drain_calm, drained_relating};
 
-use lite_base::{Context, Counted, Poll, Stream};
+use lite_base::{CalmStream, Context, Counted, OkCounted, Poll, Stream};
 
 /// A stream that borrows another stream, and ends whenever that is pending.
 ///
@@ -126,4 +126,20 @@ impl<'a, S: Counted> Counted for Drain<'a, S> {
     ghost ranks = { ranks_of (λ m. m.stream.now) S.ranks };
 
     ghost counting = { through_counting drain_parts (lent_counting S.counting) drained_relating };
+}
+
+impl<'a, T, E, S: Counted<Item = Result<T, E>>> OkCounted for Drain<'a, S> {
+    type Ok = T;
+
+    type Err = E;
+
+    ghost ok_ranks = { ranks_of (λ m. m.stream.now) S.ranks };
+
+    ghost ok_counting = { ok_counting (through_counting drain_parts (lent_counting S.counting) drained_relating) };
+}
+
+impl<'a, S: Stream> CalmStream for Drain<'a, S> {
+    ghost is_calm = { λ _. ⊤ };
+
+    ghost calm = { drain_calm S.run };
 }

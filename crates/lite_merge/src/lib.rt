@@ -3,15 +3,12 @@
 #![tactic(auto)]
 
 mod budgeted;
-mod calm;
 mod cycle;
 mod drain;
 pub mod make;
-mod ok_counted;
 mod or;
 mod picks;
 mod race;
-mod steady;
 mod stop_after_future;
 mod zip;
 

@@ -1,11 +1,11 @@
 ghost use Rattle.std.specs.Prelude.{None};
-ghost use Rattle.lite_merge.specs.Uses.{NoHint};
-ghost use Rattle.lite_merge.specs.Laws.Or.{or_counting, or_laws};
+ghost use Rattle.lite_merge.specs.Uses.{NoHint, ok_counting};
+ghost use Rattle.lite_merge.specs.Laws.Or.{or_calm, or_counting, or_laws};
 ghost use Rattle.lite_merge.specs.Merge.{MergeRegisters};
 ghost use Rattle.lite_merge.specs.Or.{Ors, or_ranks};
 
 use crate::picks::poll_in_order;
-use lite_base::{Context, Counted, Poll, Stream};
+use lite_base::{CalmStream, Context, Counted, OkCounted, Poll, Stream};
 use lite_stream::Fuse;
 
 /// A stream that yields the items of two streams as they come, and prefers the first.
@@ -46,4 +46,21 @@ impl<S1: Counted, S2: Counted<Item = S1::Item>> Counted for Or<S1, S2> {
     ghost ranks = { or_ranks S1.ranks S2.ranks };
 
     ghost counting = { or_counting S2.laws S1.counting S2.counting };
+}
+
+impl<T, E, S1: Counted<Item = Result<T, E>>, S2: Counted<Item = Result<T, E>>> OkCounted
+    for Or<S1, S2> {
+    type Ok = T;
+
+    type Err = E;
+
+    ghost ok_ranks = { or_ranks S1.ranks S2.ranks };
+
+    ghost ok_counting = { ok_counting (or_counting S2.laws S1.counting S2.counting) };
+}
+
+impl<S1: CalmStream, S2: CalmStream<Item = S1::Item>> CalmStream for Or<S1, S2> {
+    ghost is_calm = { λ m. S1.is_calm m.stream1.stream × S2.is_calm m.stream2.stream };
+
+    ghost calm = { or_calm S1.calm S2.calm };
 }

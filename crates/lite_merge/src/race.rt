@@ -1,11 +1,11 @@
 ghost use Rattle.std.specs.Prelude.{None};
-ghost use Rattle.lite_merge.specs.Uses.{NoHint};
-ghost use Rattle.lite_merge.specs.Laws.Race.{race_counting, race_laws};
+ghost use Rattle.lite_merge.specs.Uses.{NoHint, ok_counting};
+ghost use Rattle.lite_merge.specs.Laws.Race.{race_calm, race_counting, race_laws};
 ghost use Rattle.lite_merge.specs.Merge.{MergeRegisters};
 ghost use Rattle.lite_merge.specs.Race.{RacesOn, race_ranks};
 
 use crate::picks::poll_in_order;
-use lite_base::{Context, Counted, Poll, Stream};
+use lite_base::{CalmStream, Context, Counted, OkCounted, Poll, Stream};
 use lite_stream::Fuse;
 use rand_core::Rng;
 
@@ -54,4 +54,21 @@ impl<S1: Counted, S2: Counted<Item = S1::Item>, R: Rng> Counted for Race<S1, S2,
     ghost ranks = { race_ranks S1.ranks S2.ranks };
 
     ghost counting = { race_counting R.stream S1.counting S2.counting };
+}
+
+impl<T, E, S1: Counted<Item = Result<T, E>>, S2: Counted<Item = Result<T, E>>, R: Rng> OkCounted
+    for Race<S1, S2, R> {
+    type Ok = T;
+
+    type Err = E;
+
+    ghost ok_ranks = { race_ranks S1.ranks S2.ranks };
+
+    ghost ok_counting = { ok_counting (race_counting R.stream S1.counting S2.counting) };
+}
+
+impl<S1: CalmStream, S2: CalmStream<Item = S1::Item>, R: Rng> CalmStream for Race<S1, S2, R> {
+    ghost is_calm = { λ m. S1.is_calm m.stream1.stream × S2.is_calm m.stream2.stream };
+
+    ghost calm = { race_calm R.stream S1.calm S2.calm };
 }

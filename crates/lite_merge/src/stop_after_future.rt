@@ -1,11 +1,11 @@
 ghost use Rattle.std.specs.Prelude.{◌≡◌, ◌↔◌, IsSome, IsTrue, None, Some};
-ghost use Rattle.lite_merge.specs.Uses.{ranks_of, through_counting};
-ghost use Rattle.lite_merge.specs.Laws.StopAfterFuture.{stop_laws, stops_relating};
+ghost use Rattle.lite_merge.specs.Uses.{ok_counting, ranks_of, through_calm, through_counting};
+ghost use Rattle.lite_merge.specs.Laws.StopAfterFuture.{stop_laws, stops_calming, stops_relating};
 ghost use Rattle.lite_merge.specs.StopAfterFuture.{Stops};
 ghost use Rattle.lite_merge.specs.Stopping.{CanStop, StopHints, StopRegisters, future_of, stop_parts};
 ghost use Rattle.lite_merge.specs.declared.stop_after_future.Stopping.TheVariants.{Stopped};
 
-use lite_base::{Context, Counted, Future, Poll, Stream, ready};
+use lite_base::{CalmStream, Context, Counted, Future, OkCounted, Poll, Stream, ready};
 use std::mem;
 
 /// What has become of the future.
@@ -167,4 +167,21 @@ impl<S: Counted, Fut: Future + Drop> Counted for StopAfterFuture<S, Fut> {
     ghost ranks = { ranks_of (λ m. m.stream) S.ranks };
 
     ghost counting = { through_counting stop_parts S.counting (stops_relating Fut.laws) };
+}
+
+impl<T, E, S: Counted<Item = Result<T, E>>, Fut: Future + Drop> OkCounted
+    for StopAfterFuture<S, Fut> {
+    type Ok = T;
+
+    type Err = E;
+
+    ghost ok_ranks = { ranks_of (λ m. m.stream) S.ranks };
+
+    ghost ok_counting = { ok_counting (through_counting stop_parts S.counting (stops_relating Fut.laws)) };
+}
+
+impl<S: CalmStream, Fut: Future + Drop> CalmStream for StopAfterFuture<S, Fut> {
+    ghost is_calm = { λ m. S.is_calm m.stream };
+
+    ghost calm = { through_calm stop_parts S.calm (stops_calming Fut.laws) };
 }

@@ -1,9 +1,10 @@
 ghost use Rattle.std.specs.Prelude.{◌≡◌, List, [], ◌∷◌, None};
-ghost use Rattle.lite_merge.specs.Uses.{Keeps, Answer, Registered, NoHint};
-ghost use Rattle.lite_merge.specs.Laws.Zip.{zip_counting, zip_laws};
+ghost use Rattle.lite_merge.specs.Uses.{Keeps, Answer, Registered, NoHint, Pairwise, SameHeld};
+ghost use Rattle.lite_merge.specs.Laws.SteadyZip.{zip_steady};
+ghost use Rattle.lite_merge.specs.Laws.Zip.{zip_calm, zip_counting, zip_laws};
 ghost use Rattle.lite_merge.specs.Zip.{Pairs, WithHeld, ZipRegisters, Zips, zip_ranks};
 
-use lite_base::{Context, Counted, Poll, Stream, ready};
+use lite_base::{CalmStream, Context, Counted, Poll, SteadyStream, Stream, ready};
 
 /// A stream that yields pairs of the items of two streams.
 ///
@@ -73,4 +74,22 @@ impl<A: Counted<Item: Drop>, B: Stream> Counted for Zip<A, B> {
     ghost ranks = { zip_ranks A.ranks };
 
     ghost counting = { zip_counting A.laws A.counting };
+}
+
+impl<A: SteadyStream<Item: Drop>, B: SteadyStream> SteadyStream for Zip<A, B> {
+    ghost ample = { Zips A.ample B.ample };
+
+    ghost needs_none = { A.needs_none × B.needs_none };
+
+    ghost same = { Pairwise A.same B.same };
+
+    ghost alike = { λ x y. A.alike x.first y.first × B.alike x.second y.second × SameHeld A.same x.item_slot y.item_slot };
+
+    ghost steady = { zip_steady A.same B.same A.steady B.steady };
+}
+
+impl<A: CalmStream<Item: Drop>, B: CalmStream> CalmStream for Zip<A, B> {
+    ghost is_calm = { λ m. A.is_calm m.first × B.is_calm m.second };
+
+    ghost calm = { zip_calm A.calm B.calm };
 }

@@ -118,21 +118,6 @@ impl Tale for Marks {
     ghost read_laws = { told_laws (λ x. x) };
 }
 
-// Two that say the same, pendings aside.
-impl SteadyRead for Marks {
-    ghost ample = { TellsScript };
-
-    ghost alike = { λ x y. strip_marks x ≡ strip_marks y };
-
-    ghost steady = { told_steady (λ x. x) };
-}
-
-impl CalmRead for Marks {
-    ghost is_calm = { NoPendingRead };
-
-    ghost calm = { told_calm (λ x. x) };
-}
-
 // It is not written to.
 impl Takings for Marks {
     ghost writes = { Idle };
@@ -172,6 +157,21 @@ impl CountedRead for Marks {
     ghost ranks = { number_ranks (λ x. length x) };
 
     ghost counting = { number_counting told_falls };
+}
+
+// Two that say the same, pendings aside.
+impl SteadyRead for Marks {
+    ghost ample = { TellsScript };
+
+    ghost alike = { λ x y. strip_marks x ≡ strip_marks y };
+
+    ghost steady = { told_steady (λ x. x) };
+}
+
+impl CalmRead for Marks {
+    ghost is_calm = { NoPendingRead };
+
+    ghost calm = { told_calm (λ x. x) };
 }
 
 ghost use Rattle.lite_mock.specs.Marks.{mark_of, BeginsChunk};

@@ -1,10 +1,12 @@
 ghost use Rattle.std.specs.Prelude.{None, ◌∷◌, [], ⊤};
-ghost use Rattle.lite_read.specs.Uses.{ranks_of, NoHint, idle_laws, Idle, HoldsWoken, Keeps, OnPending, Registered};
+ghost use Rattle.lite_read.specs.Uses.{ranks_of, NoHint, idle_laws, Idle, HoldsWoken, Keeps, OnPending, Registered, Sameness};
 ghost use Rattle.lite_read.specs.Bytes.{BytesPend, TellsBytes};
-ghost use Rattle.lite_read.specs.Laws.Bytes.{bytes_counting, bytes_laws, inner_counting, inner_laws};
+ghost use Rattle.lite_read.specs.Deterministic.{SameByKind};
+ghost use Rattle.lite_read.specs.Laws.Bytes.{bytes_counting, bytes_laws, inner_calm, inner_counting, inner_laws, inner_steady};
+ghost use Rattle.lite_read.specs.Laws.SteadyBytes.{bytes_steady};
 
-use lite_base::{Context, Counted, OkCounted, Poll, Stream};
-use lite_io_base::{AsyncRead, CountedRead, Takings, Tale};
+use lite_base::{Context, Counted, OkCounted, Poll, SteadyStream, Stream};
+use lite_io_base::{AsyncRead, CalmRead, CountedRead, SteadyRead, Takings, Tale};
 use std::io;
 use std::io::{ErrorKind, IoSliceMut};
 
@@ -74,6 +76,18 @@ impl<R: CountedRead> OkCounted for Bytes<R> {
     ghost ok_counting = { ok_counting (bytes_counting R.counting) };
 }
 
+impl<R: SteadyRead> SteadyStream for Bytes<R> {
+    ghost ample = { TellsBytes R.ample };
+
+    ghost needs_none = { R.needs_none };
+
+    ghost same = { Sameness.by SameByKind };
+
+    ghost alike = { λ x y. R.alike x.inner y.inner };
+
+    ghost steady = { bytes_steady R.steady };
+}
+
 impl<R: Tale> Tale for Bytes<R> {
     ghost reads = { λ x l y. R.reads x.inner l y.inner };
 
@@ -107,4 +121,22 @@ impl<R: CountedRead> CountedRead for Bytes<R> {
     ghost ranks = { ranks_of (λ x. x.inner) R.ranks };
 
     ghost counting = { inner_counting R.counting };
+}
+
+// As a reader.
+impl<R: SteadyRead> SteadyRead for Bytes<R> {
+    ghost ample = { λ x l y. R.ample x.inner l y.inner };
+
+    ghost needs_none = { R.needs_none };
+
+    ghost alike = { λ x y. R.alike x.inner y.inner };
+
+    ghost steady = { inner_steady R.steady };
+}
+
+// As a reader.
+impl<R: CalmRead> CalmRead for Bytes<R> {
+    ghost is_calm = { λ x. R.is_calm x.inner };
+
+    ghost calm = { inner_calm R.calm };
 }

@@ -1,10 +1,11 @@
 ghost use Rattle.std.specs.Prelude.{◌≡◌, IsSome, IfSome, refl};
 ghost use Rattle.lite_read.specs.FillBuf.{FillsOnce};
+ghost use Rattle.lite_read.specs.Laws.CalmRead.{fill_calm};
 ghost use Rattle.lite_read.specs.Laws.Polled.{polled_laws};
 ghost use Rattle.lite_read.specs.Polled.{PolledByCalls};
 
-use lite_base::{Context, Future, Poll};
-use lite_io_base::{AsyncBufRead, fill};
+use lite_base::{CalmFuture, Context, Future, Poll};
+use lite_io_base::{AsyncBufRead, CalmRead, fill};
 use std::io;
 
 /// A future that returns a slice of the next bytes of a reader.
@@ -46,6 +47,12 @@ impl<'a, R: AsyncBufRead> Future for FillBuf<'a, R> {
             }
         }
     }
+}
+
+impl<R: AsyncBufRead + CalmRead> CalmFuture for FillBuf<'_, R> {
+    ghost is_calm = { λ x. IfSome x.reader (λ r. R.is_calm r.now) };
+
+    ghost calm = { fill_calm R.calm };
 }
 
 // Returns a slice of the buffer that lives as long as the borrow of the reader.

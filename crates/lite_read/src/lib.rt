@@ -3,13 +3,11 @@
 
 mod append;
 mod bytes;
-mod calm;
 mod fill_buf;
 pub mod find;
 mod held;
 mod lines;
 pub mod make;
-mod ok_counted;
 mod read;
 mod read_exact;
 mod read_line;
@@ -21,7 +19,6 @@ mod room;
 mod scan;
 mod seek;
 mod split;
-mod steady;
 mod text;
 
 pub use bytes::Bytes;

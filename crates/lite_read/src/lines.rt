@@ -1,14 +1,19 @@
 ghost use Rattle.std.specs.Prelude.{⊤, ◌≡◌, ◌≤◌, ◌<◌, ◌++◌, ◌+◌, [], ◌∷◌, None, length, take, vec_capacity, IfErr, IfOk};
-ghost use Rattle.lite_read.specs.Uses.{is_ascii, error_kind, list_all, OutOfMemory, OneStep, Terminates-map, NoHint, bytes, Keeps, Registered};
+ghost use Rattle.lite_read.specs.Uses.{is_ascii, error_kind, list_all, OutOfMemory, OneStep, Terminates-map, NoHint, bytes, Keeps, Registered, Sameness};
+ghost use Rattle.lite_read.specs.Deterministic.{SameOr};
+ghost use Rattle.lite_read.specs.Laws.Counting.{flow_counting, flow_ranks, pieces_out};
+ghost use Rattle.lite_read.specs.Laws.DeterministicPieces.{FlowAlike, flow_calm, flow_steady, items_deterministic};
+ghost use Rattle.lite_read.specs.Laws.Marks.{SameText, line_one, text_one};
 ghost use Rattle.lite_read.specs.Laws.PollSteps.{takes_given};
 ghost use Rattle.lite_read.specs.Laws.Segments.{flow_counting_laws};
+ghost use Rattle.lite_read.specs.LineText.{IsText, without_return};
 ghost use Rattle.lite_read.specs.Lines.{GivesLines, LineLacksRoom, lines_over, lining};
 ghost use Rattle.lite_read.specs.PieceSteps.{TakesPieceIn};
 
 use crate::find::find_line;
 use crate::text::LineBytes;
-use lite_base::{Context, Poll, PollSteps, Stream, drive};
-use lite_io_base::{AsyncBufRead, CountedRead};
+use lite_base::{CalmStream, Context, OkCounted, Poll, PollSteps, SteadyStream, Stream, drive};
+use lite_io_base::{AsyncBufRead, CalmRead, CountedRead, SteadyRead};
 use std::alloc::Global;
 use std::io;
 
@@ -134,4 +139,33 @@ impl<R: AsyncBufRead + CountedRead> Stream for Lines<R> {
     fn size_hint(&self) -> (usize, Option<usize>) {
         (0, None)
     }
+}
+
+// A rank over `Ok` items only: memory may be refused in every poll, so an `Err` item does not lower it.
+impl<R: AsyncBufRead + CountedRead> OkCounted for Lines<R> {
+    type Ok = String;
+
+    type Err = io::Error;
+
+    ghost ok_ranks = { flow_ranks lines_over R.ranks };
+
+    ghost ok_counting = { flow_counting lines_over (λ k. pieces_out 10 ⊤ (λ xs. IsText (without_return xs)) IsText) R.read_laws R.counting };
+}
+
+impl<R: AsyncBufRead + CountedRead + SteadyRead> SteadyStream for Lines<R> {
+    ghost ample = { GivesLines R.ample ⊥ };
+
+    ghost needs_none = { ⊥ };
+
+    ghost same = { Sameness.by (SameOr SameText) };
+
+    ghost alike = { FlowAlike lines_over R.alike };
+
+    ghost steady = { flow_steady lines_over (lining ⊤) (lining ⊥) (λ k. items_deterministic line_one text_one 10) R.steady };
+}
+
+impl<R: AsyncBufRead + CountedRead + CalmRead> CalmStream for Lines<R> {
+    ghost is_calm = { λ x. R.is_calm x.reader };
+
+    ghost calm = { flow_calm lines_over (lining ⊤) R.calm };
 }

@@ -1,9 +1,10 @@
+ghost use Rattle.lite_read.specs.Laws.CalmRead.{read_calm};
 ghost use Rattle.lite_read.specs.Laws.Polled.{polled_laws};
 ghost use Rattle.lite_read.specs.Polled.{PolledByCalls};
 ghost use Rattle.lite_read.specs.Read.{Reads};
 
-use lite_base::{Context, Future, Poll};
-use lite_io_base::AsyncRead;
+use lite_base::{CalmFuture, Context, Future, Poll};
+use lite_io_base::{AsyncRead, CalmRead};
 use std::io;
 
 /// A future that reads once into a buffer.
@@ -28,4 +29,10 @@ impl<R: AsyncRead> Future for ReadFuture<'_, R> {
     fn poll(&mut self, cx: &mut Context<'_>) -> Poll<io::Result<usize>> {
         self.reader.poll_read(cx, self.buf)
     }
+}
+
+impl<R: CalmRead> CalmFuture for ReadFuture<'_, R> {
+    ghost is_calm = { λ x. R.is_calm x.reader.now };
+
+    ghost calm = { read_calm R.calm };
 }

@@ -1,11 +1,13 @@
 ghost use Rattle.std.specs.Prelude.{◌≤◌, ◌-◌, [], ◌∷◌, length};
-ghost use Rattle.lite_read.specs.Uses.{OneStep, Terminates-count};
-ghost use Rattle.lite_read.specs.Laws.ReadExact.{exact_laws, room_falls};
-ghost use Rattle.lite_read.specs.ReadExact.{ReadsExactly};
+ghost use Rattle.lite_read.specs.Uses.{OneStep, Sameness, Terminates-count};
+ghost use Rattle.lite_read.specs.Deterministic.{SameByKind};
 ghost use Rattle.lite_read.specs.PollSteps.{ReadsMore};
+ghost use Rattle.lite_read.specs.ReadExact.{ReadsExactly};
+ghost use Rattle.lite_read.specs.Laws.ReadExact.{exact_laws, room_falls};
+ghost use Rattle.lite_read.specs.Laws.SteadyReadExact.{ExactAlike, exact_calm, exact_steady};
 
-use lite_base::{Context, Future, Poll, PollSteps, drive};
-use lite_io_base::AsyncRead;
+use lite_base::{CalmFuture, Context, Future, Poll, PollSteps, SteadyFuture, drive};
+use lite_io_base::{AsyncRead, CalmRead, SteadyRead};
 use std::io;
 use std::io::ErrorKind;
 
@@ -64,4 +66,22 @@ impl<R: AsyncRead> Future for ReadExactFuture<'_, R> {
     fn poll(&mut self, cx: &mut Context<'_>) -> Poll<io::Result<()>> {
         drive(self, cx)
     }
+}
+
+impl<R: SteadyRead> SteadyFuture for ReadExactFuture<'_, R> {
+    ghost ample = { ReadsExactly R.ample };
+
+    ghost needs_none = { R.needs_none };
+
+    ghost same = { Sameness.by SameByKind };
+
+    ghost alike = { ExactAlike R.alike };
+
+    ghost steady = { exact_steady R.steady };
+}
+
+impl<R: CalmRead> CalmFuture for ReadExactFuture<'_, R> {
+    ghost is_calm = { λ x. R.is_calm x.reader.now };
+
+    ghost calm = { exact_calm R.calm };
 }

@@ -1,16 +1,20 @@
 ghost use Rattle.std.specs.Prelude.{⊤, ◌≡◌, ◌≤◌, ◌<◌, [], ◌++◌, ◌+◌, Ok, true, length, take, IfErr, IfOk, IsUtf8, string_bytes, vec_capacity};
-ghost use Rattle.lite_read.specs.Uses.{is_ascii, error_kind, list_all, OutOfMemory, OneStep, Terminates-map, bytes};
-ghost use Rattle.lite_read.specs.Laws.PollSteps.{takes_given};
+ghost use Rattle.lite_read.specs.Uses.{is_ascii, error_kind, list_all, OutOfMemory, OneStep, Terminates-map, bytes, Sameness};
+ghost use Rattle.lite_read.specs.Deterministic.{SameByKind};
 ghost use Rattle.lite_read.specs.Holding.{TextStays, room_for};
-ghost use Rattle.lite_read.specs.Laws.Texts.{line_room, text_room_laws};
-ghost use Rattle.lite_read.specs.ReadLine.{LineHolds, LineLacksMemory, ReadsLineByRoom, line_over, read_line_fold};
-ghost use Rattle.lite_read.specs.Texts.{FinishesText};
+ghost use Rattle.lite_read.specs.ReadLine.{LineHolds, LineLacksMemory, ReadsLine, ReadsLineByRoom, line_over, read_line_fold};
 ghost use Rattle.lite_read.specs.TextSteps.{AnswersTextByRoom, TakesTextIn};
+ghost use Rattle.lite_read.specs.Texts.{FinishesText};
+ghost use Rattle.lite_read.specs.Laws.ByRoom.{room_calm};
+ghost use Rattle.lite_read.specs.Laws.Marks.{until_deterministic};
+ghost use Rattle.lite_read.specs.Laws.PollSteps.{takes_given};
+ghost use Rattle.lite_read.specs.Laws.SteadyTexts.{TextAlike, text_steady};
+ghost use Rattle.lite_read.specs.Laws.Texts.{line_room, text_room_laws};
 
 use crate::find::find_line;
 use crate::held::{finish, lends_text, take_in, take_text};
-use lite_base::{Context, Future, Poll, PollSteps, drive};
-use lite_io_base::{AsyncBufRead, CountedRead};
+use lite_base::{CalmFuture, Context, Future, Poll, PollSteps, SteadyFuture, drive};
+use lite_io_base::{AsyncBufRead, CalmRead, CountedRead, SteadyRead};
 use std::alloc::{Allocator, Global};
 use std::io;
 
@@ -183,4 +187,24 @@ impl<R: AsyncBufRead + CountedRead, A: Allocator + Copy> Future for ReadLineFutu
     fn poll(&mut self, cx: &mut Context<'_>) -> Poll<io::Result<usize>> {
         drive(self, cx)
     }
+}
+
+impl<R: SteadyRead + AsyncBufRead + CountedRead, A: Allocator + Copy> SteadyFuture
+    for ReadLineFuture<'_, R, A> {
+    ghost ample = { ReadsLine (λ _. ⊥) R.ample };
+
+    ghost needs_none = { ⊥ };
+
+    ghost same = { Sameness.by SameByKind };
+
+    ghost alike = { TextAlike line_over R.alike };
+
+    ghost steady = { text_steady line_over read_line_fold (until_deterministic 10) R.steady };
+}
+
+impl<R: CalmRead + AsyncBufRead + CountedRead, A: Allocator + Copy> CalmFuture
+    for ReadLineFuture<'_, R, A> {
+    ghost is_calm = { λ x. R.is_calm x.reader.now };
+
+    ghost calm = { room_calm R.calm };
 }

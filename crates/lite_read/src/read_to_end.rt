@@ -1,13 +1,16 @@
 ghost use Rattle.std.specs.Prelude.{◌≡◌, ◌≤◌, ◌<◌, ◌+◌, max, length, vec_capacity, ⊤, OnErr, OnOk};
-ghost use Rattle.lite_read.specs.Uses.{OneStep};
+ghost use Rattle.lite_read.specs.Uses.{OneStep, Sameness};
 ghost use Rattle.lite_read.specs.Appending.{CanAppend, read_front};
-ghost use Rattle.lite_read.specs.Laws.ReadToEnd.{some_falls, steps_on, to_end_room_laws};
-ghost use Rattle.lite_read.specs.ReadToEnd.{ReadsToEndByRoom};
+ghost use Rattle.lite_read.specs.Deterministic.{SameByKind};
 ghost use Rattle.lite_read.specs.PollSteps.{AnswersByRoom, ReadsSome};
+ghost use Rattle.lite_read.specs.ReadToEnd.{ReadsToEnd, ReadsToEndByRoom};
+ghost use Rattle.lite_read.specs.Laws.ByRoom.{room_calm};
+ghost use Rattle.lite_read.specs.Laws.ReadToEnd.{some_falls, steps_on, to_end_room_laws};
+ghost use Rattle.lite_read.specs.Laws.SteadyReadToEnd.{ToEndAlike, to_end_steady};
 
 use crate::room::{FIRST_ROOM, add_zeros, next_room};
-use lite_base::{Context, Future, Poll, PollSteps, drive};
-use lite_io_base::CountedRead;
+use lite_base::{CalmFuture, Context, Future, Poll, PollSteps, SteadyFuture, drive};
+use lite_io_base::{CalmRead, CountedRead, SteadyRead};
 use std::alloc::{AllocError, Allocator, Global};
 use std::io;
 use std::io::ErrorKind;
@@ -101,4 +104,23 @@ impl<R: CountedRead, A: Allocator> Future for ReadToEndFuture<'_, R, A> {
         self.buf.truncate(self.filled);
         answer
     }
+}
+
+// Where memory was found.
+impl<R: SteadyRead + CountedRead, A: Allocator> SteadyFuture for ReadToEndFuture<'_, R, A> {
+    ghost ample = { ReadsToEnd ⊥ R.ample };
+
+    ghost needs_none = { ⊥ };
+
+    ghost same = { Sameness.by SameByKind };
+
+    ghost alike = { ToEndAlike R.alike };
+
+    ghost steady = { to_end_steady R.steady };
+}
+
+impl<R: CalmRead + CountedRead, A: Allocator> CalmFuture for ReadToEndFuture<'_, R, A> {
+    ghost is_calm = { λ x. R.is_calm x.reader.now };
+
+    ghost calm = { room_calm R.calm };
 }

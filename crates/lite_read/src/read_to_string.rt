@@ -1,17 +1,21 @@
 ghost use Rattle.std.specs.Prelude.{⊤, ◌≡◌, ◌≤◌, ◌<◌, ◌+◌, max, length, take, OnErr, OnOk, string_bytes};
-ghost use Rattle.lite_read.specs.Uses.{OneStep, Terminates-map, bytes};
-ghost use Rattle.lite_read.specs.Laws.PollSteps.{takes_given};
+ghost use Rattle.lite_read.specs.Uses.{OneStep, Sameness, Terminates-map, bytes};
+ghost use Rattle.lite_read.specs.Deterministic.{SameByKind};
 ghost use Rattle.lite_read.specs.Holding.{TextStays, room_for};
-ghost use Rattle.lite_read.specs.Laws.Texts.{string_room, text_room_laws};
 ghost use Rattle.lite_read.specs.ReadToString.{ReadsStringByRoom, StringHolds, StringLacksMemory, all_over};
-ghost use Rattle.lite_read.specs.ReadToString.{read_to_string_fold, text_front};
-ghost use Rattle.lite_read.specs.Texts.{FinishesText};
+ghost use Rattle.lite_read.specs.ReadToString.{ReadsToString, read_to_string_fold, text_front};
 ghost use Rattle.lite_read.specs.TextSteps.{AnswersTextByRoom, TakesTextIn};
+ghost use Rattle.lite_read.specs.Texts.{FinishesText};
+ghost use Rattle.lite_read.specs.Laws.ByRoom.{room_calm};
+ghost use Rattle.lite_read.specs.Laws.PollSteps.{takes_given};
+ghost use Rattle.lite_read.specs.Laws.SteadyReadToEnd.{appends_deterministic};
+ghost use Rattle.lite_read.specs.Laws.SteadyTexts.{TextAlike, text_steady};
+ghost use Rattle.lite_read.specs.Laws.Texts.{string_room, text_room_laws};
 
 use crate::held::{finish, make_room};
 use crate::room::{FIRST_ROOM, next_room};
-use lite_base::{Context, Future, Poll, PollSteps, drive};
-use lite_io_base::CountedRead;
+use lite_base::{CalmFuture, Context, Future, Poll, PollSteps, SteadyFuture, drive};
+use lite_io_base::{CalmRead, CountedRead, SteadyRead};
 use std::alloc::{AllocError, Allocator, Global};
 use std::io;
 use std::io::ErrorKind;
@@ -120,4 +124,23 @@ impl<R: CountedRead, A: Allocator + Copy> Future for ReadToStringFuture<'_, R, A
     fn poll(&mut self, cx: &mut Context<'_>) -> Poll<io::Result<usize>> {
         drive(self, cx)
     }
+}
+
+impl<R: SteadyRead + CountedRead, A: Allocator + Copy> SteadyFuture
+    for ReadToStringFuture<'_, R, A> {
+    ghost ample = { ReadsToString (λ _. ⊥) R.ample };
+
+    ghost needs_none = { ⊥ };
+
+    ghost same = { Sameness.by SameByKind };
+
+    ghost alike = { TextAlike all_over R.alike };
+
+    ghost steady = { text_steady all_over read_to_string_fold (appends_deterministic 0) R.steady };
+}
+
+impl<R: CalmRead + CountedRead, A: Allocator + Copy> CalmFuture for ReadToStringFuture<'_, R, A> {
+    ghost is_calm = { λ x. R.is_calm x.reader.now };
+
+    ghost calm = { room_calm R.calm };
 }

@@ -1,14 +1,17 @@
 ghost use Rattle.std.specs.Prelude.{⊤, ◌≤◌, [], ◌∷◌, length};
-ghost use Rattle.lite_read.specs.Uses.{OneStep, Terminates-map, bytes};
+ghost use Rattle.lite_read.specs.Uses.{OneStep, Sameness, Terminates-map, bytes};
+ghost use Rattle.lite_read.specs.Deterministic.{SameByKind};
+ghost use Rattle.lite_read.specs.PieceSteps.{AppendsMore};
+ghost use Rattle.lite_read.specs.ReadUntil.{ReadsUntil, ReadsUntilByRoom, UntilLacksRoom};
+ghost use Rattle.lite_read.specs.Laws.ByRoom.{room_calm};
+ghost use Rattle.lite_read.specs.Laws.Marks.{UntilAlike, until_steady};
 ghost use Rattle.lite_read.specs.Laws.PollSteps.{takes_given};
 ghost use Rattle.lite_read.specs.Laws.ReadUntil.{stays_within, until_room_laws};
-ghost use Rattle.lite_read.specs.ReadUntil.{ReadsUntil, ReadsUntilByRoom, UntilLacksRoom};
-ghost use Rattle.lite_read.specs.PieceSteps.{AppendsMore};
 
 use crate::append::append;
 use crate::find::find_byte;
-use lite_base::{Context, Future, Poll, PollSteps, drive};
-use lite_io_base::{AsyncBufRead, CountedRead};
+use lite_base::{CalmFuture, Context, Future, Poll, PollSteps, SteadyFuture, drive};
+use lite_io_base::{AsyncBufRead, CalmRead, CountedRead, SteadyRead};
 use std::io;
 
 /// A future that appends the bytes up to and including a delimiter, or up to end of file, to a vector.
@@ -76,4 +79,22 @@ impl<R: AsyncBufRead + CountedRead> Future for ReadUntilFuture<'_, R> {
     fn poll(&mut self, cx: &mut Context<'_>) -> Poll<io::Result<usize>> {
         drive(self, cx)
     }
+}
+
+impl<R: AsyncBufRead + CountedRead + SteadyRead> SteadyFuture for ReadUntilFuture<'_, R> {
+    ghost ample = { ReadsUntil R.ample ⊥ };
+
+    ghost needs_none = { ⊥ };
+
+    ghost same = { Sameness.by SameByKind };
+
+    ghost alike = { UntilAlike R.alike };
+
+    ghost steady = { until_steady R.lent R.steady };
+}
+
+impl<R: AsyncBufRead + CountedRead + CalmRead> CalmFuture for ReadUntilFuture<'_, R> {
+    ghost is_calm = { λ x. R.is_calm x.reader.now };
+
+    ghost calm = { room_calm R.calm };
 }

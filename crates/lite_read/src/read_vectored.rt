@@ -1,10 +1,11 @@
 ghost use Rattle.std.specs.Prelude.{IsSome, refl};
+ghost use Rattle.lite_read.specs.Laws.CalmRead.{vectored_calm};
 ghost use Rattle.lite_read.specs.Laws.Polled.{polled_laws};
 ghost use Rattle.lite_read.specs.Polled.{PolledByCalls};
 ghost use Rattle.lite_read.specs.ReadVectored.{ReadsVectored};
 
-use lite_base::{Context, Future, Poll};
-use lite_io_base::AsyncRead;
+use lite_base::{CalmFuture, Context, Future, Poll};
+use lite_io_base::{AsyncRead, CalmRead};
 use std::io::IoSliceMut;
 use std::{io, mem};
 
@@ -39,4 +40,10 @@ impl<R: AsyncRead> Future for ReadVectoredFuture<'_, '_, R> {
         self.bufs = Some(bufs);
         answer
     }
+}
+
+impl<R: CalmRead> CalmFuture for ReadVectoredFuture<'_, '_, R> {
+    ghost is_calm = { λ x. R.is_calm x.reader.now };
+
+    ghost calm = { vectored_calm R.calm };
 }

@@ -1,14 +1,18 @@
 ghost use Rattle.std.specs.Prelude.{⊤, ◌≡◌, ◌≤◌, ◌<◌, ◌++◌, ◌+◌, Option, None, [], ◌∷◌, length, take, vec_capacity, IfErr, IfOk};
-ghost use Rattle.lite_read.specs.Uses.{error_kind, OutOfMemory, OneStep, Terminates-map, NoHint, bytes, Keeps, Registered};
-ghost use Rattle.lite_read.specs.Laws.PollSteps.{takes_given};
-ghost use Rattle.lite_read.specs.Laws.Segments.{flow_counting_laws};
+ghost use Rattle.lite_read.specs.Uses.{error_kind, OutOfMemory, OneStep, Terminates-map, NoHint, bytes, Keeps, Registered, Sameness};
+ghost use Rattle.lite_read.specs.Deterministic.{SameOr};
+ghost use Rattle.lite_read.specs.PieceSteps.{TakesPieceIn};
 ghost use Rattle.lite_read.specs.Pieces.{AtEnd};
 ghost use Rattle.lite_read.specs.Split.{IsVec, PieceLacksRoom, Splits, split_over, splitting};
-ghost use Rattle.lite_read.specs.PieceSteps.{TakesPieceIn};
+ghost use Rattle.lite_read.specs.Laws.Counting.{flow_counting, flow_ranks, pieces_out};
+ghost use Rattle.lite_read.specs.Laws.DeterministicPieces.{FlowAlike, flow_calm, flow_steady, items_deterministic};
+ghost use Rattle.lite_read.specs.Laws.Marks.{SameVec, vec_one};
+ghost use Rattle.lite_read.specs.Laws.PollSteps.{takes_given};
+ghost use Rattle.lite_read.specs.Laws.Segments.{flow_counting_laws};
 
 use crate::find::find_byte;
-use lite_base::{Context, Poll, PollSteps, Stream, drive};
-use lite_io_base::{AsyncBufRead, CountedRead};
+use lite_base::{CalmStream, Context, OkCounted, Poll, PollSteps, SteadyStream, Stream, drive};
+use lite_io_base::{AsyncBufRead, CalmRead, CountedRead, SteadyRead};
 use std::alloc::Global;
 use std::{io, mem};
 
@@ -142,4 +146,33 @@ impl<R: AsyncBufRead + CountedRead> Stream for Split<R> {
     fn size_hint(&self) -> (usize, Option<usize>) {
         (0, None)
     }
+}
+
+// A rank over `Ok` items only: memory may be refused in every poll, so an `Err` item does not lower it.
+impl<R: AsyncBufRead + CountedRead> OkCounted for Split<R> {
+    type Ok = Vec<u8>;
+
+    type Err = io::Error;
+
+    ghost ok_ranks = { flow_ranks split_over R.ranks };
+
+    ghost ok_counting = { flow_counting split_over (λ k. pieces_out k ⊤ IsVec IsVec) R.read_laws R.counting };
+}
+
+impl<R: AsyncBufRead + CountedRead + SteadyRead> SteadyStream for Split<R> {
+    ghost ample = { Splits R.ample ⊥ };
+
+    ghost needs_none = { ⊥ };
+
+    ghost same = { Sameness.by (SameOr SameVec) };
+
+    ghost alike = { FlowAlike split_over R.alike };
+
+    ghost steady = { flow_steady split_over (splitting ⊤) (splitting ⊥) (items_deterministic vec_one vec_one) R.steady };
+}
+
+impl<R: AsyncBufRead + CountedRead + CalmRead> CalmStream for Split<R> {
+    ghost is_calm = { λ x. R.is_calm x.reader };
+
+    ghost calm = { flow_calm split_over (splitting ⊤) R.calm };
 }

@@ -1,10 +1,12 @@
 ghost use Rattle.std.specs.Prelude.{◌≡◌, None};
-ghost use Rattle.lite_reshape.specs.Uses.{Keeps, Registered, NoHint};
+ghost use Rattle.lite_reshape.specs.Uses.{Keeps, Registered, NoHint, ok_counting, Either};
 ghost use Rattle.lite_reshape.specs.Chain.{Chains, ChainRegisters, SecondAnswers, chain_ranks};
 ghost use Rattle.lite_reshape.specs.declared.chain.Part.TheVariants.{Second};
+ghost use Rattle.lite_reshape.specs.Laws.Calming.{chain_calm};
 ghost use Rattle.lite_reshape.specs.Laws.Chain.{chain_counting, chain_laws};
+ghost use Rattle.lite_reshape.specs.Laws.SteadyChain.{chain_steady};
 
-use lite_base::{Context, Counted, Poll, Stream, ready};
+use lite_base::{CalmStream, Context, Counted, OkCounted, Poll, SteadyStream, Stream, ready};
 
 /// Which stream is polled next.
 #[derive(Clone, Copy, Debug)]
@@ -82,4 +84,33 @@ impl<S: Counted, U: Counted<Item = S::Item>> Counted for Chain<S, U> {
     ghost ranks = { chain_ranks S.ranks U.ranks };
 
     ghost counting = { chain_counting S.counting U.counting };
+}
+
+impl<T, E, S: Counted<Item = Result<T, E>>, U: Counted<Item = Result<T, E>>> OkCounted
+    for Chain<S, U> {
+    type Ok = T;
+
+    type Err = E;
+
+    ghost ok_ranks = { chain_ranks S.ranks U.ranks };
+
+    ghost ok_counting = { ok_counting (chain_counting S.counting U.counting) };
+}
+
+impl<S: SteadyStream, U: SteadyStream<Item = S::Item>> SteadyStream for Chain<S, U> {
+    ghost ample = { Chains S.ample U.ample };
+
+    ghost needs_none = { S.needs_none × U.needs_none };
+
+    ghost same = { Either S.same U.same };
+
+    ghost alike = { λ x y. S.alike x.first y.first × U.alike x.second y.second × (y.part ≡ x.part) };
+
+    ghost steady = { chain_steady S.same U.same S.steady U.steady };
+}
+
+impl<S: CalmStream, U: CalmStream<Item = S::Item>> CalmStream for Chain<S, U> {
+    ghost is_calm = { λ m. S.is_calm m.first × U.is_calm m.second };
+
+    ghost calm = { chain_calm S.calm U.calm };
 }

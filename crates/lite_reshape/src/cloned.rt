@@ -1,10 +1,10 @@
 ghost use Rattle.std.specs.Prelude.{[], ◌∷◌, None};
-ghost use Rattle.lite_reshape.specs.Uses.{NoHint, through_on};
-ghost use Rattle.lite_reshape.specs.Cloned.{Clones, ClonesAll, cloned_parts};
-ghost use Rattle.lite_reshape.specs.Laws.Cloned.{cloned_laws, cloned_ok_counting};
+ghost use Rattle.lite_reshape.specs.Uses.{NoHint, through_calm, through_on};
+ghost use Rattle.lite_reshape.specs.Cloned.{AlikeCloned, ClonedFrom, Clones, ClonesAll, ClonesUnrefused, cloned_parts};
+ghost use Rattle.lite_reshape.specs.Laws.Cloned.{cloned_laws, cloned_ok_counting, cloned_steady, clones_calming};
 ghost use Rattle.lite_reshape.specs.Laws.Expanding.{held_ranks};
 
-use lite_base::{Context, Counted, OkCounted, Poll, Stream, ready};
+use lite_base::{CalmStream, Context, Counted, OkCounted, Poll, SteadyStream, Stream, ready};
 use std::alloc::AllocError;
 
 /// A stream that yields clones of the references that another stream yields.
@@ -75,4 +75,22 @@ impl<'a, T: Clone + 'a, S: Counted<Item = &'a T>> OkCounted for Cloned<S> {
     ghost ok_ranks = { held_ranks cloned_parts S.ranks };
 
     ghost ok_counting = { cloned_ok_counting T.is_clone T.is_infallible S.laws S.counting };
+}
+
+impl<'a, T: Clone + 'a, S: SteadyStream<Item = &'a T>> SteadyStream for Cloned<S> {
+    ghost ample = { ClonesUnrefused T.is_clone S.ample };
+
+    ghost needs_none = { S.needs_none × ((x : T) → T.is_infallible x) };
+
+    ghost same = { ClonedFrom S.same T.is_clone };
+
+    ghost alike = { AlikeCloned S.same S.alike T.is_clone };
+
+    ghost steady = { cloned_steady T.is_clone T.is_infallible S.same S.steady };
+}
+
+impl<'a, T: Clone + 'a, S: CalmStream<Item = &'a T>> CalmStream for Cloned<S> {
+    ghost is_calm = { λ m. S.is_calm m.stream };
+
+    ghost calm = { through_calm cloned_parts S.calm (clones_calming T.is_clone T.is_infallible) };
 }

@@ -1,10 +1,14 @@
 ghost use Rattle.std.specs.Prelude.{Option, ℕ, ◌≡◌, []};
-ghost use Rattle.lite_reshape.specs.Uses.{asks_testing, ranks_of, CalledAt, Terminates-map, MayShowEach, Accepts, laws_capped, through_counting};
+ghost use Rattle.lite_reshape.specs.Uses.{asks_testing, ranks_of, CalledAt, Terminates-map, MayShowEach, Accepts, laws_capped, through_counting, ok_counting};
+ghost use Rattle.lite_reshape.specs.Uses.{AgreeFrom, SameItem, through_calm, through_steady_over};
 ghost use Rattle.lite_reshape.specs.Filter.{CanFilter, Filters, filter_parts};
 ghost use Rattle.lite_reshape.specs.Leaving.{Sifts};
-ghost use Rattle.lite_reshape.specs.Laws.Leaving.{leaves_on, leaves_relating};
+ghost use Rattle.lite_reshape.specs.Laws.Agreeing.{leaves_testing};
+ghost use Rattle.lite_reshape.specs.Laws.Leaving.{leaves_calming, leaves_on, leaves_relating};
 
-use lite_base::{Context, Counted, Poll, PollSteps, Stream, drive};
+use lite_base::{
+    CalmStream, Context, Counted, OkCounted, Poll, PollSteps, SteadyStream, Stream, drive,
+};
 
 /// A stream that yields the items of another stream for which a predicate returns true.
 ///
@@ -73,4 +77,37 @@ impl<S: Counted<Item: Drop>, P: FnMut(&S::Item) -> bool> Counted for Filter<S, P
     ghost ranks = { ranks_of (λ m. m.stream) S.ranks };
 
     ghost counting = { through_counting filter_parts S.counting (leaves_relating (Accepts (CalledAt P.FnMut))) };
+}
+
+impl<T: Drop, E: Drop, S: Counted<Item = Result<T, E>>, P: FnMut(&Result<T, E>) -> bool> OkCounted
+    for Filter<S, P> {
+    type Ok = T;
+
+    type Err = E;
+
+    ghost ok_ranks = { ranks_of (λ m. m.stream) S.ranks };
+
+    ghost ok_counting = { ok_counting (through_counting filter_parts S.counting (leaves_relating (Accepts (CalledAt P.FnMut)))) };
+}
+
+impl<S: Counted<Item: Drop> + SteadyStream, P: FnMut(&S::Item) -> bool> SteadyStream
+    for Filter<S, P> {
+    ghost ample = { Filters S.ample (CalledAt P.FnMut) };
+
+    ghost needs_none = { S.needs_none };
+
+    ghost same = { S.same };
+
+    ghost alike = { λ x y. S.alike x.stream y.stream
+        × AgreeFrom (SameItem S.same) (λ y z. y ≡ z) (CalledAt P.FnMut) x.predicate y.predicate };
+
+    ghost steady = { through_steady_over filter_parts S.same S.same S.steady
+        (leaves_relating (Accepts (CalledAt P.FnMut))).following
+        (leaves_testing (CalledAt P.FnMut) S.same) };
+}
+
+impl<S: Counted<Item: Drop> + CalmStream, P: FnMut(&S::Item) -> bool> CalmStream for Filter<S, P> {
+    ghost is_calm = { λ m. S.is_calm m.stream };
+
+    ghost calm = { through_calm filter_parts S.calm (leaves_calming (Accepts (CalledAt P.FnMut))) };
 }

@@ -1,10 +1,14 @@
 ghost use Rattle.std.specs.Prelude.{[], None};
-ghost use Rattle.lite_reshape.specs.Uses.{ranks_of, Terminates-map, MayCallEach, Calls, NoHint, laws_unhinted, through_counting};
+ghost use Rattle.lite_reshape.specs.Uses.{ranks_of, Terminates-map, MayCallEach, Calls, NoHint, laws_unhinted, through_counting, ok_counting, AgreeKeeping};
+ghost use Rattle.lite_reshape.specs.Uses.{Keeping, through_calm, through_steady_over};
 ghost use Rattle.lite_reshape.specs.FilterMap.{CanFilterMap, FilterMaps, filter_map_parts};
 ghost use Rattle.lite_reshape.specs.Leaving.{Sifts};
-ghost use Rattle.lite_reshape.specs.Laws.Leaving.{leaves_on, leaves_relating};
+ghost use Rattle.lite_reshape.specs.Laws.Agreeing.{leaves_keeping};
+ghost use Rattle.lite_reshape.specs.Laws.Leaving.{leaves_calming, leaves_on, leaves_relating};
 
-use lite_base::{Context, Counted, Poll, PollSteps, Stream, drive};
+use lite_base::{
+    CalmStream, Context, Counted, OkCounted, Poll, PollSteps, SteadyStream, Stream, drive,
+};
 
 /// A stream that yields the values for which a function, called with the items of another stream, returns
 /// `Some`.
@@ -71,4 +75,35 @@ impl<B, S: Counted, F: FnMut(S::Item) -> Option<B>> Counted for FilterMap<S, F> 
     ghost ranks = { ranks_of (λ m. m.stream) S.ranks };
 
     ghost counting = { through_counting filter_map_parts S.counting (leaves_relating (Calls F.FnMut)) };
+}
+
+impl<T, E, S: Counted, F: FnMut(S::Item) -> Option<Result<T, E>>> OkCounted for FilterMap<S, F> {
+    type Ok = T;
+
+    type Err = E;
+
+    ghost ok_ranks = { ranks_of (λ m. m.stream) S.ranks };
+
+    ghost ok_counting = { ok_counting (through_counting filter_map_parts S.counting (leaves_relating (Calls F.FnMut))) };
+}
+
+impl<B, S: Counted + SteadyStream, F: FnMut(S::Item) -> Option<B>> SteadyStream
+    for FilterMap<S, F> {
+    ghost ample = { FilterMaps S.ample (Calls F.FnMut) };
+
+    ghost needs_none = { S.needs_none };
+
+    ghost same = { Keeping S.same (Calls F.FnMut) };
+
+    ghost alike = { λ x y. S.alike x.stream y.stream × AgreeKeeping S.same (Calls F.FnMut) x.f y.f };
+
+    ghost steady = { through_steady_over filter_map_parts S.same (Keeping S.same (Calls F.FnMut)) S.steady
+        (leaves_relating (Calls F.FnMut)).following
+        (leaves_keeping (Calls F.FnMut) S.same) };
+}
+
+impl<B, S: Counted + CalmStream, F: FnMut(S::Item) -> Option<B>> CalmStream for FilterMap<S, F> {
+    ghost is_calm = { λ m. S.is_calm m.stream };
+
+    ghost calm = { through_calm filter_map_parts S.calm (leaves_calming (Calls F.FnMut)) };
 }

@@ -1,13 +1,15 @@
 ghost use Rattle.std.specs.Prelude.{None};
-ghost use Rattle.lite_reshape.specs.Uses.{Calls, NoHint, Maps};
+ghost use Rattle.lite_reshape.specs.Uses.{Calls, NoHint, Maps, ok_counting, OptionBy, SameItem, AgreeFrom};
 ghost use Rattle.lite_reshape.specs.FlatMap.{CanFlatMap, CanStepMap, FlatMapSteps, FlatMaps, flat_map_parts};
-ghost use Rattle.lite_reshape.specs.FlatMap.{flat_map_ranks};
+ghost use Rattle.lite_reshape.specs.FlatMap.{EachMade, flat_map_ranks};
 ghost use Rattle.lite_reshape.specs.HeldRegisters.{HeldRegisters};
-ghost use Rattle.lite_reshape.specs.Laws.FlatMap.{flat_map_counting, flat_map_laws, made_end};
+ghost use Rattle.lite_reshape.specs.Laws.FlatMap.{flat_map_calm, flat_map_counting, flat_map_laws, flat_map_steady, made_end};
 ghost use Rattle.lite_reshape.specs.Laws.Flatten.{flat_ends};
 
 use crate::inner::poll_part;
-use lite_base::{Context, Counted, Poll, PollSteps, Stream, drive};
+use lite_base::{
+    CalmStream, Context, Counted, OkCounted, Poll, PollSteps, SteadyStream, Stream, drive,
+};
 use lite_stream::Map;
 
 /// A stream that yields the items of the streams that a function returns for the items of another stream.
@@ -68,4 +70,37 @@ impl<S: Counted, U: Counted + Drop, F: FnMut(S::Item) -> U> Counted for FlatMap<
     ghost ranks = { flat_map_ranks F.FnMut S.ranks U.ranks };
 
     ghost counting = { flat_map_counting F.FnMut S.laws S.counting U.counting };
+}
+
+impl<T, E, S: Counted, U: Counted<Item = Result<T, E>> + Drop, F: FnMut(S::Item) -> U> OkCounted
+    for FlatMap<S, U, F> {
+    type Ok = T;
+
+    type Err = E;
+
+    ghost ok_ranks = { flat_map_ranks F.FnMut S.ranks U.ranks };
+
+    ghost ok_counting = { ok_counting (flat_map_counting F.FnMut S.laws S.counting U.counting) };
+}
+
+impl<S: Counted + SteadyStream, U: SteadyStream + Drop, F: FnMut(S::Item) -> U> SteadyStream
+    for FlatMap<S, U, F> {
+    ghost ample = { FlatMaps S.ample F.FnMut U.ample };
+
+    ghost needs_none = { S.needs_none × U.needs_none };
+
+    ghost same = { U.same };
+
+    ghost alike = { λ x y. S.alike x.stream.stream y.stream.stream
+        × AgreeFrom (SameItem S.same) U.alike (Calls F.FnMut) x.stream.f y.stream.f
+        × OptionBy U.alike x.inner_stream y.inner_stream };
+
+    ghost steady = { flat_map_steady F.FnMut S.same U.same S.steady U.steady };
+}
+
+impl<S: Counted + CalmStream, U: CalmStream + Drop, F: FnMut(S::Item) -> U> CalmStream
+    for FlatMap<S, U, F> {
+    ghost is_calm = { λ m. S.is_calm m.stream.stream × EachMade F.FnMut U.is_calm m.stream.f m.inner_stream };
+
+    ghost calm = { flat_map_calm F.FnMut S.laws S.calm U.calm };
 }

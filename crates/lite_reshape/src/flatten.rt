@@ -1,12 +1,16 @@
 ghost use Rattle.std.specs.Prelude.{None};
-ghost use Rattle.lite_reshape.specs.Uses.{runs_of, NoHint, laws_following};
+ghost use Rattle.lite_reshape.specs.Uses.{runs_of, NoHint, laws_following, ok_counting, OptionBy, AlikeBy};
 ghost use Rattle.lite_reshape.specs.Flatten.{Flattens};
-ghost use Rattle.lite_reshape.specs.Inner.{CanStepFlat, FlatSteps, flatten_parts, flattening_ranks};
 ghost use Rattle.lite_reshape.specs.HeldRegisters.{HeldRegisters};
+ghost use Rattle.lite_reshape.specs.Inner.{CanStepFlat, EachInner, FlatSteps, flatten_parts, flattening_ranks};
+ghost use Rattle.lite_reshape.specs.Laws.Calming.{flattening_calm};
 ghost use Rattle.lite_reshape.specs.Laws.Flatten.{flat_ends, flattening, flattening_counting, flattening_on};
+ghost use Rattle.lite_reshape.specs.Laws.SteadyFlatten.{flattening_steady};
 
 use crate::inner::poll_part;
-use lite_base::{Context, Counted, Poll, PollSteps, Stream, drive};
+use lite_base::{
+    CalmStream, Context, Counted, OkCounted, Poll, PollSteps, SteadyStream, Stream, drive,
+};
 
 /// A stream that yields the items of the streams that another stream yields, one stream after the other.
 ///
@@ -64,4 +68,33 @@ impl<B: Counted + Drop, S: Counted<Item = B>> Counted for Flatten<S> {
     ghost ranks = { flattening_ranks flatten_parts S.run S.ranks B.ranks };
 
     ghost counting = { flattening_counting flatten_parts S.laws S.counting B.counting };
+}
+
+impl<T, E, B: Counted<Item = Result<T, E>> + Drop, S: Counted<Item = B>> OkCounted for Flatten<S> {
+    type Ok = T;
+
+    type Err = E;
+
+    ghost ok_ranks = { flattening_ranks flatten_parts S.run S.ranks B.ranks };
+
+    ghost ok_counting = { ok_counting (flattening_counting flatten_parts S.laws S.counting B.counting) };
+}
+
+impl<B: SteadyStream + Drop, S: Counted<Item = B> + SteadyStream> SteadyStream for Flatten<S> {
+    ghost ample = { Flattens B.ample S.ample };
+
+    ghost needs_none = { S.needs_none × B.needs_none };
+
+    ghost same = { B.same };
+
+    ghost alike = { λ x y. AlikeBy (OptionBy B.alike) S.ample x.stream y.stream
+        × OptionBy B.alike x.inner_stream y.inner_stream };
+
+    ghost steady = { flattening_steady flatten_parts B.same (λ x y e. e) S.steady.laws S.steady.found B.steady };
+}
+
+impl<B: CalmStream + Drop, S: Counted<Item = B> + CalmStream> CalmStream for Flatten<S> {
+    ghost is_calm = { λ m. S.is_calm m.stream × EachInner S.run B.is_calm m.stream m.inner_stream };
+
+    ghost calm = { flattening_calm B.calm flatten_parts S.laws S.calm };
 }

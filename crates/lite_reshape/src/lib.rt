@@ -3,7 +3,6 @@
 //! Some leave items out; others keep something between polls, or have a second stream.
 #![tactic(auto)]
 
-mod calm;
 mod chain;
 mod cloned;
 mod filter;
@@ -12,10 +11,8 @@ mod flat_map;
 mod flatten;
 mod inner;
 pub mod make;
-mod ok_counted;
 mod skip;
 mod skip_while;
-mod steady;
 mod step_by;
 mod then;
 

@@ -1,11 +1,15 @@
-ghost use Rattle.std.specs.Prelude.{None};
-ghost use Rattle.lite_reshape.specs.Uses.{NoHint, Terminates-count, laws_unhinted, ranks_of, through_counting, through_on};
-ghost use Rattle.lite_reshape.specs.Skip.{Skips, SkipsFirst, skip_parts};
-ghost use Rattle.lite_reshape.specs.Laws.Counting.{one_less};
+ghost use Rattle.std.specs.Prelude.{◌≡◌, None};
+ghost use Rattle.lite_reshape.specs.Uses.{NoHint, Terminates-count, laws_unhinted, ok_counting, ranks_of, through_counting, through_on, through_steady_over};
+ghost use Rattle.lite_reshape.specs.Uses.{through_calm};
 ghost use Rattle.lite_reshape.specs.Leaving.{Sifts};
-ghost use Rattle.lite_reshape.specs.Laws.Leaving.{leaves_relating};
+ghost use Rattle.lite_reshape.specs.Skip.{Skips, SkipsFirst, skip_parts};
+ghost use Rattle.lite_reshape.specs.Laws.Agreeing.{leaves_showing, skips_match};
+ghost use Rattle.lite_reshape.specs.Laws.Counting.{one_less};
+ghost use Rattle.lite_reshape.specs.Laws.Leaving.{leaves_calming, leaves_relating};
 
-use lite_base::{Context, Counted, Poll, PollSteps, Stream, drive};
+use lite_base::{
+    CalmStream, Context, Counted, OkCounted, Poll, PollSteps, SteadyStream, Stream, drive,
+};
 
 /// A stream that skips the first items of another stream, and yields the others.
 ///
@@ -68,4 +72,33 @@ impl<S: Counted<Item: Drop>> Counted for Skip<S> {
     ghost ranks = { ranks_of (λ m. m.stream) S.ranks };
 
     ghost counting = { through_counting skip_parts S.counting (leaves_relating Skips) };
+}
+
+impl<T: Drop, E: Drop, S: Counted<Item = Result<T, E>>> OkCounted for Skip<S> {
+    type Ok = T;
+
+    type Err = E;
+
+    ghost ok_ranks = { ranks_of (λ m. m.stream) S.ranks };
+
+    ghost ok_counting = { ok_counting (through_counting skip_parts S.counting (leaves_relating Skips)) };
+}
+
+impl<S: SteadyStream<Item: Drop>> SteadyStream for Skip<S> {
+    ghost ample = { SkipsFirst S.ample };
+
+    ghost needs_none = { S.needs_none };
+
+    ghost same = { S.same };
+
+    ghost alike = { λ x y. S.alike x.stream y.stream × (y.n ≡ x.n) };
+
+    ghost steady = { through_steady_over skip_parts S.same S.same S.steady (leaves_relating Skips).following
+        (leaves_showing Skips skips_match S.same) };
+}
+
+impl<S: CalmStream<Item: Drop>> CalmStream for Skip<S> {
+    ghost is_calm = { λ m. S.is_calm m.stream };
+
+    ghost calm = { through_calm skip_parts S.calm (leaves_calming Skips) };
 }

@@ -1,10 +1,14 @@
-ghost use Rattle.std.specs.Prelude.{[], None};
-ghost use Rattle.lite_reshape.specs.Uses.{ranks_of, CalledAt, Terminates-map, NoHint, laws_unhinted, through_counting};
-ghost use Rattle.lite_reshape.specs.SkipWhile.{CanSkip, MayAskUntil, SkipsUntil, SkipsWhile, skip_while_parts};
+ghost use Rattle.std.specs.Prelude.{[], ◌≡◌, None};
+ghost use Rattle.lite_reshape.specs.Uses.{ranks_of, CalledAt, Terminates-map, NoHint, laws_unhinted, through_counting, ok_counting, OptionBy, SameItem};
+ghost use Rattle.lite_reshape.specs.Uses.{AgreeFrom, through_calm, through_steady_over};
 ghost use Rattle.lite_reshape.specs.Leaving.{Sifts};
-ghost use Rattle.lite_reshape.specs.Laws.Leaving.{leaves_on, leaves_relating};
+ghost use Rattle.lite_reshape.specs.SkipWhile.{CanSkip, MayAskUntil, SkipsUntil, SkipsWhile, skip_while_parts};
+ghost use Rattle.lite_reshape.specs.Laws.Agreeing.{leaves_until};
+ghost use Rattle.lite_reshape.specs.Laws.Leaving.{leaves_calming, leaves_on, leaves_relating};
 
-use lite_base::{Context, Counted, Poll, PollSteps, Stream, drive};
+use lite_base::{
+    CalmStream, Context, Counted, OkCounted, Poll, PollSteps, SteadyStream, Stream, drive,
+};
 
 /// A stream that skips the first items of another stream while a predicate returns true, and yields the
 /// others.
@@ -79,4 +83,43 @@ impl<S: Counted<Item: Drop>, P: FnMut(&S::Item) -> bool + Drop> Counted for Skip
     ghost ranks = { ranks_of (λ m. m.stream) S.ranks };
 
     ghost counting = { through_counting skip_while_parts S.counting (leaves_relating (SkipsUntil (CalledAt P.FnMut))) };
+}
+
+impl<
+    T: Drop,
+    E: Drop,
+    S: Counted<Item = Result<T, E>>,
+    P: FnMut(&Result<T, E>) -> bool + Drop,
+> OkCounted for SkipWhile<S, P> {
+    type Ok = T;
+
+    type Err = E;
+
+    ghost ok_ranks = { ranks_of (λ m. m.stream) S.ranks };
+
+    ghost ok_counting = { ok_counting
+        (through_counting skip_while_parts S.counting (leaves_relating (SkipsUntil (CalledAt P.FnMut)))) };
+}
+
+impl<S: Counted<Item: Drop> + SteadyStream, P: FnMut(&S::Item) -> bool + Drop> SteadyStream
+    for SkipWhile<S, P> {
+    ghost ample = { SkipsWhile S.ample (CalledAt P.FnMut) };
+
+    ghost needs_none = { S.needs_none };
+
+    ghost same = { S.same };
+
+    ghost alike = { λ x y. S.alike x.stream y.stream
+        × OptionBy (AgreeFrom (SameItem S.same) (λ y z. y ≡ z) (CalledAt P.FnMut)) x.predicate y.predicate };
+
+    ghost steady = { through_steady_over skip_while_parts S.same S.same S.steady
+        (leaves_relating (SkipsUntil (CalledAt P.FnMut))).following
+        (leaves_until (CalledAt P.FnMut) S.same) };
+}
+
+impl<S: Counted<Item: Drop> + CalmStream, P: FnMut(&S::Item) -> bool + Drop> CalmStream
+    for SkipWhile<S, P> {
+    ghost is_calm = { λ m. S.is_calm m.stream };
+
+    ghost calm = { through_calm skip_while_parts S.calm (leaves_calming (SkipsUntil (CalledAt P.FnMut))) };
 }

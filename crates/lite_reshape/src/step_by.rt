@@ -1,11 +1,13 @@
-ghost use Rattle.std.specs.Prelude.{None};
-ghost use Rattle.lite_reshape.specs.Uses.{ranks_of, Terminates-count, NoHint, laws_unhinted, through_counting};
+ghost use Rattle.std.specs.Prelude.{◌≡◌, None};
+ghost use Rattle.lite_reshape.specs.Uses.{ranks_of, Terminates-count, NoHint, laws_unhinted, through_counting, ok_counting, through_steady_over, through_calm};
+ghost use Rattle.lite_reshape.specs.Leaving.{Sifts};
 ghost use Rattle.lite_reshape.specs.StepBy.{CanStep, StepsBy, step_by_parts};
 ghost use Rattle.lite_reshape.specs.Laws.Counting.{one_less};
-ghost use Rattle.lite_reshape.specs.Leaving.{Sifts};
-ghost use Rattle.lite_reshape.specs.Laws.StepBy.{Countdown, steps_on, steps_relating};
+ghost use Rattle.lite_reshape.specs.Laws.StepBy.{Countdown, steps_agreeing, steps_calming, steps_on, steps_relating};
 
-use lite_base::{Context, Counted, Poll, PollSteps, Stream, drive};
+use lite_base::{
+    CalmStream, Context, Counted, OkCounted, Poll, PollSteps, SteadyStream, Stream, drive,
+};
 
 /// A stream that yields the first item of another stream, and each item after it whose number is a multiple
 /// of a step.
@@ -76,4 +78,32 @@ impl<S: Counted<Item: Drop>> Counted for StepBy<S> {
     ghost ranks = { ranks_of (λ m. m.stream) S.ranks };
 
     ghost counting = { through_counting step_by_parts S.counting steps_relating };
+}
+
+impl<T: Drop, E: Drop, S: Counted<Item = Result<T, E>>> OkCounted for StepBy<S> {
+    type Ok = T;
+
+    type Err = E;
+
+    ghost ok_ranks = { ranks_of (λ m. m.stream) S.ranks };
+
+    ghost ok_counting = { ok_counting (through_counting step_by_parts S.counting steps_relating) };
+}
+
+impl<S: SteadyStream<Item: Drop>> SteadyStream for StepBy<S> {
+    ghost ample = { StepsBy S.ample };
+
+    ghost needs_none = { S.needs_none };
+
+    ghost same = { S.same };
+
+    ghost alike = { λ x y. S.alike x.stream y.stream × ((y.step ≡ x.step) × (y.i ≡ x.i)) };
+
+    ghost steady = { through_steady_over step_by_parts S.same S.same S.steady steps_relating.following (steps_agreeing S.same) };
+}
+
+impl<S: CalmStream<Item: Drop>> CalmStream for StepBy<S> {
+    ghost is_calm = { λ m. S.is_calm m.stream };
+
+    ghost calm = { through_calm step_by_parts S.calm steps_calming };
 }

@@ -1,11 +1,15 @@
 ghost use Rattle.std.specs.Prelude.{Option, None, ℕ, ◌≡◌, ◌∷◌, [], IfSome};
-ghost use Rattle.lite_reshape.specs.Uses.{Keeps, Registered, Calls};
+ghost use Rattle.lite_reshape.specs.Uses.{Keeps, Registered, Calls, ok_counting, OptionBy, SameItem, AgreeFrom};
+ghost use Rattle.lite_reshape.specs.FlatMap.{EachMade};
 ghost use Rattle.lite_reshape.specs.HeldRegisters.{HeldRegisters};
 ghost use Rattle.lite_reshape.specs.Laws.Expanding.{held_counting, held_ranks};
-ghost use Rattle.lite_reshape.specs.Laws.Then.{hands_one, then_laws};
+ghost use Rattle.lite_reshape.specs.Laws.Then.{hands_one, then_calm, then_laws, then_steady};
 ghost use Rattle.lite_reshape.specs.Then.{CanThen, HandsOut, MakesEach, Thens, then_hint, then_parts};
 
-use lite_base::{Context, Counted, Future, Poll, Stream, ready};
+use lite_base::{
+    CalmFuture, CalmStream, Context, Counted, Future, OkCounted, Poll, SteadyFuture, SteadyStream,
+    Stream, ready,
+};
 
 /// A stream that yields the values of the futures that a function returns for the items of another stream.
 ///
@@ -88,4 +92,41 @@ impl<S: Counted, F: FnMut(S::Item) -> Fut, Fut: Future + Drop> Counted for Then<
     ghost ranks = { held_ranks then_parts S.ranks };
 
     ghost counting = { held_counting then_parts S.laws S.counting hands_one };
+}
+
+impl<
+    T,
+    E,
+    S: Counted,
+    F: FnMut(S::Item) -> Fut,
+    Fut: Future<Output = Result<T, E>> + Drop,
+> OkCounted for Then<S, F, Fut> {
+    type Ok = T;
+
+    type Err = E;
+
+    ghost ok_ranks = { held_ranks then_parts S.ranks };
+
+    ghost ok_counting = { ok_counting (held_counting then_parts S.laws S.counting hands_one) };
+}
+
+impl<S: SteadyStream, F: FnMut(S::Item) -> Fut, Fut: SteadyFuture + Drop> SteadyStream
+    for Then<S, F, Fut> {
+    ghost ample = { Thens S.ample (Calls F.FnMut) Fut.ample };
+
+    ghost needs_none = { S.needs_none × Fut.needs_none };
+
+    ghost same = { Fut.same };
+
+    ghost alike = { λ x y. S.alike x.stream y.stream
+        × (AgreeFrom (SameItem S.same) Fut.alike (Calls F.FnMut) x.f y.f × OptionBy Fut.alike x.future y.future) };
+
+    ghost steady = { then_steady Fut.same Fut.steady S.same (Calls F.FnMut) S.steady };
+}
+
+impl<S: CalmStream, F: FnMut(S::Item) -> Fut, Fut: CalmFuture + Drop> CalmStream
+    for Then<S, F, Fut> {
+    ghost is_calm = { λ m. S.is_calm m.stream × EachMade F.FnMut Fut.is_calm m.f m.future };
+
+    ghost calm = { then_calm Fut.calm F.FnMut S.calm };
 }

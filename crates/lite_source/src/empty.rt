@@ -1,10 +1,10 @@
-ghost use Rattle.std.specs.Prelude.{◌≡◌, Some};
-ghost use Rattle.lite_source.specs.Uses.{ok_counting};
+ghost use Rattle.std.specs.Prelude.{◌≡◌, ⊤, Some};
+ghost use Rattle.lite_source.specs.Uses.{ok_counting, steady_always};
 ghost use Rattle.lite_source.specs.Always.{no_ranks};
 ghost use Rattle.lite_source.specs.Empty.{GivesEnds};
-ghost use Rattle.lite_source.specs.Laws.Empty.{empty_counting, empty_laws};
+ghost use Rattle.lite_source.specs.Laws.Empty.{empty_calm, empty_counting, empty_laws, empty_steady};
 
-use lite_base::{Context, Counted, OkCounted, Poll, Stream};
+use lite_base::{CalmStream, Context, Counted, OkCounted, Poll, SteadyStream, Stream};
 use std::marker::PhantomData;
 
 /// An empty stream: every poll returns `Ready(None)`.
@@ -47,4 +47,18 @@ impl<T, E> OkCounted for Empty<Result<T, E>> {
     ghost ok_ranks = { no_ranks };
 
     ghost ok_counting = { ok_counting empty_counting };
+}
+
+impl<T> SteadyStream for Empty<T> {
+    ghost ample = { GivesEnds };
+
+    ghost alike = { λ _ _. ⊤ };
+
+    ghost steady = { steady_always empty_laws empty_steady };
+}
+
+impl<T> CalmStream for Empty<T> {
+    ghost is_calm = { λ _. ⊤ };
+
+    ghost calm = { empty_calm };
 }

@@ -1,8 +1,10 @@
-ghost use Rattle.lite_source.specs.Uses.{ok_counting};
-ghost use Rattle.lite_source.specs.Iter.{AlwaysNext, IterHints, Iterates, iter_ranks};
+ghost use Rattle.std.specs.Prelude.{⊤};
+ghost use Rattle.lite_source.specs.Uses.{Alike, ap, ok_counting};
+ghost use Rattle.lite_source.specs.Iter.{AlwaysNext, IterHints, Iterates, Nexts, iter_ranks};
+ghost use Rattle.lite_source.specs.Laws.Folds.{folds_calm, folds_steady};
 ghost use Rattle.lite_source.specs.Laws.Iter.{iter_counting, iter_laws};
 
-use lite_base::{Context, Counted, OkCounted, Poll, Stream};
+use lite_base::{CalmStream, Context, Counted, OkCounted, Poll, SteadyStream, Stream};
 
 /// A stream of the items of an iterator. Each poll calls `next` once.
 ///
@@ -47,4 +49,19 @@ impl<T, E, I: Iterator<Item = Result<T, E>>> OkCounted for Iter<I> {
     ghost ok_ranks = { iter_ranks I.can_next I.next_gives I.remaining };
 
     ghost ok_counting = { ok_counting (iter_counting I.can_next I.next_gives I.remaining) };
+}
+
+impl<I: Iterator> SteadyStream for Iter<I> {
+    ghost ample = { λ x l y. Iterates I.can_next I.next_gives I.remaining x.iter l y.iter };
+
+    ghost alike = { λ x y. Alike (Iterates I.can_next I.next_gives I.remaining) x.iter y.iter };
+
+    ghost steady = { folds_steady (λ x. x.iter) (Nexts I.can_next I.next_gives I.remaining)
+        (λ x y. ap (λ v. record x { iter = v })) };
+}
+
+impl<I: Iterator> CalmStream for Iter<I> {
+    ghost is_calm = { λ _. ⊤ };
+
+    ghost calm = { folds_calm (λ x. x.iter) (Nexts I.can_next I.next_gives I.remaining) (λ i j h. h) };
 }

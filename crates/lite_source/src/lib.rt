@@ -1,7 +1,6 @@
 //! Sources: streams that read from no other stream.
 #![tactic(auto)]
 
-mod calm;
 mod empty;
 mod iter;
 pub mod make;
@@ -12,7 +11,6 @@ mod poll_fn;
 mod repeat;
 mod repeat_with;
 mod script;
-mod steady;
 mod try_unfold;
 mod unfold;
 mod unfolding;

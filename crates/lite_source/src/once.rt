@@ -1,9 +1,9 @@
-ghost use Rattle.std.specs.Prelude.{◌≡◌, Some, length};
-ghost use Rattle.lite_source.specs.Uses.{ok_counting};
-ghost use Rattle.lite_source.specs.Laws.Once.{once_counting, once_laws};
+ghost use Rattle.std.specs.Prelude.{◌≡◌, ⊤, Some, length};
+ghost use Rattle.lite_source.specs.Uses.{ok_counting, steady_always};
+ghost use Rattle.lite_source.specs.Laws.Once.{once_calm, once_counting, once_laws, once_steady};
 ghost use Rattle.lite_source.specs.Once.{GivesOnce, once_left, once_ranks};
 
-use lite_base::{Context, Counted, OkCounted, Poll, Stream};
+use lite_base::{CalmStream, Context, Counted, OkCounted, Poll, SteadyStream, Stream};
 
 /// A stream that yields one item, and then is at an end for ever.
 ///
@@ -49,4 +49,18 @@ impl<T, E> OkCounted for Once<Result<T, E>> {
     ghost ok_ranks = { once_ranks };
 
     ghost ok_counting = { ok_counting once_counting };
+}
+
+impl<T> SteadyStream for Once<T> {
+    ghost ample = { GivesOnce };
+
+    ghost alike = { λ x y. y.value ≡ x.value };
+
+    ghost steady = { steady_always once_laws once_steady };
+}
+
+impl<T> CalmStream for Once<T> {
+    ghost is_calm = { λ _. ⊤ };
+
+    ghost calm = { once_calm };
 }

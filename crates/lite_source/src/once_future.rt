@@ -1,9 +1,12 @@
 ghost use Rattle.std.specs.Prelude.{◌≡◌, IfSome, None, Some};
-ghost use Rattle.lite_source.specs.Uses.{ok_counting, NoHint};
-ghost use Rattle.lite_source.specs.Laws.OnceFuture.{once_future_counting, once_future_laws};
+ghost use Rattle.lite_source.specs.Uses.{ok_counting, NoHint, OptionBy};
+ghost use Rattle.lite_source.specs.Laws.OnceFuture.{once_future_calm, once_future_counting, once_future_laws, once_future_steady};
 ghost use Rattle.lite_source.specs.OnceFuture.{GivesFuture, once_future_ranks};
 
-use lite_base::{Context, Counted, Future, OkCounted, Poll, Stream, ready};
+use lite_base::{
+    CalmFuture, CalmStream, Context, Counted, Future, OkCounted, Poll, SteadyFuture, SteadyStream,
+    Stream, ready,
+};
 
 /// A stream that yields the value of a future, and then is at an end for ever.
 ///
@@ -55,4 +58,22 @@ impl<T, E, F: Future<Output = Result<T, E>> + Drop> OkCounted for OnceFuture<F> 
     ghost ok_ranks = { once_future_ranks };
 
     ghost ok_counting = { ok_counting (once_future_counting F.run) };
+}
+
+impl<F: SteadyFuture + Drop> SteadyStream for OnceFuture<F> {
+    ghost ample = { GivesFuture F.ample };
+
+    ghost needs_none = { F.needs_none };
+
+    ghost same = { F.same };
+
+    ghost alike = { λ x y. OptionBy F.alike x.future y.future };
+
+    ghost steady = { once_future_steady F.same F.steady };
+}
+
+impl<F: CalmFuture + Drop> CalmStream for OnceFuture<F> {
+    ghost is_calm = { λ x. IfSome x.future F.is_calm };
+
+    ghost calm = { once_future_calm F.calm };
 }

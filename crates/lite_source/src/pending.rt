@@ -1,10 +1,10 @@
-ghost use Rattle.std.specs.Prelude.{◌≡◌, Some};
-ghost use Rattle.lite_source.specs.Uses.{ok_counting};
+ghost use Rattle.std.specs.Prelude.{◌≡◌, ⊤, Some};
+ghost use Rattle.lite_source.specs.Uses.{ok_counting, steady_always};
 ghost use Rattle.lite_source.specs.Always.{no_ranks};
-ghost use Rattle.lite_source.specs.Laws.Pending.{pending_counting, pending_laws};
+ghost use Rattle.lite_source.specs.Laws.Pending.{pending_counting, pending_laws, pending_steady};
 ghost use Rattle.lite_source.specs.Pending.{GivesPendings};
 
-use lite_base::{Context, Counted, OkCounted, Poll, Stream};
+use lite_base::{Context, Counted, OkCounted, Poll, SteadyStream, Stream};
 use std::marker::PhantomData;
 
 /// A stream that is pending for ever. A poll wakes nothing.
@@ -47,4 +47,12 @@ impl<T, E> OkCounted for Pending<Result<T, E>> {
     ghost ok_ranks = { no_ranks };
 
     ghost ok_counting = { ok_counting pending_counting };
+}
+
+impl<T> SteadyStream for Pending<T> {
+    ghost ample = { GivesPendings };
+
+    ghost alike = { λ _ _. ⊤ };
+
+    ghost steady = { steady_always pending_laws pending_steady };
 }

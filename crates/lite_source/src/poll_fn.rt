@@ -1,8 +1,9 @@
 ghost use Rattle.std.specs.Prelude.{⊤, None};
-ghost use Rattle.lite_source.specs.Uses.{FoldsTo, ap, AlwaysObeys, CallAnswers, CallRegisters, NoHint};
-ghost use Rattle.lite_source.specs.Laws.Folds.{folds_laws, obeys_still};
+ghost use Rattle.lite_source.specs.Uses.{FoldsTo, ap, AlwaysObeys, CallAnswers, CallRegisters, NoHint, Alike, NeverPends};
+ghost use Rattle.lite_source.specs.Laws.Folds.{folds_laws, folds_steady, obeys_still};
+ghost use Rattle.lite_source.specs.Laws.PollFn.{poll_fn_calm};
 
-use lite_base::{Context, Poll, Stream};
+use lite_base::{CalmStream, Context, Poll, SteadyStream, Stream};
 use std::fmt;
 
 /// A stream that calls a closure at each poll, and returns the result.
@@ -40,4 +41,18 @@ impl<T, F: FnMut(&mut Context<'_>) -> Poll<Option<T>>> Stream for PollFn<F> {
     fn size_hint(&self) -> (usize, Option<usize>) {
         (0, None)
     }
+}
+
+impl<T, F: FnMut(&mut Context<'_>) -> Poll<Option<T>>> SteadyStream for PollFn<F> {
+    ghost ample = { λ x l y. FoldsTo (CallAnswers F.FnMut) x.f l y.f };
+
+    ghost alike = { λ x y. Alike (FoldsTo (CallAnswers F.FnMut)) x.f y.f };
+
+    ghost steady = { folds_steady (λ x. x.f) (CallAnswers F.FnMut) (λ x y. ap (λ v. record x { f = v })) };
+}
+
+impl<T, F: FnMut(&mut Context<'_>) -> Poll<Option<T>>> CalmStream for PollFn<F> {
+    ghost is_calm = { λ x. NeverPends F.FnMut x.f };
+
+    ghost calm = { poll_fn_calm F.FnMut };
 }

@@ -1,8 +1,8 @@
-ghost use Rattle.std.specs.Prelude.{◌-◌, ◌^◌, ◌≡◌, None};
-ghost use Rattle.lite_source.specs.Laws.Repeat.{repeat_laws};
-ghost use Rattle.lite_source.specs.Repeat.{Repeats};
+ghost use Rattle.std.specs.Prelude.{◌-◌, ◌^◌, ◌≡◌, ⊤, None};
+ghost use Rattle.lite_source.specs.Laws.Repeat.{repeat_calm, repeat_laws, repeat_steady};
+ghost use Rattle.lite_source.specs.Repeat.{Repeats, SameClones};
 
-use lite_base::{Context, Poll, Stream};
+use lite_base::{CalmStream, Context, Poll, SteadyStream, Stream};
 use std::alloc::AllocError;
 
 /// A stream that yields clones of one item, one a poll, and never ends.
@@ -31,4 +31,20 @@ impl<T: Clone> Stream for Repeat<T> {
     fn size_hint(&self) -> (usize, Option<usize>) {
         (usize::MAX, None)
     }
+}
+
+impl<T: Clone> SteadyStream for Repeat<T> {
+    ghost ample = { Repeats T.is_clone (λ _. ⊤) };
+
+    ghost needs_none = { (x : T) → T.is_infallible x };
+
+    ghost alike = { λ x y. SameClones T.is_clone x.item y.item };
+
+    ghost steady = { repeat_steady T.is_clone T.is_infallible };
+}
+
+impl<T: Clone> CalmStream for Repeat<T> {
+    ghost is_calm = { λ _. ⊤ };
+
+    ghost calm = { repeat_calm T.is_clone T.is_infallible };
 }

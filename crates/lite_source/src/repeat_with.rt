@@ -1,9 +1,9 @@
-ghost use Rattle.std.specs.Prelude.{◌≡◌, ◌-◌, ◌^◌, None};
-ghost use Rattle.lite_source.specs.Uses.{ap};
-ghost use Rattle.lite_source.specs.Laws.Folds.{calls_on, folds_laws};
+ghost use Rattle.std.specs.Prelude.{◌≡◌, ◌-◌, ◌^◌, ⊤, None};
+ghost use Rattle.lite_source.specs.Uses.{Alike, FoldsTo, ap};
+ghost use Rattle.lite_source.specs.Laws.Folds.{calls_on, folds_calm, folds_laws, folds_steady};
 ghost use Rattle.lite_source.specs.RepeatWith.{Call, RepeatsWith};
 
-use lite_base::{Context, Poll, Stream};
+use lite_base::{CalmStream, Context, Poll, SteadyStream, Stream};
 
 /// A stream that yields what a closure returns, one call a poll, and never ends.
 ///
@@ -32,4 +32,18 @@ impl<T, F: FnMut() -> T> Stream for RepeatWith<F> {
     fn size_hint(&self) -> (usize, Option<usize>) {
         (usize::MAX, None)
     }
+}
+
+impl<T, F: FnMut() -> T> SteadyStream for RepeatWith<F> {
+    ghost ample = { λ x l y. FoldsTo (Call F.FnMut) x.f l y.f };
+
+    ghost alike = { λ x y. Alike (FoldsTo (Call F.FnMut)) x.f y.f };
+
+    ghost steady = { folds_steady (λ x. x.f) (Call F.FnMut) (λ x y. ap (λ v. record x { f = v })) };
+}
+
+impl<T, F: FnMut() -> T> CalmStream for RepeatWith<F> {
+    ghost is_calm = { λ _. ⊤ };
+
+    ghost calm = { folds_calm (λ x. x.f) (Call F.FnMut) (λ p q h. cc h.1) };
 }

@@ -1,9 +1,9 @@
 ghost use Rattle.std.specs.Prelude.{◌≡◌, IfOk, List, None, length};
-ghost use Rattle.lite_source.specs.Uses.{AllZip, ok_counting, number_ranks, number_counting, NoHint};
-ghost use Rattle.lite_source.specs.Laws.Script.{gives_lowers, script_laws};
+ghost use Rattle.lite_source.specs.Uses.{AllZip, ok_counting, number_ranks, number_counting, NoHint, strip, steady_always, NoPending};
+ghost use Rattle.lite_source.specs.Laws.Script.{gives_calm, gives_lowers, gives_steady, script_laws};
 ghost use Rattle.lite_source.specs.Script.{GivesScript, IsCloneBy};
 
-use lite_base::{Context, Counted, OkCounted, Poll, Stream};
+use lite_base::{CalmStream, Context, Counted, OkCounted, Poll, SteadyStream, Stream};
 use std::alloc::AllocError;
 use std::collections::VecDeque;
 use std::marker::Model;
@@ -92,4 +92,18 @@ impl<T, E> OkCounted for Script<Result<T, E>> {
     ghost ok_ranks = { number_ranks length };
 
     ghost ok_counting = { ok_counting (number_counting gives_lowers) };
+}
+
+impl<T> SteadyStream for Script<T> {
+    ghost ample = { GivesScript };
+
+    ghost alike = { λ x y. strip x ≡ strip y };
+
+    ghost steady = { steady_always script_laws gives_steady };
+}
+
+impl<T> CalmStream for Script<T> {
+    ghost is_calm = { NoPending };
+
+    ghost calm = { gives_calm };
 }

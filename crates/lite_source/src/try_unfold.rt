@@ -1,11 +1,14 @@
 ghost use Rattle.std.specs.Prelude.{None};
-ghost use Rattle.lite_source.specs.Uses.{MakesAlways, NoHint};
-ghost use Rattle.lite_source.specs.TryUnfold.{TryUnfoldsBy};
-ghost use Rattle.lite_source.specs.Unfolding.{IfHeldFuture, UnfoldRegisters};
-ghost use Rattle.lite_source.specs.Laws.TryUnfold.{try_unfold_laws};
+ghost use Rattle.lite_source.specs.Uses.{Calls, MakesAlways, NoHint};
+ghost use Rattle.lite_source.specs.TryUnfold.{TryUnfoldsBy, try_item_of, try_seed_of};
+ghost use Rattle.lite_source.specs.Unfolding.{IfHeldFuture, PartOf, UnfoldAlike, UnfoldRegisters};
+ghost use Rattle.lite_source.specs.Laws.TryUnfold.{try_unfold_laws, try_unfold_runs};
+ghost use Rattle.lite_source.specs.Laws.Unfolded.{unfolds_calm, unfolds_steady};
 
 use crate::unfolding::Unfolding;
-use lite_base::{Context, Future, Poll, Stream, ready};
+use lite_base::{
+    CalmFuture, CalmStream, Context, Future, Poll, SteadyFuture, SteadyStream, Stream, ready,
+};
 use std::fmt;
 
 /// A stream that yields items made by futures, up to the first error. Each future also returns the next
@@ -61,4 +64,33 @@ where
     fn size_hint(&self) -> (usize, Option<usize>) {
         (0, None)
     }
+}
+
+impl<T, F, Fut, Item, E> SteadyStream for TryUnfold<T, F, Fut>
+where
+    T: Drop,
+    F: FnMut(T) -> Fut,
+    Fut: SteadyFuture<Output = Result<Option<(Item, T)>, E>> + Drop,
+{
+    ghost ample = { TryUnfoldsBy F.FnMut Fut.ample };
+
+    ghost needs_none = { Fut.needs_none };
+
+    ghost same = { PartOf Fut.same try_item_of };
+
+    ghost alike = { λ x y. UnfoldAlike Fut.same Fut.alike (Calls F.FnMut) try_seed_of try_item_of (x.f, x.state) (y.f, y.state) };
+
+    ghost steady = { unfolds_steady F.FnMut try_seed_of try_item_of Fut.same (λ x. (x.f, x.state))
+        (try_unfold_runs F.FnMut Fut.ample) Fut.steady };
+}
+
+impl<T, F, Fut, Item, E> CalmStream for TryUnfold<T, F, Fut>
+where
+    T: Drop,
+    F: FnMut(T) -> Fut,
+    Fut: CalmFuture<Output = Result<Option<(Item, T)>, E>> + Drop,
+{
+    ghost is_calm = { λ x. MakesAlways F.FnMut Fut.is_calm x.f × IfHeldFuture x.state Fut.is_calm };
+
+    ghost calm = { unfolds_calm F.FnMut Fut.calm try_seed_of try_item_of (λ x. (x.f, x.state)) };
 }

@@ -1,10 +1,13 @@
-ghost use Rattle.std.specs.Prelude.{None};
-ghost use Rattle.lite_stream.specs.Uses.{ranks_of, NoHint};
+ghost use Rattle.std.specs.Prelude.{◌≡◌, None};
+ghost use Rattle.lite_stream.specs.Uses.{ranks_of, NoHint, Pairwise, Sameness};
 ghost use Rattle.lite_stream.specs.Enumerate.{Enumerates, Numbers, enumerate_parts};
-ghost use Rattle.lite_stream.specs.Laws.Pointwise.{replaces_relating};
+ghost use Rattle.lite_stream.specs.Laws.Agreeing.{through_steady_over};
+ghost use Rattle.lite_stream.specs.Laws.Calming.{through_calm};
+ghost use Rattle.lite_stream.specs.Laws.Matching.{numbers_match};
+ghost use Rattle.lite_stream.specs.Laws.Pointwise.{replaces_agreeing, replaces_calming, replaces_relating};
 ghost use Rattle.lite_stream.specs.Laws.Through.{laws_unhinted, through_counting, through_on};
 
-use lite_base::{Context, Counted, Poll, Stream, ready};
+use lite_base::{CalmStream, Context, Counted, Poll, SteadyStream, Stream, ready};
 
 /// A stream that yields the items of another stream, each paired with its number.
 ///
@@ -50,4 +53,24 @@ impl<S: Counted> Counted for Enumerate<S> {
     ghost ranks = { ranks_of (λ m. m.stream) S.ranks };
 
     ghost counting = { through_counting enumerate_parts S.counting (replaces_relating Numbers) };
+}
+
+impl<S: SteadyStream> SteadyStream for Enumerate<S> {
+    ghost ample = { Enumerates S.ample };
+
+    ghost needs_none = { S.needs_none };
+
+    ghost same = { Pairwise Sameness.equal S.same };
+
+    ghost alike = { λ x y. S.alike x.stream y.stream × (y.i ≡ x.i) };
+
+    ghost steady = { through_steady_over enumerate_parts S.same (Pairwise Sameness.equal S.same) S.steady
+        (replaces_relating Numbers).following
+        (replaces_agreeing Numbers S.same (Pairwise Sameness.equal S.same) (numbers_match S.same)) };
+}
+
+impl<S: CalmStream> CalmStream for Enumerate<S> {
+    ghost is_calm = { λ m. S.is_calm m.stream };
+
+    ghost calm = { through_calm enumerate_parts S.calm (replaces_calming Numbers) };
 }

@@ -1,10 +1,12 @@
-ghost use Rattle.std.specs.Prelude.{None};
-ghost use Rattle.lite_stream.specs.Uses.{ranks_of, NoHint};
+ghost use Rattle.std.specs.Prelude.{◌≡◌, None};
+ghost use Rattle.lite_stream.specs.Uses.{ranks_of, NoHint, ok_counting};
 ghost use Rattle.lite_stream.specs.Fuse.{Fuses, fuse_parts};
-ghost use Rattle.lite_stream.specs.Laws.Fuse.{fuses_relating};
+ghost use Rattle.lite_stream.specs.Laws.Agreeing.{through_steady_over};
+ghost use Rattle.lite_stream.specs.Laws.Calming.{through_calm};
+ghost use Rattle.lite_stream.specs.Laws.Fuse.{fuses_agreeing, fuses_calming, fuses_relating};
 ghost use Rattle.lite_stream.specs.Laws.Through.{laws_unhinted, through_counting, through_on};
 
-use lite_base::{Context, Counted, Poll, Stream, ready};
+use lite_base::{CalmStream, Context, Counted, OkCounted, Poll, SteadyStream, Stream, ready};
 
 /// A stream that ends for ever once another stream has ended.
 ///
@@ -50,4 +52,32 @@ impl<S: Counted> Counted for Fuse<S> {
     ghost ranks = { ranks_of (λ m. m.stream) S.ranks };
 
     ghost counting = { through_counting fuse_parts S.counting fuses_relating };
+}
+
+impl<T, E, S: Counted<Item = Result<T, E>>> OkCounted for Fuse<S> {
+    type Ok = T;
+
+    type Err = E;
+
+    ghost ok_ranks = { ranks_of (λ m. m.stream) S.ranks };
+
+    ghost ok_counting = { ok_counting (through_counting fuse_parts S.counting fuses_relating) };
+}
+
+impl<S: SteadyStream> SteadyStream for Fuse<S> {
+    ghost ample = { Fuses S.ample };
+
+    ghost needs_none = { S.needs_none };
+
+    ghost same = { S.same };
+
+    ghost alike = { λ x y. S.alike x.stream y.stream × (y.done ≡ x.done) };
+
+    ghost steady = { through_steady_over fuse_parts S.same S.same S.steady fuses_relating.following (fuses_agreeing S.same) };
+}
+
+impl<S: CalmStream> CalmStream for Fuse<S> {
+    ghost is_calm = { λ m. S.is_calm m.stream };
+
+    ghost calm = { through_calm fuse_parts S.calm fuses_calming };
 }

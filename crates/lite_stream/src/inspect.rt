@@ -1,11 +1,14 @@
-ghost use Rattle.std.specs.Prelude.{None};
-ghost use Rattle.lite_stream.specs.Uses.{ranks_of, NoHint, CalledAt};
+ghost use Rattle.std.specs.Prelude.{⊤, None};
+ghost use Rattle.lite_stream.specs.Uses.{ranks_of, NoHint, CalledAt, ok_counting};
 ghost use Rattle.lite_stream.specs.EachItem.{MayShowEach};
 ghost use Rattle.lite_stream.specs.Inspect.{Inspects, ShowsItem, inspect_parts};
-ghost use Rattle.lite_stream.specs.Laws.Pointwise.{asks_showing, exchanges_on, replaces_relating};
+ghost use Rattle.lite_stream.specs.Laws.Agreeing.{through_steady_over};
+ghost use Rattle.lite_stream.specs.Laws.Calming.{through_calm};
+ghost use Rattle.lite_stream.specs.Laws.Matching.{shows_match};
+ghost use Rattle.lite_stream.specs.Laws.Pointwise.{asks_showing, exchanges_on, replaces_calming, replaces_relating, replaces_showing};
 ghost use Rattle.lite_stream.specs.Laws.Through.{laws_unhinted, through_counting};
 
-use lite_base::{Context, Counted, Poll, Stream, ready};
+use lite_base::{CalmStream, Context, Counted, OkCounted, Poll, SteadyStream, Stream, ready};
 
 /// A stream that calls a function with a reference to each item of another stream, and then yields the item.
 ///
@@ -50,4 +53,34 @@ impl<S: Counted, F: FnMut(&S::Item)> Counted for Inspect<S, F> {
     ghost ranks = { ranks_of (λ m. m.stream) S.ranks };
 
     ghost counting = { through_counting inspect_parts S.counting (replaces_relating (ShowsItem (CalledAt F.FnMut))) };
+}
+
+impl<T, E, S: Counted<Item = Result<T, E>>, F: FnMut(&Result<T, E>)> OkCounted for Inspect<S, F> {
+    type Ok = T;
+
+    type Err = E;
+
+    ghost ok_ranks = { ranks_of (λ m. m.stream) S.ranks };
+
+    ghost ok_counting = { ok_counting (through_counting inspect_parts S.counting (replaces_relating (ShowsItem (CalledAt F.FnMut)))) };
+}
+
+impl<S: SteadyStream, F: FnMut(&S::Item)> SteadyStream for Inspect<S, F> {
+    ghost ample = { Inspects S.ample (CalledAt F.FnMut) };
+
+    ghost needs_none = { S.needs_none };
+
+    ghost same = { S.same };
+
+    ghost alike = { λ x y. S.alike x.stream y.stream × ⊤ };
+
+    ghost steady = { through_steady_over inspect_parts S.same S.same S.steady
+        (replaces_relating (ShowsItem (CalledAt F.FnMut))).following
+        (replaces_showing (ShowsItem (CalledAt F.FnMut)) (shows_match (CalledAt F.FnMut)) S.same) };
+}
+
+impl<S: CalmStream, F: FnMut(&S::Item)> CalmStream for Inspect<S, F> {
+    ghost is_calm = { λ m. S.is_calm m.stream };
+
+    ghost calm = { through_calm inspect_parts S.calm (replaces_calming (ShowsItem (CalledAt F.FnMut))) };
 }

@@ -1,7 +1,6 @@
 //! Adapters of one stream that return one result for each result of it, or cut it off.
 #![tactic(auto)]
 
-mod calm;
 mod copied;
 mod enumerate;
 mod fuse;
@@ -9,9 +8,7 @@ mod inspect;
 pub mod make;
 mod map;
 mod map_while;
-mod ok_counted;
 mod scan;
-mod steady;
 mod take;
 mod take_while;
 

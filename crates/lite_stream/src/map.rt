@@ -1,10 +1,12 @@
-ghost use Rattle.lite_stream.specs.Uses.{ranks_of, Calls};
+ghost use Rattle.lite_stream.specs.Uses.{ranks_of, Calls, ok_counting, AgreeOver, Answering};
 ghost use Rattle.lite_stream.specs.EachItem.{MayCallEach};
 ghost use Rattle.lite_stream.specs.Map.{Maps, map_parts};
-ghost use Rattle.lite_stream.specs.Laws.Pointwise.{asks_always, exchanges_on, replaces_relating};
+ghost use Rattle.lite_stream.specs.Laws.Agreeing.{through_steady_over};
+ghost use Rattle.lite_stream.specs.Laws.Calming.{through_calm};
+ghost use Rattle.lite_stream.specs.Laws.Pointwise.{asks_always, exchanges_on, replaces_answering, replaces_calming, replaces_relating};
 ghost use Rattle.lite_stream.specs.Laws.Through.{laws_hinted, through_counting};
 
-use lite_base::{Context, Counted, Poll, Stream, ready};
+use lite_base::{CalmStream, Context, Counted, OkCounted, Poll, SteadyStream, Stream, ready};
 
 /// A stream that yields what a function returns for each item of another stream.
 ///
@@ -46,4 +48,34 @@ impl<U, S: Counted, F: FnMut(S::Item) -> U> Counted for Map<S, F> {
     ghost ranks = { ranks_of (λ m. m.stream) S.ranks };
 
     ghost counting = { through_counting map_parts S.counting (replaces_relating (Calls F.FnMut)) };
+}
+
+impl<T, E, S: Counted, F: FnMut(S::Item) -> Result<T, E>> OkCounted for Map<S, F> {
+    type Ok = T;
+
+    type Err = E;
+
+    ghost ok_ranks = { ranks_of (λ m. m.stream) S.ranks };
+
+    ghost ok_counting = { ok_counting (through_counting map_parts S.counting (replaces_relating (Calls F.FnMut))) };
+}
+
+impl<U, S: SteadyStream, F: FnMut(S::Item) -> U> SteadyStream for Map<S, F> {
+    ghost ample = { Maps S.ample (Calls F.FnMut) };
+
+    ghost needs_none = { S.needs_none };
+
+    ghost same = { Answering S.same (Calls F.FnMut) };
+
+    ghost alike = { λ x y. S.alike x.stream y.stream × AgreeOver S.same (Calls F.FnMut) x.f y.f };
+
+    ghost steady = { through_steady_over map_parts S.same (Answering S.same (Calls F.FnMut)) S.steady
+        (replaces_relating (Calls F.FnMut)).following
+        (replaces_answering (Calls F.FnMut) S.same) };
+}
+
+impl<U, S: CalmStream, F: FnMut(S::Item) -> U> CalmStream for Map<S, F> {
+    ghost is_calm = { λ m. S.is_calm m.stream };
+
+    ghost calm = { through_calm map_parts S.calm (replaces_calming (Calls F.FnMut)) };
 }

@@ -1,11 +1,13 @@
 ghost use Rattle.std.specs.Prelude.{None};
-ghost use Rattle.lite_stream.specs.Uses.{ranks_of, Calls, NoHint};
+ghost use Rattle.lite_stream.specs.Uses.{ranks_of, Calls, NoHint, ok_counting, AgreeKeeping, Keeping};
 ghost use Rattle.lite_stream.specs.EachItem.{MayCallEach};
 ghost use Rattle.lite_stream.specs.MapWhile.{MapsWhile, map_while_parts};
-ghost use Rattle.lite_stream.specs.Laws.Pointwise.{exchanges_on, exchanges_relating};
+ghost use Rattle.lite_stream.specs.Laws.Agreeing.{through_steady_over};
+ghost use Rattle.lite_stream.specs.Laws.Calming.{through_calm};
+ghost use Rattle.lite_stream.specs.Laws.Pointwise.{exchanges_calming, exchanges_keeping, exchanges_on, exchanges_relating};
 ghost use Rattle.lite_stream.specs.Laws.Through.{laws_unhinted, through_counting};
 
-use lite_base::{Context, Counted, Poll, Stream, ready};
+use lite_base::{CalmStream, Context, Counted, OkCounted, Poll, SteadyStream, Stream, ready};
 
 /// A stream that yields the values that a function returns for the items of another stream, and ends at each
 /// `None`.
@@ -49,4 +51,34 @@ impl<B, S: Counted, F: FnMut(S::Item) -> Option<B>> Counted for MapWhile<S, F> {
     ghost ranks = { ranks_of (λ m. m.stream) S.ranks };
 
     ghost counting = { through_counting map_while_parts S.counting (exchanges_relating (Calls F.FnMut)) };
+}
+
+impl<T, E, S: Counted, F: FnMut(S::Item) -> Option<Result<T, E>>> OkCounted for MapWhile<S, F> {
+    type Ok = T;
+
+    type Err = E;
+
+    ghost ok_ranks = { ranks_of (λ m. m.stream) S.ranks };
+
+    ghost ok_counting = { ok_counting (through_counting map_while_parts S.counting (exchanges_relating (Calls F.FnMut))) };
+}
+
+impl<B, S: SteadyStream, F: FnMut(S::Item) -> Option<B>> SteadyStream for MapWhile<S, F> {
+    ghost ample = { MapsWhile S.ample (Calls F.FnMut) };
+
+    ghost needs_none = { S.needs_none };
+
+    ghost same = { Keeping S.same (Calls F.FnMut) };
+
+    ghost alike = { λ x y. S.alike x.stream y.stream × AgreeKeeping S.same (Calls F.FnMut) x.f y.f };
+
+    ghost steady = { through_steady_over map_while_parts S.same (Keeping S.same (Calls F.FnMut)) S.steady
+        (exchanges_relating (Calls F.FnMut)).following
+        (exchanges_keeping (Calls F.FnMut) S.same) };
+}
+
+impl<B, S: CalmStream, F: FnMut(S::Item) -> Option<B>> CalmStream for MapWhile<S, F> {
+    ghost is_calm = { λ m. S.is_calm m.stream };
+
+    ghost calm = { through_calm map_while_parts S.calm (exchanges_calming (Calls F.FnMut)) };
 }

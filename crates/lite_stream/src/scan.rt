@@ -1,11 +1,13 @@
 ghost use Rattle.std.specs.Prelude.{None};
-ghost use Rattle.lite_stream.specs.Uses.{ranks_of, CallsWith, NoHint};
+ghost use Rattle.lite_stream.specs.Uses.{ranks_of, CallsWith, NoHint, ok_counting, AgreeKeeping, Keeping};
 ghost use Rattle.lite_stream.specs.EachItem.{MayCallEachWith};
 ghost use Rattle.lite_stream.specs.Scan.{Scans, scan_parts};
-ghost use Rattle.lite_stream.specs.Laws.Pointwise.{exchanges_on, exchanges_relating};
+ghost use Rattle.lite_stream.specs.Laws.Agreeing.{through_steady_over};
+ghost use Rattle.lite_stream.specs.Laws.Calming.{through_calm};
+ghost use Rattle.lite_stream.specs.Laws.Pointwise.{exchanges_calming, exchanges_keeping, exchanges_on, exchanges_relating};
 ghost use Rattle.lite_stream.specs.Laws.Through.{laws_unhinted, through_counting};
 
-use lite_base::{Context, Counted, Poll, Stream, ready};
+use lite_base::{CalmStream, Context, Counted, OkCounted, Poll, SteadyStream, Stream, ready};
 
 /// A stream that calls a function with a state and each item of another stream, and ends at each `None`.
 ///
@@ -49,4 +51,36 @@ impl<St, B, S: Counted, F: FnMut(&mut St, S::Item) -> Option<B>> Counted for Sca
     ghost ranks = { ranks_of (λ m. m.stream) S.ranks };
 
     ghost counting = { through_counting scan_parts S.counting (exchanges_relating (CallsWith F.FnMut)) };
+}
+
+impl<T, E, St, S: Counted, F: FnMut(&mut St, S::Item) -> Option<Result<T, E>>> OkCounted
+    for Scan<S, St, F> {
+    type Ok = T;
+
+    type Err = E;
+
+    ghost ok_ranks = { ranks_of (λ m. m.stream) S.ranks };
+
+    ghost ok_counting = { ok_counting (through_counting scan_parts S.counting (exchanges_relating (CallsWith F.FnMut))) };
+}
+
+impl<St, B, S: SteadyStream, F: FnMut(&mut St, S::Item) -> Option<B>> SteadyStream
+    for Scan<S, St, F> {
+    ghost ample = { Scans S.ample (CallsWith F.FnMut) };
+
+    ghost needs_none = { S.needs_none };
+
+    ghost same = { Keeping S.same (CallsWith F.FnMut) };
+
+    ghost alike = { λ x y. S.alike x.stream y.stream × AgreeKeeping S.same (CallsWith F.FnMut) (x.f, x.state) (y.f, y.state) };
+
+    ghost steady = { through_steady_over scan_parts S.same (Keeping S.same (CallsWith F.FnMut)) S.steady
+        (exchanges_relating (CallsWith F.FnMut)).following
+        (exchanges_keeping (CallsWith F.FnMut) S.same) };
+}
+
+impl<St, B, S: CalmStream, F: FnMut(&mut St, S::Item) -> Option<B>> CalmStream for Scan<S, St, F> {
+    ghost is_calm = { λ m. S.is_calm m.stream };
+
+    ghost calm = { through_calm scan_parts S.calm (exchanges_calming (CallsWith F.FnMut)) };
 }

@@ -1,11 +1,13 @@
-ghost use Rattle.std.specs.Prelude.{None};
-ghost use Rattle.lite_stream.specs.Uses.{number_ranks, number_counting, NoHint};
+ghost use Rattle.std.specs.Prelude.{◌≡◌, None};
+ghost use Rattle.lite_stream.specs.Uses.{number_ranks, number_counting, NoHint, ok_counting};
 ghost use Rattle.lite_stream.specs.Take.{Takes, is_none_left, left_after, take_parts};
-ghost use Rattle.lite_stream.specs.Laws.Cutting.{cuts_relating};
-ghost use Rattle.lite_stream.specs.Laws.Take.{takes_lowers};
+ghost use Rattle.lite_stream.specs.Laws.Agreeing.{through_steady_over};
+ghost use Rattle.lite_stream.specs.Laws.Calming.{through_calm};
+ghost use Rattle.lite_stream.specs.Laws.Cutting.{cuts_calming, cuts_relating};
+ghost use Rattle.lite_stream.specs.Laws.Take.{takes_agreeing, takes_lowers};
 ghost use Rattle.lite_stream.specs.Laws.Through.{laws_unhinted, through_on};
 
-use lite_base::{Context, Counted, Poll, Stream, ready};
+use lite_base::{CalmStream, Context, Counted, OkCounted, Poll, SteadyStream, Stream, ready};
 
 /// A stream that yields the items of another stream, up to a given number, and then ends for ever.
 ///
@@ -53,4 +55,33 @@ impl<S: Stream> Counted for Take<S> {
     ghost ranks = { number_ranks (λ m. m.n) };
 
     ghost counting = { number_counting (λ x y l h. takes_lowers x.n y.n h.ins l h.related) };
+}
+
+impl<T, E, S: Stream<Item = Result<T, E>>> OkCounted for Take<S> {
+    type Ok = T;
+
+    type Err = E;
+
+    ghost ok_ranks = { number_ranks (λ m. m.n) };
+
+    ghost ok_counting = { ok_counting (number_counting (λ x y l h. takes_lowers x.n y.n h.ins l h.related)) };
+}
+
+impl<S: SteadyStream> SteadyStream for Take<S> {
+    ghost ample = { Takes S.ample };
+
+    ghost needs_none = { S.needs_none };
+
+    ghost same = { S.same };
+
+    ghost alike = { λ x y. S.alike x.stream y.stream × (y.n ≡ x.n) };
+
+    ghost steady = { through_steady_over take_parts S.same S.same S.steady (cuts_relating is_none_left left_after).following
+        (takes_agreeing S.same) };
+}
+
+impl<S: CalmStream> CalmStream for Take<S> {
+    ghost is_calm = { λ m. S.is_calm m.stream };
+
+    ghost calm = { through_calm take_parts S.calm (cuts_calming is_none_left left_after) };
 }

@@ -1,11 +1,13 @@
-ghost use Rattle.std.specs.Prelude.{None};
-ghost use Rattle.lite_stream.specs.Uses.{ranks_of, CalledAt, Accepts, NoHint};
+ghost use Rattle.std.specs.Prelude.{◌≡◌, None};
+ghost use Rattle.lite_stream.specs.Uses.{ranks_of, CalledAt, Accepts, NoHint, ok_counting, SameItem, AgreeFrom};
 ghost use Rattle.lite_stream.specs.EachItem.{MayShowEach};
 ghost use Rattle.lite_stream.specs.TakeWhile.{TakesWhile, take_while_parts};
-ghost use Rattle.lite_stream.specs.Laws.Pointwise.{asks_testing, exchanges_on, exchanges_relating};
+ghost use Rattle.lite_stream.specs.Laws.Agreeing.{through_steady_over};
+ghost use Rattle.lite_stream.specs.Laws.Calming.{through_calm};
+ghost use Rattle.lite_stream.specs.Laws.Pointwise.{asks_testing, exchanges_calming, exchanges_on, exchanges_relating, exchanges_testing};
 ghost use Rattle.lite_stream.specs.Laws.Through.{laws_unhinted, through_counting};
 
-use lite_base::{Context, Counted, Poll, Stream, ready};
+use lite_base::{CalmStream, Context, Counted, OkCounted, Poll, SteadyStream, Stream, ready};
 
 /// A stream that yields the items of another stream, and ends at each item for which a predicate returns
 /// false.
@@ -50,4 +52,37 @@ impl<S: Counted<Item: Drop>, P: FnMut(&S::Item) -> bool> Counted for TakeWhile<S
     ghost ranks = { ranks_of (λ m. m.stream) S.ranks };
 
     ghost counting = { through_counting take_while_parts S.counting (exchanges_relating (Accepts (CalledAt P.FnMut))) };
+}
+
+impl<T: Drop, E: Drop, S: Counted<Item = Result<T, E>>, P: FnMut(&Result<T, E>) -> bool> OkCounted
+    for TakeWhile<S, P> {
+    type Ok = T;
+
+    type Err = E;
+
+    ghost ok_ranks = { ranks_of (λ m. m.stream) S.ranks };
+
+    ghost ok_counting = { ok_counting
+        (through_counting take_while_parts S.counting (exchanges_relating (Accepts (CalledAt P.FnMut)))) };
+}
+
+impl<S: SteadyStream<Item: Drop>, P: FnMut(&S::Item) -> bool> SteadyStream for TakeWhile<S, P> {
+    ghost ample = { TakesWhile S.ample (CalledAt P.FnMut) };
+
+    ghost needs_none = { S.needs_none };
+
+    ghost same = { S.same };
+
+    ghost alike = { λ x y. S.alike x.stream y.stream
+        × AgreeFrom (SameItem S.same) (λ y z. y ≡ z) (CalledAt P.FnMut) x.predicate y.predicate };
+
+    ghost steady = { through_steady_over take_while_parts S.same S.same S.steady
+        (exchanges_relating (Accepts (CalledAt P.FnMut))).following
+        (exchanges_testing (CalledAt P.FnMut) S.same) };
+}
+
+impl<S: CalmStream<Item: Drop>, P: FnMut(&S::Item) -> bool> CalmStream for TakeWhile<S, P> {
+    ghost is_calm = { λ m. S.is_calm m.stream };
+
+    ghost calm = { through_calm take_while_parts S.calm (exchanges_calming (Accepts (CalledAt P.FnMut))) };
 }

@@ -1,8 +1,12 @@
+ghost use Rattle.std.specs.Prelude.{⊤};
 ghost use Rattle.lite_write.specs.Uses.{polled_laws, PolledByCalls};
 ghost use Rattle.lite_write.specs.Close.{Closes};
+ghost use Rattle.lite_write.specs.SteadyWriteAll.{NoneFails, WithoutFailure};
+ghost use Rattle.lite_write.specs.Laws.CalmWrite.{close_calm};
+ghost use Rattle.lite_write.specs.Laws.SteadyDone.{close_steady};
 
-use lite_base::{Context, Future, Poll};
-use lite_io_base::AsyncWrite;
+use lite_base::{CalmFuture, Context, Future, Poll, SteadyFuture};
+use lite_io_base::{AsyncWrite, CalmWrite};
 use std::io;
 
 /// A future that closes a writer.
@@ -26,4 +30,21 @@ impl<W: AsyncWrite> Future for CloseFuture<'_, W> {
     fn poll(&mut self, cx: &mut Context<'_>) -> Poll<io::Result<()>> {
         self.writer.poll_close(cx)
     }
+}
+
+// If each write takes some bytes and none fails.
+impl<W: AsyncWrite> SteadyFuture for CloseFuture<'_, W> {
+    ghost ample = { PolledByCalls (Closes (WithoutFailure W.writes)) };
+
+    ghost needs_none = { NoneFails W.writes };
+
+    ghost alike = { λ _ _. ⊤ };
+
+    ghost steady = { close_steady };
+}
+
+impl<W: CalmWrite> CalmFuture for CloseFuture<'_, W> {
+    ghost is_calm = { λ x. W.is_calm x.writer.now };
+
+    ghost calm = { close_calm W.calm };
 }

@@ -1,11 +1,13 @@
 ghost use Rattle.std.specs.Prelude.{◌≡◌, ◌<◌, ◌↔◌, ◌^◌, [], ◌∷◌, length, IfOk, IfSome, IsTrue};
 ghost use Rattle.lite_write.specs.Uses.{IfReady, Keeps, Terminates-map, ahead, reader_capacity, reader_inner, through_counting, counting_ends, fill_marks};
-ghost use Rattle.lite_write.specs.Uses.{OnlyOkLends, Registered};
+ghost use Rattle.lite_write.specs.Uses.{OnlyOkLends, Registered, SameByKind, Sameness};
 ghost use Rattle.lite_write.specs.declared.copy.Phase.TheVariants.{Copying, Flushing};
 
-use lite_base::{Context, Future, Poll, PollSteps, drive};
+use lite_base::{CalmFuture, Context, Future, Poll, PollSteps, SteadyFuture, drive};
 use lite_buffered::BufReader;
-use lite_io_base::{AsyncBufRead, AsyncRead, AsyncWrite, CountedRead};
+use lite_io_base::{
+    AsyncBufRead, AsyncRead, AsyncWrite, CalmRead, CalmWrite, CountedRead, SteadyRead,
+};
 use std::io;
 use std::io::ErrorKind;
 
@@ -148,4 +150,30 @@ impl<R: CountedRead, W: AsyncWrite> Future for CopyFuture<R, W> {
     fn poll(&mut self, cx: &mut Context<'_>) -> Poll<io::Result<u64>> {
         drive(self, cx)
     }
+}
+
+// If each write takes some bytes and none fails.
+impl<R: CountedRead + SteadyRead, W: AsyncWrite> SteadyFuture for CopyFuture<R, W> {
+    ghost use Rattle.lite_write.specs.Copy.{CopyRuns};
+    ghost use Rattle.lite_write.specs.SteadyWriteAll.{NoneFails, WithoutFailure};
+    ghost use Rattle.lite_write.specs.Laws.SteadyCopy.{CopyAlike, copy_steady};
+
+    ghost ample = { CopyRuns R.ample (WithoutFailure W.writes) };
+
+    ghost needs_none = { R.needs_none × NoneFails W.writes };
+
+    ghost same = { Sameness.by SameByKind };
+
+    ghost alike = { CopyAlike R.alike };
+
+    ghost steady = { copy_steady R.steady W.write_laws };
+}
+
+impl<R: CountedRead + CalmRead, W: CalmWrite> CalmFuture for CopyFuture<R, W> {
+    ghost use Rattle.lite_write.specs.Parts.{source_of};
+    ghost use Rattle.lite_write.specs.Laws.SteadyCopy.{copy_calm};
+
+    ghost is_calm = { λ x. R.is_calm (source_of x) × W.is_calm x.writer };
+
+    ghost calm = { copy_calm R.calm W.calm };
 }

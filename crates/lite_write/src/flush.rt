@@ -1,8 +1,12 @@
+ghost use Rattle.std.specs.Prelude.{⊤};
 ghost use Rattle.lite_write.specs.Uses.{polled_laws, PolledByCalls};
 ghost use Rattle.lite_write.specs.Flush.{Flushes};
+ghost use Rattle.lite_write.specs.SteadyWriteAll.{NoneFails, WithoutFailure};
+ghost use Rattle.lite_write.specs.Laws.CalmWrite.{flush_calm};
+ghost use Rattle.lite_write.specs.Laws.SteadyDone.{flush_steady};
 
-use lite_base::{Context, Future, Poll};
-use lite_io_base::AsyncWrite;
+use lite_base::{CalmFuture, Context, Future, Poll, SteadyFuture};
+use lite_io_base::{AsyncWrite, CalmWrite};
 use std::io;
 
 /// A future that flushes a writer once.
@@ -26,4 +30,21 @@ impl<W: AsyncWrite> Future for FlushFuture<'_, W> {
     fn poll(&mut self, cx: &mut Context<'_>) -> Poll<io::Result<()>> {
         self.writer.poll_flush(cx)
     }
+}
+
+// If each write takes some bytes and none fails.
+impl<W: AsyncWrite> SteadyFuture for FlushFuture<'_, W> {
+    ghost ample = { PolledByCalls (Flushes (WithoutFailure W.writes)) };
+
+    ghost needs_none = { NoneFails W.writes };
+
+    ghost alike = { λ _ _. ⊤ };
+
+    ghost steady = { flush_steady };
+}
+
+impl<W: CalmWrite> CalmFuture for FlushFuture<'_, W> {
+    ghost is_calm = { λ x. W.is_calm x.writer.now };
+
+    ghost calm = { flush_calm W.calm };
 }

@@ -1,13 +1,11 @@
 //! Futures of writing, flushing, closing and copying, and a writer that drops its bytes.
 #![tactic(auto)]
 
-mod calm;
 mod close;
 mod copy;
 mod flush;
 pub mod make;
 mod sink;
-mod steady;
 mod write;
 mod write_all;
 mod write_vectored;

@@ -1,8 +1,9 @@
 ghost use Rattle.lite_write.specs.Uses.{polled_laws, PolledByCalls};
 ghost use Rattle.lite_write.specs.Write.{Writes};
+ghost use Rattle.lite_write.specs.Laws.CalmWrite.{write_calm};
 
-use lite_base::{Context, Future, Poll};
-use lite_io_base::AsyncWrite;
+use lite_base::{CalmFuture, Context, Future, Poll};
+use lite_io_base::{AsyncWrite, CalmWrite};
 use std::io;
 
 /// A future that writes once.
@@ -27,4 +28,10 @@ impl<W: AsyncWrite> Future for WriteFuture<'_, W> {
     fn poll(&mut self, cx: &mut Context<'_>) -> Poll<io::Result<usize>> {
         self.writer.poll_write(cx, self.buf)
     }
+}
+
+impl<W: CalmWrite> CalmFuture for WriteFuture<'_, W> {
+    ghost is_calm = { λ x. W.is_calm x.writer.now };
+
+    ghost calm = { write_calm W.calm };
 }

@@ -1,11 +1,13 @@
 ghost use Rattle.std.specs.Prelude.{[], ◌∷◌, length, ⊤};
 ghost use Rattle.lite_write.specs.Uses.{OneStep, Terminates-count};
+ghost use Rattle.lite_write.specs.Laws.SteadyWriteAll.{all_calm, all_steady};
 ghost use Rattle.lite_write.specs.Laws.WriteAll.{all_laws, left_falls};
 ghost use Rattle.lite_write.specs.PollSteps.{WritesSome};
+ghost use Rattle.lite_write.specs.SteadyWriteAll.{NoneFails, WithoutFailure};
 ghost use Rattle.lite_write.specs.WriteAll.{WritesAll};
 
-use lite_base::{Context, Future, Poll, PollSteps, drive};
-use lite_io_base::AsyncWrite;
+use lite_base::{CalmFuture, Context, Future, Poll, PollSteps, SteadyFuture, drive};
+use lite_io_base::{AsyncWrite, CalmWrite};
 use std::io;
 use std::io::ErrorKind;
 
@@ -62,4 +64,21 @@ impl<W: AsyncWrite> Future for WriteAllFuture<'_, W> {
     fn poll(&mut self, cx: &mut Context<'_>) -> Poll<io::Result<()>> {
         drive(self, cx)
     }
+}
+
+// If each write takes some bytes and none fails.
+impl<W: AsyncWrite> SteadyFuture for WriteAllFuture<'_, W> {
+    ghost ample = { WritesAll (WithoutFailure W.writes) };
+
+    ghost needs_none = { NoneFails W.writes };
+
+    ghost alike = { λ _ _. ⊤ };
+
+    ghost steady = { all_steady W.write_laws };
+}
+
+impl<W: CalmWrite> CalmFuture for WriteAllFuture<'_, W> {
+    ghost is_calm = { λ x. W.is_calm x.writer.now };
+
+    ghost calm = { all_calm W.calm };
 }

@@ -1,8 +1,9 @@
 ghost use Rattle.lite_write.specs.Uses.{polled_laws, PolledByCalls};
 ghost use Rattle.lite_write.specs.WriteVectored.{WritesVectored};
+ghost use Rattle.lite_write.specs.Laws.CalmWrite.{vectored_calm};
 
-use lite_base::{Context, Future, Poll};
-use lite_io_base::AsyncWrite;
+use lite_base::{CalmFuture, Context, Future, Poll};
+use lite_io_base::{AsyncWrite, CalmWrite};
 use std::io;
 use std::io::IoSlice;
 
@@ -29,4 +30,10 @@ impl<W: AsyncWrite> Future for WriteVectoredFuture<'_, W> {
     fn poll(&mut self, cx: &mut Context<'_>) -> Poll<io::Result<usize>> {
         self.writer.poll_write_vectored(cx, self.bufs)
     }
+}
+
+impl<W: CalmWrite> CalmFuture for WriteVectoredFuture<'_, W> {
+    ghost is_calm = { λ x. W.is_calm x.writer.now };
+
+    ghost calm = { vectored_calm W.calm };
 }

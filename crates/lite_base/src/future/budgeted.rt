@@ -2,9 +2,9 @@
 ghost use Rattle.std.specs.Prelude.{◌<◌, ⊤};
 ghost use Rattle.lite_base.specs.Uses.{Lasting};
 ghost use Rattle.lite_base.specs.Future.Budgeted.{BudgetsPolls};
-ghost use Rattle.lite_base.specs.Laws.Future.Budgeted.{budgets_laws};
+ghost use Rattle.lite_base.specs.Laws.Future.Budgeted.{budgets_calm, budgets_laws};
 
-use super::Future;
+use super::{CalmFuture, Future};
 use crate::{Context, Poll};
 
 /// A future was polled as often as its budget allows, and has no value.
@@ -57,6 +57,12 @@ impl<F: Future> Future for Budgeted<F> {
             }
         }
     }
+}
+
+impl<F: CalmFuture> CalmFuture for Budgeted<F> {
+    ghost is_calm = { λ x. F.is_calm x.inner };
+
+    ghost calm = { budgets_calm F.calm };
 }
 
 /// Does nothing. Its contract says what a future with a budget has registered.

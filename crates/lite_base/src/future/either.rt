@@ -1,11 +1,12 @@
 //! A future of one of two types.
 ghost use Rattle.std.specs.Prelude.{◌≡◌};
 ghost use Rattle.lite_base.specs.Uses.{Lasting};
-ghost use Rattle.lite_base.specs.Future.Either.{EitherRegisters, EitherRuns, OfEither};
+ghost use Rattle.lite_base.specs.Alike.{Either as SameEither};
+ghost use Rattle.lite_base.specs.Future.Either.{BothEither, EitherRegisters, EitherRuns, OfEither};
 ghost use Rattle.lite_base.specs.declared.future.either.Either.TheVariants.{Left, Right};
-ghost use Rattle.lite_base.specs.Laws.Future.Either.{either_laws};
+ghost use Rattle.lite_base.specs.Laws.Future.Either.{either_calm, either_laws, either_steady};
 
-use super::Future;
+use super::{CalmFuture, Future, SteadyFuture};
 use crate::{Context, Poll};
 
 /// A future of one of two types that have one output, so that both can stand in a list.
@@ -49,6 +50,25 @@ impl<A: Future, B: Future<Output = A::Output>> Future for Either<A, B> {
             Either::Right(future) => future.poll(cx),
         }
     }
+}
+
+impl<A: SteadyFuture, B: SteadyFuture<Output = A::Output>> SteadyFuture for Either<A, B> {
+    ghost ample = { EitherRuns A.ample B.ample };
+
+    ghost needs_none = { A.needs_none × B.needs_none };
+
+    ghost same = { SameEither A.same B.same };
+
+    ghost alike = { BothEither A.alike B.alike };
+
+    ghost steady = { either_steady A.steady B.steady };
+}
+
+// Of the two the one that it is.
+impl<A: CalmFuture, B: CalmFuture<Output = A::Output>> CalmFuture for Either<A, B> {
+    ghost is_calm = { OfEither A.is_calm B.is_calm };
+
+    ghost calm = { either_calm A.calm B.calm };
 }
 
 /// Does nothing. Its contract says what an `Either` has registered.

@@ -1,10 +1,11 @@
 ghost use Rattle.std.specs.Prelude.{◌≡◌, ◌∷◌, [], IfSome, Some};
 ghost use Rattle.lite_base.specs.Uses.{Keeps};
+ghost use Rattle.lite_base.specs.Alike.{OptionBy};
 ghost use Rattle.lite_base.specs.Future.Fuse.{FutureFuses};
-ghost use Rattle.lite_base.specs.Laws.Future.Fuse.{fuses_laws};
+ghost use Rattle.lite_base.specs.Laws.Future.Fuse.{fuses_laws, fuses_steady};
 ghost use Rattle.lite_base.specs.Registered.{Registered};
 
-use super::Future;
+use super::{Future, SteadyFuture};
 use crate::{Context, Poll};
 
 /// A future that drops its inner future in the poll that returns the value, and returns `Pending` for ever
@@ -45,4 +46,16 @@ impl<F: Future + Drop> Future for Fuse<F> {
             Poll::Pending => Poll::Pending,
         }
     }
+}
+
+impl<F: SteadyFuture + Drop> SteadyFuture for Fuse<F> {
+    ghost ample = { FutureFuses F.ample };
+
+    ghost needs_none = { F.needs_none };
+
+    ghost same = { F.same };
+
+    ghost alike = { λ x y. OptionBy F.alike x.inner y.inner };
+
+    ghost steady = { fuses_steady F.steady };
 }

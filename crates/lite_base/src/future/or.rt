@@ -1,9 +1,9 @@
 ghost use Rattle.std.specs.Prelude.{◌⊎◌};
 ghost use Rattle.lite_base.specs.Future.Or.{FutureOrs};
-ghost use Rattle.lite_base.specs.Laws.Future.Or.{ors_laws};
+ghost use Rattle.lite_base.specs.Laws.Future.Or.{ors_calm, ors_laws};
 
-use super::Future;
 use super::picks::poll_in_order;
+use super::{CalmFuture, Future};
 use crate::{Context, Poll};
 
 /// A future that resolves to the value of whichever of two futures is ready first. It prefers the first if
@@ -32,4 +32,11 @@ impl<F1: Future, F2: Future<Output = F1::Output>> Future for Or<F1, F2> {
     fn poll(&mut self, cx: &mut Context<'_>) -> Poll<F1::Output> {
         poll_in_order(&mut self.future1, &mut self.future2, cx)
     }
+}
+
+// One of the two that is never pending is enough.
+impl<F1: CalmFuture, F2: CalmFuture<Output = F1::Output>> CalmFuture for Or<F1, F2> {
+    ghost is_calm = { λ x. F1.is_calm x.future1 ⊎ F2.is_calm x.future2 };
+
+    ghost calm = { ors_calm F1.calm F2.calm };
 }

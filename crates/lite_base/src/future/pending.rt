@@ -1,8 +1,8 @@
 ghost use Rattle.std.specs.Prelude.{◌≡◌, ⊤};
 ghost use Rattle.lite_base.specs.Answers.{Waiting};
-ghost use Rattle.lite_base.specs.Laws.Future.Pending.{waits_laws};
+ghost use Rattle.lite_base.specs.Laws.Future.Pending.{waits_laws, waits_steady};
 
-use super::Future;
+use super::{Future, SteadyFuture};
 use crate::{Context, Poll};
 use std::alloc::AllocError;
 use std::marker::PhantomData;
@@ -38,4 +38,12 @@ impl<T> Future for Pending<T> {
     fn poll(&mut self, _cx: &mut Context<'_>) -> Poll<T> {
         Poll::Pending
     }
+}
+
+impl<T> SteadyFuture for Pending<T> {
+    ghost ample = { λ x l y. Waiting l × (y ≡ x) };
+
+    ghost alike = { λ _ _. ⊤ };
+
+    ghost steady = { waits_steady };
 }

@@ -1,8 +1,9 @@
+ghost use Rattle.lite_base.specs.Alike.{Alike};
 ghost use Rattle.lite_base.specs.Answers.{Waiting};
-ghost use Rattle.lite_base.specs.Future.Calls.{AlwaysObeys, CallRegisters, Polled};
-ghost use Rattle.lite_base.specs.Laws.Future.Calls.{polled_laws};
+ghost use Rattle.lite_base.specs.Future.Calls.{AlwaysObeys, CallRegisters, NeverPends, Polled};
+ghost use Rattle.lite_base.specs.Laws.Future.Calls.{polled_calm, polled_laws, polled_steady};
 
-use super::Future;
+use super::{CalmFuture, Future, SteadyFuture};
 use crate::{Context, Poll};
 use std::fmt;
 
@@ -34,4 +35,19 @@ impl<T, F: FnMut(&mut Context<'_>) -> Poll<T>> Future for PollFn<F> {
     fn poll(&mut self, cx: &mut Context<'_>) -> Poll<T> {
         (self.f)(cx)
     }
+}
+
+// A closure is its own source. Two are alike if they return the same, apart from `Pending`.
+impl<T, F: FnMut(&mut Context<'_>) -> Poll<T>> SteadyFuture for PollFn<F> {
+    ghost ample = { λ x l y. Polled F.FnMut x.f l y.f };
+
+    ghost alike = { Alike (λ x l y. Polled F.FnMut x.f l y.f) };
+
+    ghost steady = { polled_steady F.FnMut };
+}
+
+impl<T, F: FnMut(&mut Context<'_>) -> Poll<T>> CalmFuture for PollFn<F> {
+    ghost is_calm = { λ x. NeverPends F.FnMut x.f };
+
+    ghost calm = { polled_calm F.FnMut };
 }

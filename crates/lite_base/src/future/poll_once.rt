@@ -1,7 +1,8 @@
+ghost use Rattle.std.specs.Prelude.{⊤};
 ghost use Rattle.lite_base.specs.Future.PollOnce.{TellsFirst};
-ghost use Rattle.lite_base.specs.Laws.Future.PollOnce.{tells_laws};
+ghost use Rattle.lite_base.specs.Laws.Future.PollOnce.{tells_calm, tells_laws};
 
-use super::Future;
+use super::{CalmFuture, Future};
 use crate::{Context, Poll};
 use std::fmt;
 
@@ -35,4 +36,10 @@ impl<F: Future> Future for PollOnce<F> {
             Poll::Pending => Poll::Ready(None),
         }
     }
+}
+
+impl<F: Future> CalmFuture for PollOnce<F> {
+    ghost is_calm = { λ _. ⊤ };
+
+    ghost calm = { tells_calm F.run };
 }

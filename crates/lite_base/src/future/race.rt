@@ -1,9 +1,9 @@
 ghost use Rattle.std.specs.Prelude.{◌⊎◌};
 ghost use Rattle.lite_base.specs.Future.Race.{FutureRacesOn};
-ghost use Rattle.lite_base.specs.Laws.Future.Race.{races_laws};
+ghost use Rattle.lite_base.specs.Laws.Future.Race.{races_calm, races_laws};
 
-use super::Future;
 use super::picks::poll_in_order;
+use super::{CalmFuture, Future};
 use crate::{Context, Poll};
 use rand_core::Rng;
 
@@ -44,4 +44,16 @@ where
             poll_in_order(&mut self.future2, &mut self.future1, cx)
         }
     }
+}
+
+// As `or`, whichever is polled first.
+impl<F1, F2, G> CalmFuture for Race<F1, F2, G>
+where
+    F1: CalmFuture,
+    F2: CalmFuture<Output = F1::Output>,
+    G: Rng,
+{
+    ghost is_calm = { λ x. F1.is_calm x.future1 ⊎ F2.is_calm x.future2 };
+
+    ghost calm = { races_calm G.stream F1.calm F2.calm };
 }

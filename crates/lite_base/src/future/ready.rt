@@ -1,8 +1,8 @@
-ghost use Rattle.std.specs.Prelude.{IsSome};
+ghost use Rattle.std.specs.Prelude.{◌≡◌, ⊤, IsSome};
 ghost use Rattle.lite_base.specs.Future.Ready.{GivesHeld};
-ghost use Rattle.lite_base.specs.Laws.Future.Ready.{held_laws};
+ghost use Rattle.lite_base.specs.Laws.Future.Ready.{held_calm, held_laws, held_steady};
 
-use super::Future;
+use super::{CalmFuture, Future, SteadyFuture};
 use crate::{Context, Poll};
 
 /// A future that is ready at the first poll.
@@ -25,4 +25,18 @@ impl<T> Future for Ready<T> {
     fn poll(&mut self, _cx: &mut Context<'_>) -> Poll<T> {
         Poll::Ready(self.value.take().unwrap())
     }
+}
+
+impl<T> SteadyFuture for Ready<T> {
+    ghost ample = { λ x l y. GivesHeld x.value l y.value };
+
+    ghost alike = { λ x y. y.value ≡ x.value };
+
+    ghost steady = { held_steady };
+}
+
+impl<T> CalmFuture for Ready<T> {
+    ghost is_calm = { λ _. ⊤ };
+
+    ghost calm = { held_calm };
 }

@@ -1,10 +1,10 @@
 ghost use Rattle.std.specs.Prelude.{◌⊎◌};
-ghost use Rattle.lite_base.specs.Future.Half.{CanAsk, IsAskedAnd};
+ghost use Rattle.lite_base.specs.Future.Half.{CanAsk, IfAsked, IsAskedAnd};
 ghost use Rattle.lite_base.specs.Future.TryZip.{TryZips};
-ghost use Rattle.lite_base.specs.Laws.Future.TryZip.{try_zips_laws};
+ghost use Rattle.lite_base.specs.Laws.Future.TryZip.{try_zips_calm, try_zips_laws};
 
-use super::Future;
 use super::half::{Half, take_both, try_ask};
+use super::{CalmFuture, Future};
 use crate::{Context, Poll};
 
 /// A future that resolves to the values of two futures, or to the first error.
@@ -47,4 +47,16 @@ where
             Poll::Pending => Poll::Pending,
         }
     }
+}
+
+impl<T1, T2, E, F1, F2> CalmFuture for TryZip<F1, T1, F2, T2>
+where
+    F1: CalmFuture<Output = Result<T1, E>> + Drop,
+    F2: CalmFuture<Output = Result<T2, E>> + Drop,
+    T1: Drop,
+    T2: Drop,
+{
+    ghost is_calm = { λ x. IfAsked x.first F1.is_calm × IfAsked x.second F2.is_calm };
+
+    ghost calm = { try_zips_calm F1.calm F2.calm };
 }

@@ -1,9 +1,9 @@
-ghost use Rattle.std.specs.Prelude.{true};
+ghost use Rattle.std.specs.Prelude.{⊤, ◌≡◌, true};
 ghost use Rattle.lite_base.specs.Future.YieldNow.{YieldsOnce};
-ghost use Rattle.lite_base.specs.Laws.Future.YieldNow.{yields_laws};
+ghost use Rattle.lite_base.specs.Laws.Future.YieldNow.{yields_calm, yields_laws, yields_steady};
 ghost use Rattle.lite_base.specs.Woken.{HoldsWoken};
 
-use super::Future;
+use super::{CalmFuture, Future, SteadyFuture};
 use crate::{Context, Poll};
 
 /// A future that wakes its context and returns `Pending` once, and then is ready.
@@ -32,4 +32,17 @@ impl Future for YieldNow {
     }
 }
 
+impl SteadyFuture for YieldNow {
+    ghost ample = { λ x l y. YieldsOnce x.yielded l y.yielded };
+
+    ghost alike = { λ _ _. ⊤ };
+
+    ghost steady = { yields_steady };
+}
+
 // Once it has yielded.
+impl CalmFuture for YieldNow {
+    ghost is_calm = { λ x. x.yielded ≡ true };
+
+    ghost calm = { yields_calm };
+}

@@ -1,10 +1,11 @@
 ghost use Rattle.std.specs.Prelude.{◌⊎◌};
-ghost use Rattle.lite_base.specs.Future.Half.{CanAsk, IsAskedAnd};
+ghost use Rattle.lite_base.specs.Alike.{Pairwise};
+ghost use Rattle.lite_base.specs.Future.Half.{CanAsk, HalvesBy, IfAsked, IsAskedAnd};
 ghost use Rattle.lite_base.specs.Future.Zip.{FutureZips};
-ghost use Rattle.lite_base.specs.Laws.Future.Zip.{zips_laws};
+ghost use Rattle.lite_base.specs.Laws.Future.Zip.{zips_calm, zips_laws, zips_steady};
 
-use super::Future;
 use super::half::{Half, ask, take_both};
+use super::{CalmFuture, Future, SteadyFuture};
 use crate::{Context, Poll};
 
 /// A future that resolves to the values of two futures, once both are ready.
@@ -37,4 +38,30 @@ where
         ask(&mut self.second, cx);
         take_both(&mut self.first, &mut self.second)
     }
+}
+
+impl<F1, F2> SteadyFuture for Zip<F1, F2>
+where
+    F1: SteadyFuture<Output: Drop> + Drop,
+    F2: SteadyFuture<Output: Drop> + Drop,
+{
+    ghost ample = { λ x l y. FutureZips F1.ample F2.ample x.first x.second l y.first y.second };
+
+    ghost needs_none = { F1.needs_none × F2.needs_none };
+
+    ghost same = { Pairwise F1.same F2.same };
+
+    ghost alike = { λ x y. HalvesBy F1.same F1.alike x.first y.first × HalvesBy F2.same F2.alike x.second y.second };
+
+    ghost steady = { zips_steady F1.same F2.same F1.steady F2.steady };
+}
+
+impl<F1, F2> CalmFuture for Zip<F1, F2>
+where
+    F1: CalmFuture<Output: Drop> + Drop,
+    F2: CalmFuture<Output: Drop> + Drop,
+{
+    ghost is_calm = { λ x. IfAsked x.first F1.is_calm × IfAsked x.second F2.is_calm };
+
+    ghost calm = { zips_calm F1.calm F2.calm };
 }

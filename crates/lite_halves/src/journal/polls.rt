@@ -5,13 +5,18 @@ ghost use Rattle.lite_halves.specs.Uses.{write_marks, closed, flushed, Registere
 ghost use Rattle.lite_halves.specs.Entry.{Request, close_note, flush_note, read_note, write_note};
 ghost use Rattle.lite_halves.specs.Journal.{Adds, AddsOrStays, AddsRead, AddsWrite, AsksMemory, JournalReads};
 ghost use Rattle.lite_halves.specs.Journal.{JournalWrites, EntryRoom};
+ghost use Rattle.lite_halves.specs.Steady.{ReadsAmply};
 ghost use Rattle.lite_halves.specs.Laws.Journal.{journals_laws};
+ghost use Rattle.lite_halves.specs.Laws.Steady.{journal_calm, journal_calm_write, journal_steady, journal_steady_write};
 
 use super::Journal;
 use crate::answers::{done_answer, or_refused, read_answer, write_answer};
 use crate::entry::{Call, Entry};
 use lite_base::{Context, Poll};
-use lite_io_base::{AsyncRead, AsyncWrite, Takings, Tale, first_nonempty, first_room};
+use lite_io_base::{
+    AsyncRead, AsyncWrite, CalmRead, CalmWrite, SteadyRead, SteadyWrite, Takings, Tale,
+    first_nonempty, first_room,
+};
 use std::io;
 use std::io::{IoSlice, IoSliceMut};
 
@@ -345,4 +350,36 @@ impl<T: Tale + AsyncWrite + Clone> AsyncWrite for Journal<T> {
     {
         or_refused(self.step_close(cx))
     }
+}
+
+// Where memory was found for each entry.
+impl<T: SteadyRead + Takings + Clone> SteadyRead for Journal<T> {
+    ghost ample = { ReadsAmply T.reads T.writes T.ample };
+
+    ghost needs_none = { ⊥ };
+
+    ghost alike = { λ a b. T.alike a.stream b.stream };
+
+    ghost steady = { journal_steady T.steady };
+}
+
+// An entry that was refused memory is an error, and those are left out.
+impl<T: Tale + SteadyWrite + Clone> SteadyWrite for Journal<T> {
+    ghost alike = { λ a b. T.alike a.stream b.stream };
+
+    ghost below = { λ a. T.below a.stream };
+
+    ghost steady = { journal_steady_write T.write_laws T.steady };
+}
+
+impl<T: CalmRead + Takings + Clone> CalmRead for Journal<T> {
+    ghost is_calm = { λ j. T.is_calm j.stream };
+
+    ghost calm = { journal_calm T.read_laws T.calm };
+}
+
+impl<T: Tale + CalmWrite + Clone> CalmWrite for Journal<T> {
+    ghost is_calm = { λ j. T.is_calm j.stream };
+
+    ghost calm = { journal_calm_write T.write_laws T.calm };
 }
