@@ -15,8 +15,6 @@ PARTS = ("src", "specs", "proofs")
 FACADE = "futures_lite"
 # Crates that stand on the facade, and that users list beside it. Each has a page in docs/api.
 BESIDE = ("framed",)
-# The folder of wrong-bodies/ with those that are proved and that tools/waits refuses by a count.
-COUNTED = "counted"
 # The crates of tests stand below one folder, with their lines.
 TESTS, TEST_LINES = "tests", "tests/lines.txt"
 # The suffixes in a crate of those of a program beside the crates: `rt ci` takes a file of a crate's kind in a crate alone.
