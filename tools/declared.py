@@ -1,4 +1,4 @@
-"""What a function declares, read from the sources: the clauses of its contract, and the ghost members of its type's impl. A wrong body's head names one."""
+"""What a function declares, read from the sources: the clauses of its contract, and the ghost members of its type's impl. A wrong body's heading names one."""
 import functools
 import os
 import re

@@ -1,15 +1,25 @@
-"""Wrong bodies: what an edit changes in its crate, and which clause of which function has to refuse it."""
+"""Wrong bodies: where they stand, what each changes in its crate, and which clause of which function has to refuse it."""
+import glob
+import itertools
 import os
 import re
 
 from declared import INVARIANT, UNNAMED, declared
 from repository import TOP, crates_in, read_text
 
-# The first line of an edit. A function is named by its path below its crate. One that it calls may be of another crate, and its path begins with that.
-HEAD = re.compile(r"# refused by (?P<clause>\S+) of (?P<of>\S+)(?: in (?P<caller>\S+))?\n")
-FORM = "`# refused by CLAUSE of FUNCTION`, or `# refused by CLAUSE of CALLED in FUNCTION`"
+# The bodies of a crate stand in one file of this folder. One more may stand in the crate's folder of the toolchain, each there a file.
+BODIES, MUST_FAIL = "wrong-bodies", "crates/{}/must-fail"
+# A body's heading. A function is named by its path below its crate. One that it calls may be of another crate, and its path begins with that.
+HEAD = re.compile(r"refused by (?P<clause>\S+) of (?P<of>\S+)(?: in (?P<caller>\S+))?")
+HEADING = re.compile(r"(?P<name>[a-z0-9-]+): (?P<refused>refused by .*)")
+FORM = "`refused by CLAUSE of FUNCTION`, or `refused by CLAUSE of CALLED in FUNCTION`"
+# What refuses a body that is proved, and that changes how many functions of its crate may wait.
+COUNT = "may_wait", "crates.txt"
+# The kinds of lines that may follow one another below a heading; "" stands before the first and behind the last.
+KINDS = {"": ("file",), "file": ("old",), "old": ("new",), "new": ("old", "file", "")}
 # What stands in a clause, and in no body.
 GHOST = re.compile(r"\b(ensures|requires|ghost)\b|[≡λ∷×→⊤⟦]")
+IMPORT = re.compile(r"\s*(pub(\([^)]*\))? )?(ghost )?use\b")
 
 
 class Unfit(Exception):
@@ -33,20 +43,18 @@ def clause_of(goal):
 
 
 class Edit:
-    """A file CRATE/NAME.edit, or crates/CRATE/must-fail/NAME.edit."""
+    """A wrong body of a crate: what refuses it, and its lines. Its text has the form of a file of must-fail/, wherever it stands."""
 
-    def __init__(self, path):
-        folder, file = os.path.split(os.path.abspath(path))
-        if os.path.basename(folder) == "must-fail":
-            folder = os.path.dirname(folder)
-        self.path, self.crate = path, os.path.basename(folder)
-        self.name = f"{self.crate}/{os.path.splitext(file)[0]}"
-        self.text = read_text(path)
-        head = HEAD.match(self.text)
+    def __init__(self, crate, name, refused, lines, place):
+        self.crate, self.name, self.place = crate, f"{crate}/{name}", place
+        self.text = "".join(f"{line}\n" for line in (f"# {refused}", *lines))
+        head = HEAD.fullmatch(refused)
         self.clause = head and head["clause"]
         # The function whose body is wrong; and what it calls, if a call of that is what is refused.
         self.function = head and (head["caller"] or head["of"])
         self.called = head["of"] if head and head["caller"] else None
+        # (tools/waits tries it)
+        self.is_counted = (self.clause, self.function) == COUNT
         self.turns_a_clause = any(GHOST.search(old + new) for _, old, new in self.changes())
 
     def changes(self):
@@ -62,9 +70,11 @@ class Edit:
                 yield file, old, rest.removeprefix(" ")
 
     def fault_in_head(self):
-        """Returns what is wrong in the first line: it has another form, or it names no clause that is declared. None if nothing is."""
+        """Returns what is wrong in the heading: it has another form, or it names no clause that is declared. None if nothing is."""
+        if self.is_counted:
+            return None
         if not self.clause:
-            return f"it does not begin with {FORM}"
+            return f"its heading does not say {FORM}"
         if self.called:
             crate, _, path = self.called.partition("::")
             names = (declared(crate, path) if crate in crates_in(TOP) else declared(self.crate, self.called)).requires
@@ -105,3 +115,78 @@ class Edit:
         for file, text in self.laid(folder).items():
             with open(f"{folder}/{file}", "w", encoding="utf-8") as to:
                 to.write(text)
+
+
+def faults_in_lines(rows):
+    """Yields what is wrong in the order of the lines below a heading, at the number of a line."""
+    at, kind = rows[0][0], ""
+    for number, line in [*rows[1:], (rows[-1][0], ":")]:
+        after = line.partition(":")[0]
+        if line.startswith("#"):
+            continue
+        if after not in KINDS:
+            yield number, f"this begins with none of `file:`, `old:` and `new:`: {line}"
+            continue
+        if after not in KINDS[kind]:
+            if kind in ("file", "old"):
+                yield at, f"a line `{kind}:` without a line `{KINDS[kind][0]}:` below it"
+            elif after:
+                yield number, f"a line `{after}:` without a line `{'old' if after == 'new' else 'file'}:` above it"
+            else:
+                yield at, "a body that changes nothing"
+        at, kind = number, after
+
+
+def blocks_in(text):
+    """Yields the lines between two empty lines, each with its number."""
+    numbered = enumerate(text.splitlines(), 1)
+    for is_body, rows in itertools.groupby(numbered, lambda row: bool(row[1].strip())):
+        if is_body:
+            yield list(rows)
+
+
+class Bodies:
+    """The wrong bodies of a crate by its file in wrong-bodies/ and its folder must-fail/, and what is wrong in their form: pairs of a place and a sentence."""
+
+    def __init__(self, crate, top=TOP):
+        self.crate, self.edits, self.faults = crate, [], []
+        if os.path.isfile(f"{top}/{BODIES}/{crate}.txt"):
+            self.read_file(f"{BODIES}/{crate}.txt", read_text(f"{top}/{BODIES}/{crate}.txt"))
+        for path in sorted(glob.glob(f"{top}/{MUST_FAIL.format(crate)}/*.edit")):
+            self.read_edit(os.path.relpath(path, top), read_text(path))
+
+    def read_file(self, file, text):
+        before = ""
+        for rows in blocks_in(text):
+            place, first = f"{file}:{rows[0][0]}", rows[0][1]
+            heading = HEADING.fullmatch(first)
+            if not heading:
+                self.faults.append((place, f"this is no heading `NAME: ..` with {FORM}: {first}"))
+                continue
+            name = heading["name"]
+            if name < before:
+                self.faults.append((place, f"{name} stands behind {before}, and the bodies stand in the order of their names"))
+            before = name
+            self.add(name, heading["refused"], rows, file)
+
+    def read_edit(self, file, text):
+        rows = [(number, line) for number, line in enumerate(text.splitlines(), 1) if line.strip()] or [(1, "")]
+        self.add(os.path.splitext(os.path.basename(file))[0], rows[0][1].removeprefix("# "), rows, file)
+
+    def add(self, name, refused, rows, file):
+        edit = Edit(self.crate, name, refused, [line for _, line in rows[1:]], f"{file}:{rows[0][0]}")
+        if other := next((it for it in self.edits if it.name == edit.name), None):
+            self.faults.append((edit.place, f"two bodies have the name {name}; the other is in {other.place}"))
+        self.edits.append(edit)
+        self.faults += [(f"{file}:{at}", what) for at, what in faults_in_lines(rows)]
+
+
+def crates_with_bodies(top=TOP):
+    """Returns the names of the crates that have wrong bodies, in their order."""
+    files = (os.path.splitext(os.path.basename(it))[0] for it in glob.glob(f"{top}/{BODIES}/*.txt"))
+    return sorted({*files, *(it.split("/")[-2] for it in glob.glob(f"{top}/crates/*/must-fail"))})
+
+
+def edit_of(name):
+    """Returns the wrong body CRATE/NAME, or None if there is none."""
+    return next((it for it in Bodies(name.partition("/")[0]).edits if it.name == name), None)

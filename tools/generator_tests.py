@@ -5,6 +5,7 @@ import unittest
 import examples
 from reference import Reference
 from sources import Sources
+from tool_tests import failures
 
 OTHER = """ghost use Rattle.lite_halves.specs.Counts.{HalfCounts};
 
@@ -234,6 +235,4 @@ class TwoModules(unittest.TestCase):
 
 def faults():
     """Yields each test that fails."""
-    result = unittest.defaultTestLoader.loadTestsFromTestCase(TwoModules).run(unittest.TestResult())
-    for test, why in [*result.failures, *result.errors]:
-        yield "tools/generator_tests.py", f"{test.id()}: {why.strip().splitlines()[-1]}"
+    yield from failures(TwoModules, "tools/generator_tests.py")

@@ -15,12 +15,35 @@ PARTS = ("src", "specs", "proofs")
 FACADE = "futures_lite"
 # Crates that stand on the facade, and that users list beside it. Each has a page in docs/api.
 BESIDE = ("framed",)
-# The folder of wrong-bodies/ with those that are proved and that tools/waits refuses by a count.
-COUNTED = "counted"
 # The crates of tests stand below one folder, with their lines.
 TESTS, TEST_LINES = "tests", "tests/lines.txt"
 # The suffixes in a crate of those of a program beside the crates: `rt ci` takes a file of a crate's kind in a crate alone.
 IN_A_CRATE = {".rs": ".rt", ".txt": ".antt"}
+
+# What a check prints of an error; indented lines below it belong to it.
+ERROR = re.compile(r"(?:\S+: )?error\b")
+# What it prints beside: a goal that stays open, what it has to show, and what is not proved. If that only calls what is not proved, the error is there.
+OPEN = re.compile(
+    r"note: (?:\./)?src/\S+: |note: `[^`]+` of \S+ must prove: |"
+    r"(?:fn|impl|struct|enum|trait) \S+: (?!proved)(?!no proof: it (?:calls|passes) [^;]*$)"
+)
+# How many lines of a log are printed, and how many of its end if it tells no error.
+MOST_ERRORS, LOG_END = 40, 30
+
+
+def errors_in(log):
+    """Returns the lines of a check's log that tell what is wrong, the errors first, and how many more there are; the last lines if none tells it."""
+    errors, others, belongs = [], [], False
+    for line in log.splitlines():
+        belongs = bool(ERROR.match(line)) or belongs and line.startswith(" ")
+        if belongs:
+            errors.append(line)
+        elif OPEN.match(line):
+            others.append(line)
+    found = errors + others
+    if len(found) > MOST_ERRORS:
+        found[MOST_ERRORS - 1 :] = [f"({len(found) - MOST_ERRORS + 1} more lines)"]
+    return found or log.splitlines()[-LOG_END:]
 
 
 def stop(why):

@@ -159,11 +159,11 @@ module _ {C : Type 0} (f : HeadForm C) where
 
   module _ (c : C) where
     -- No front of the bytes is a frame or is refused.
-    abbrev Open : List ℕ → Type 0
-    Open = Undecided {V = Filled} (λ c v. HeadedFrame c v.items) RefusesHeaded SaysOutOfMemory (λ e. e ≡ CutOff) c
+    abbrev IsOpen : List ℕ → Type 0
+    IsOpen = Undecided {V = Filled} (λ c v. HeadedFrame c v.items) RefusesHeaded SaysOutOfMemory (λ e. e ≡ CutOff) c
 
     -- Without a delimiter nothing is decided while there is room for a head.
-    open_head : (xs : List ℕ) → Lacks f.delimiter xs → length xs ≤ f.longest c → Open xs
+    open_head : (xs : List ℕ) → Lacks f.delimiter xs → length xs ≤ f.longest c → IsOpen xs
     open_head xs none short front rest is = (λ v. no_frame v.items, not_refused)
       where
         has_none : (text behind : List ℕ) → front ≡ text ++ f.delimiter ∷ behind → ⊥
@@ -208,7 +208,7 @@ module _ {C : Type 0} (f : HeadForm C) where
 
     -- Behind a head nothing is decided until there are all bytes of the body and the tail.
     open_body : (text behind : List ℕ) (n : ℕ) → IsHead c text → f.says c text n → length behind < n + length f.tail
-        → Open (text ++ f.delimiter ∷ behind)
+        → IsOpen (text ++ f.delimiter ∷ behind)
     open_body text behind n head number short front more is = (
       (λ v h.
           let b = frame_behind text n head number behind front more is v.items h in
@@ -226,10 +226,11 @@ module _ {C : Type 0} (f : HeadForm C) where
     head_too_long xs (text, rest, long, none, is) = (refl, refl, (text, rest, is, inl (inl (none, long, refl))))
 
     module _ (xs : List ℕ) (at : ℕ) (found : FindsDelimiter f.delimiter (f.longest c) xs (At at)) where
-      abbrev text : List ℕ
-      text = take at xs
+      -- The text of the head.
+      abbrev head_text : List ℕ
+      head_text = take at xs
 
-      is_head : IsHead c text
+      is_head : IsHead c head_text
       is_head = (omega (arith, text_length f.delimiter (f.longest c) xs at found, found.0), text_lacks f.delimiter (f.longest c) xs at found)
 
       pub head_denied : (e : FrameError) → f.denies c (take at xs) e → Decodes gives_headed c xs (Err e) c xs
@@ -237,42 +238,42 @@ module _ {C : Type 0} (f : HeadForm C) where
         refl,
         refl,
         (
-          text ++ f.delimiter ∷ [],
+          head_text ++ f.delimiter ∷ [],
           found.2,
-          up_to_text f.delimiter (f.longest c) xs at found ∙ sym (append_assoc text (f.delimiter ∷ []) found.2),
-          inl (inr (inl (text, is_head, denied, refl))),
+          up_to_text f.delimiter (f.longest c) xs at found ∙ sym (append_assoc head_text (f.delimiter ∷ []) found.2),
+          inl (inr (inl (head_text, is_head, denied, refl))),
         ),
       )
 
       -- What is decoded where a body is taken behind the head.
-      module _ (n : ℕ) (number : f.says c text n) where
-        framed : (body : List ℕ) → length body ≡ n → HeadedFrame c body (text ++ f.delimiter ∷ (body ++ f.tail))
-        framed body long = (text, is_head, rw long number, refl)
+      module _ (n : ℕ) (number : f.says c head_text n) where
+        framed : (body : List ℕ) → length body ≡ n → HeadedFrame c body (head_text ++ f.delimiter ∷ (body ++ f.tail))
+        framed body long = (head_text, is_head, rw long number, refl)
 
-        split : (body tail ys : List ℕ) → xs ≡ take (at + 1) xs ++ (body ++ (tail ++ ys)) → xs ≡ (text ++ f.delimiter ∷ (body ++ tail)) ++ ys
+        split : (body tail ys : List ℕ) → xs ≡ take (at + 1) xs ++ (body ++ (tail ++ ys)) → xs ≡ (head_text ++ f.delimiter ∷ (body ++ tail)) ++ ys
         split body tail ys is =
             is ∙ ap (λ l. l ++ (body ++ (tail ++ ys))) (with_delimiter f.delimiter (f.longest c) xs at found)
-            ∙ append_assoc text (f.delimiter ∷ []) (body ++ (tail ++ ys))
-            ∙ ap (λ l. text ++ f.delimiter ∷ l) (sym (append_assoc body tail ys))
-            ∙ sym (append_assoc text (f.delimiter ∷ (body ++ tail)) ys)
+            ∙ append_assoc head_text (f.delimiter ∷ []) (body ++ (tail ++ ys))
+            ∙ ap (λ l. head_text ++ f.delimiter ∷ l) (sym (append_assoc body tail ys))
+            ∙ sym (append_assoc head_text (f.delimiter ∷ (body ++ tail)) ys)
 
-        still_open : length xs < at + 1 + n + length f.tail → Open xs
+        still_open : length xs < at + 1 + n + length f.tail → IsOpen xs
         still_open short =
             let there = up_to_text f.delimiter (f.longest c) xs at found in
             let long = text_length f.delimiter (f.longest c) xs at found in
-            rw there (open_body text found.2 n is_head number
-            (omega (arith, short, long, ap length there, length-append text (f.delimiter ∷ found.2))))
+            rw there (open_body head_text found.2 n is_head number
+            (omega (arith, short, long, ap length there, length-append head_text (f.delimiter ∷ found.2))))
 
         pub body_taken : (r : Result (Option Filled) FrameError) (ys : List ℕ) → TakesBody (at + 1) n f.tail xs r ys
             → Decodes gives_headed c xs r c ys
-        body_taken (Ok (Some v)) ys (long, is) = (refl, text ++ f.delimiter ∷ (v.items ++ f.tail), framed v.items long, split v.items f.tail ys is)
+        body_taken (Ok (Some v)) ys (long, is) = (refl, head_text ++ f.delimiter ∷ (v.items ++ f.tail), framed v.items long, split v.items f.tail ys is)
         body_taken (Ok None) ys (same, short) = rw same (still_open short, λ more next h. h)
         body_taken (Err e) ys (same, body, other, rest, long, as_long, is, why) =
-            (refl, same, (text ++ f.delimiter ∷ (body ++ other), rest, split body other rest is, refused why))
+            (refl, same, (head_text ++ f.delimiter ∷ (body ++ other), rest, split body other rest is, refused why))
           where
             refused : ((other ≢ f.tail) × (e ≡ Malformed)) ⊎ ((other ≡ f.tail) × SaysOutOfMemory e)
-                → RefusesHeaded c (text ++ f.delimiter ∷ (body ++ other)) e
-                ⊎ (SaysOutOfMemory e × (v : Filled) × HeadedFrame c v.items (text ++ f.delimiter ∷ (body ++ other)))
+                → RefusesHeaded c (head_text ++ f.delimiter ∷ (body ++ other)) e
+                ⊎ (SaysOutOfMemory e × (v : Filled) × HeadedFrame c v.items (head_text ++ f.delimiter ∷ (body ++ other)))
             refused (inl (differs, is_malformed)) =
-                inl (inr (inr (text, body, other, is_head, rw long number, as_long, differs, is_malformed, refl)))
+                inl (inr (inr (head_text, body, other, is_head, rw long number, as_long, differs, is_malformed, refl)))
             refused (inr (tail_is, lacks)) = inr (lacks, record { items = body; spare = 0 }, rw tail_is (framed body long))

@@ -1,11 +1,21 @@
 //! Where the first delimiter is.
-ghost use Rattle.std.specs.Prelude.{◌≡◌, ◌<◌, ◌+◌, ◌^◌};
 ghost use Rattle.framed.specs.Heads.{FindsDelimiter, FirstAt};
-ghost use Rattle.framed.specs.declared.delimiter.Delimiter.TheVariants.{TooFar};
 
 use memchr::memchr;
 
 /// What `find_delimiter` found.
+///
+/// # Examples
+///
+/// ```
+/// use framed::{find_delimiter, Delimiter};
+///
+/// match find_delimiter(b"GET a\n", b'\n', 100) {
+///     Delimiter::At(end) => assert_eq!(rt; end, 5),
+///     Delimiter::Missing => return Err(Fail::from("there is a newline")),
+///     Delimiter::TooFar => return Err(Fail::from("five bytes are allowed")),
+/// }
+/// ```
 #[derive(Debug, Clone, Copy, PartialEq, Eq)]
 pub enum Delimiter {
     /// The first delimiter is behind so many bytes, which are at most the limit.
@@ -31,8 +41,7 @@ pub enum Delimiter {
 /// assert_eq!(rt; find_delimiter(b"1234:", b':', 3), Delimiter::TooFar);
 /// ```
 pub fn find_delimiter(bytes: &[u8], delimiter: u8, max: usize) -> Delimiter
-    ensures found { FindsDelimiter delimiter max bytes.now result }
-    ensures fits { result ≡ TooFar → max + 1 < 2 ^ 64 }
+    ensures { FindsDelimiter delimiter max bytes.now result }
 {
     // A delimiter behind these bytes is too far.
     let searched = bytes.len().min(max.saturating_add(1));

@@ -11,14 +11,14 @@ pub returns-in_err-line-clause-next : goal.returns-in_err-line-clause-next
 returns-in_err-line-clause-next c =
     let xs = c.args.src.now.items in
     let at = c.in-At.end in
-    let found : FindsDelimiter 10 c.args.self.now.max xs (At at) = rw (c.in-At.is, c.as_slice.ensures) at c.find_delimiter.ensures.found in
+    let found : FindsDelimiter 10 c.args.self.now.max xs (At at) = rw (c.in-At.is, c.as_slice.ensures) at c.find_delimiter.ensures in
     line_lacks_memory c.args.self.now xs at found c.from_residual.result c.from_residual.ensures.0 c.from_residual.ensures.1 _ (search rules)
 
 pub returns-clause-next : goal.returns-clause-next
 returns-clause-next c =
     let xs = c.args.src.now.items in
     let at = c.in-At.end in
-    let found : FindsDelimiter 10 c.args.self.now.max xs (At at) = rw (c.in-At.is, c.as_slice.ensures) at c.find_delimiter.ensures.found in
+    let found : FindsDelimiter 10 c.args.self.now.max xs (At at) = rw (c.in-At.is, c.as_slice.ensures) at c.find_delimiter.ensures in
     let text : c.truncate.new.self.items ≡ take at xs =
     c.truncate.ensures.items ∙ ap (take at) c.in_ok-line.ensures.front ∙ take-take at (at + 1) xs (omega arith) in
     let line : c.truncate-2.new.self.items ≡ without_return (take at xs) =

@@ -1,0 +1,77 @@
+"""What has to be in the places that docs/CONTRIBUTING.md names: pictures, contracts of marks, cases or tests, and rows of tables."""
+import functools
+import glob
+import re
+
+from repository import BESIDE, FACADE, TOP, crates_in, files_of, read_text, with_below
+from sources import MODULES, Sources
+
+PICTURES, NESTS, TABLES, MARKS_MET = "cases/pictures.txt", "docs/NESTS.md", "docs/TABLES.md", "crates/marks_met"
+# The parts of pages whose tables have a row of each call of streams: a heading, and one behind the part.
+PARTS_OF = {NESTS: ("## What each call adds", "\n# "), TABLES: ("## What a poll requires", "\n## ")}
+# Adapters without a picture: their sources are no scripts, or they never end.
+NO_PICTURE = {"StreamExt::cloned", "StreamExt::copied", "StreamExt::cycle"}
+# Calls without a row: what waits for others, what has no value, and what stands in the row of another call, as `iter_vec` in that of `iter`.
+NO_ROW = {
+    NESTS: {"block_on", "StreamExt::for_each", "race_with_seed"},
+    TABLES: {"block_on", "iter_array", "iter_range", "iter_slice", "iter_vec", "race_with_seed"},
+}
+
+
+@functools.cache
+def functions():
+    """Returns the public functions of each module."""
+    every = Sources()
+    return {module: [it for it in every.items_of(module).values() if it.kind == "fn"] for module in MODULES}
+
+
+def calls_of_streams():
+    return [it for it in functions()["stream"] if not it.owner or it.owner.name == "StreamExt"]
+
+
+def lacking(place, wanted, there, exceptions, what):
+    """Yields what is wanted and not there, and each exception that is none."""
+    for name in sorted(wanted - there - exceptions):
+        yield place, f"{what} `{name}`"
+    for name in sorted(exceptions - (wanted - there)):
+        yield "tools/places.py", f"`{name}` needs no exception, or is none: {place}"
+
+
+def pictures(streams):
+    """Each adapter, a method that returns a stream of the library, has a picture."""
+    returned = {it.title: re.search(r"-> (?:Result<)?(\w+)", it.head) for it in calls_of_streams() if it.owner}
+    adapters = {title for title, found in returned.items() if found and found[1] in streams}
+    there = set(re.findall(r"^# stream::([\w:]+): `", read_text(f"{TOP}/{PICTURES}"), re.M))
+    yield from lacking(PICTURES, adapters, there, NO_PICTURE, "there is no picture of")
+
+
+def marks_met(marks):
+    """Each public type of the library has a contract for each of its marks that compare two values or call one calm. What is behind a `&` has its own."""
+    text = "".join(read_text(it) for it in glob.glob(f"{TOP}/{MARKS_MET}/src/*.rt"))
+    wanted = {(name.partition("<")[0], mark) for name, of_type in marks for mark in of_type if name[0].isalpha() and mark.startswith(("Steady", "Calm"))}
+    there = {(name, mark) for name, mark in wanted if re.search(rf"<{name}\b[^⟧]* as {mark}>", text)}
+    yield from lacking(MARKS_MET, {" as ".join(it) for it in wanted}, {" as ".join(it) for it in there}, set(), "no function has a contract with")
+
+
+def called():
+    """Each public function is called by the cases, a test or a program, besides its example. (A call is told by its name alone.)"""
+    crates = crates_in(TOP)
+    library = with_below(crates, [FACADE, *BESIDE])
+    programs = [f"crates/{it}/src" for it in crates if it not in library and not it.startswith("proved_examples_")]
+    files = [f"{folder}/{file}" for folder in ("replay", "tests", "throughput", *programs) for file in files_of(f"{TOP}/{folder}")]
+    text = "".join(read_text(f"{TOP}/{it}") for it in files if it.endswith((".rs", ".rt")))
+    names = set(re.findall(r"(?<!fn )\b(\w+)(?:::<[^(]*>)?\(", text))
+    every = {f"{module}::{it.title}": it.name for module, of_module in functions().items() for it in of_module if not it.does_nothing}
+    there = {title for title, name in every.items() if name in names}
+    yield from lacking("tests", set(every), there, set(), "no case, test or program calls")
+
+
+def rows():
+    """Each source, adapter and future of streams stands in a row of both pages."""
+    for page, (first, end) in PARTS_OF.items():
+        part = read_text(f"{TOP}/{page}").partition(first)[2].partition(end)[0]
+        cells = " ".join(row.split("|")[1] for row in part.splitlines() if row.startswith("|"))
+        names = set(re.findall(r"\w+", " ".join(re.findall(r"`([^`]*)`", cells))))
+        every = {it.title: it.name for it in calls_of_streams()}
+        there = {title for title, name in every.items() if name in names}
+        yield from lacking(page, set(every), there, NO_ROW[page], f"no row below `{first[3:]}` has")
