@@ -39,6 +39,9 @@ module _ (start n : ℕ) (tail xs : List ℕ) (there : start + n + length tail �
   abbrev other : List ℕ
   other = take (length tail) (drop (start + n) xs)
 
+  front_length : length (take start xs) ≡ start
+  front_length = length-take-le start xs (omega (arith, there))
+
   body_length : length body ≡ n
   body_length = length-take-le n (drop start xs) (omega (arith, there, length-drop start xs))
 
@@ -75,20 +78,22 @@ module _ (start n : ℕ) (tail xs : List ℕ) (there : start + n + length tail �
         from_not false e = cc e
 
     pub other_there : differ ≡ true → TakesBody start n tail xs (Err Malformed) xs
-    other_there it_is = (refl, body, other, drop (start + n + length tail) xs, body_length, other_length, parts, inl (differs it_is, refl))
+    other_there it_is = (refl, take start xs, body, other, drop (start + n + length tail) xs, front_length, body_length, other_length, parts, inl (differs it_is, refl))
 
     pub body_refused : differ ≡ false → (r : Result (Option Filled) FrameError) → IsErr r → IsErrAnd r SaysOutOfMemory → (ys : List ℕ) → ys ≡ xs
         → TakesBody start n tail xs r ys
     body_refused none (Ok v) is lacks ys same = cc is
     body_refused none (Err e) is lacks ys same =
-        (same, body, other, drop (start + n + length tail) xs, body_length, other_length, parts, inr (is_tail none, lacks))
+        (same, take start xs, body, other, drop (start + n + length tail) xs, front_length, body_length, other_length, parts, inr (is_tail none, lacks))
 
     pub body_there : differ ≡ false → (v : List ℕ) → v ≡ drop start (take end (take size xs)) → (ys : List ℕ) → ys ≡ drop size xs
-        → (length v ≡ n) × (xs ≡ take start xs ++ (v ++ (tail ++ ys)))
+        → (length v ≡ n) × (front : List ℕ) × (length front ≡ start) × (xs ≡ front ++ (v ++ (tail ++ ys)))
     body_there none v v_is ys ys_is =
         let body_is : v ≡ body = v_is ∙ ap (drop start) (take-take end size xs (omega (arith, size_is)) ∙ ap (λ m. take m xs) end_is ∙ take-add start n xs)
-        ∙ drop_at (take start xs) body start (length-take-le start xs (omega (arith, there))) in (
+        ∙ drop_at (take start xs) body start front_length in (
           ap length body_is ∙ body_length,
+          take start xs,
+          front_length,
           parts ∙ ap (λ l. take start xs ++ (l ++ (other ++ drop (start + n + length tail) xs))) (sym body_is)
               ∙ ap (λ l. take start xs ++ (v ++ (l ++ drop (start + n + length tail) xs))) (is_tail none)
               ∙ ap (λ l. take start xs ++ (v ++ (tail ++ l))) (ap (λ m. drop m xs) (omega (arith, end_is, size_is)) ∙ sym ys_is),

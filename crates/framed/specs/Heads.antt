@@ -54,10 +54,12 @@ few_digits n small = length-decimal-le 20 n (omega arith) (omega (arith, small))
 
 -- Behind `start` bytes stand a body of `n` bytes and a tail, or other bytes than the tail, or fewer bytes.
 abbrev pub TakesBody : ℕ → ℕ → List ℕ → List ℕ → Result (Option Filled) FrameError → List ℕ → Type 0
-TakesBody start n tail xs (Ok (Some v)) ys = (length v.items ≡ n) × (xs ≡ take start xs ++ (v.items ++ (tail ++ ys)))
+TakesBody start n tail xs (Ok (Some v)) ys =
+    (length v.items ≡ n) × (front : List ℕ) × (length front ≡ start) × (xs ≡ front ++ (v.items ++ (tail ++ ys)))
 TakesBody start n tail xs (Ok None) ys = (ys ≡ xs) × (length xs < start + n + length tail)
-TakesBody start n tail xs (Err e) ys = (ys ≡ xs) × (body other rest : List ℕ) × (length body ≡ n) × (length other ≡ length tail)
-    × (xs ≡ take start xs ++ (body ++ (other ++ rest))) × (((other ≢ tail) × (e ≡ Malformed)) ⊎ ((other ≡ tail) × SaysOutOfMemory e))
+TakesBody start n tail xs (Err e) ys = (ys ≡ xs) × (front body other rest : List ℕ) × (length front ≡ start) × (length body ≡ n)
+    × (length other ≡ length tail) × (xs ≡ front ++ (body ++ (other ++ rest)))
+    × (((other ≢ tail) × (e ≡ Malformed)) ⊎ ((other ≡ tail) × SaysOutOfMemory e))
 
 -- What a codec `C` of such frames is.
 pub record HeadForm (C : Type 0) : Type 1 where
@@ -250,9 +252,12 @@ module _ {C : Type 0} (f : HeadForm C) where
         framed : (body : List ℕ) → length body ≡ n → HeadedFrame c body (head_text ++ f.delimiter ∷ (body ++ f.tail))
         framed body long = (head_text, is_head, rw long number, refl)
 
-        split : (body tail ys : List ℕ) → xs ≡ take (at + 1) xs ++ (body ++ (tail ++ ys)) → xs ≡ (head_text ++ f.delimiter ∷ (body ++ tail)) ++ ys
-        split body tail ys is =
-            is ∙ ap (λ l. l ++ (body ++ (tail ++ ys))) (with_delimiter f.delimiter (f.longest c) xs at found)
+        split : (front body tail ys : List ℕ) → length front ≡ at + 1 → xs ≡ front ++ (body ++ (tail ++ ys))
+            → xs ≡ (head_text ++ f.delimiter ∷ (body ++ tail)) ++ ys
+        split front body tail ys long is =
+            let up_to : front ≡ head_text ++ f.delimiter ∷ [] =
+            sym (ap (take (at + 1)) is ∙ take_at front (body ++ (tail ++ ys)) (at + 1) long) ∙ with_delimiter f.delimiter (f.longest c) xs at found in
+            is ∙ ap (λ l. l ++ (body ++ (tail ++ ys))) up_to
             ∙ append_assoc head_text (f.delimiter ∷ []) (body ++ (tail ++ ys))
             ∙ ap (λ l. head_text ++ f.delimiter ∷ l) (sym (append_assoc body tail ys))
             ∙ sym (append_assoc head_text (f.delimiter ∷ (body ++ tail)) ys)
@@ -266,10 +271,11 @@ module _ {C : Type 0} (f : HeadForm C) where
 
         pub body_taken : (r : Result (Option Filled) FrameError) (ys : List ℕ) → TakesBody (at + 1) n f.tail xs r ys
             → Decodes gives_headed c xs r c ys
-        body_taken (Ok (Some v)) ys (long, is) = (refl, head_text ++ f.delimiter ∷ (v.items ++ f.tail), framed v.items long, split v.items f.tail ys is)
+        body_taken (Ok (Some v)) ys (long, front, before, is) =
+            (refl, head_text ++ f.delimiter ∷ (v.items ++ f.tail), framed v.items long, split front v.items f.tail ys before is)
         body_taken (Ok None) ys (same, short) = rw same (still_open short, λ more next h. h)
-        body_taken (Err e) ys (same, body, other, rest, long, as_long, is, why) =
-            (refl, same, (head_text ++ f.delimiter ∷ (body ++ other), rest, split body other rest is, refused why))
+        body_taken (Err e) ys (same, front, body, other, rest, before, long, as_long, is, why) =
+            (refl, same, (head_text ++ f.delimiter ∷ (body ++ other), rest, split front body other rest before is, refused why))
           where
             refused : ((other ≢ f.tail) × (e ≡ Malformed)) ⊎ ((other ≡ f.tail) × SaysOutOfMemory e)
                 → RefusesHeaded c (head_text ++ f.delimiter ∷ (body ++ other)) e

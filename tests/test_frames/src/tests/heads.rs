@@ -13,7 +13,10 @@ fn a_delimiter_is_found_up_to_the_limit_alone(rt: HostRuntime) {
     assert_eq!(rt; find_delimiter(b"abcd:", b':', 3), Delimiter::TooFar);
     assert_eq!(rt; find_delimiter(b"abc", b':', 3), Delimiter::Missing);
     assert_eq!(rt; find_delimiter(b"abc:", b':', usize::MAX), Delimiter::At(3));
-    assert_eq!(rt; find_delimiter(b"abc", b':', usize::MAX), Delimiter::Missing);
+    assert_eq!(rt;
+        find_delimiter(b"abc", b':', usize::MAX),
+        Delimiter::Missing
+    );
 }
 
 #[test]
