@@ -1,10 +1,17 @@
-use super::{CODEC, frames_of};
+use super::CODEC;
 use bytes::BytesMut;
-use framed::{FrameError, FramedRead, LengthDelimited, collect_frames, wait_frame, wait_send_all};
+use framed::{
+    FrameError, FramedRead, LengthDelimited, LineDelimited, PromptDecoder, RoundTrip,
+    collect_frames, wait_frame, wait_send_all,
+};
 use futures_lite::future::BlockOn;
+use futures_lite::io::BufReader;
 use lite_mock::Marks;
-use std::alloc::{AllocError, Global};
+use std::alloc::{AllocError, AllocGlobal, Global};
 use std::io::ErrorKind;
+use std::process::Abort;
+use std::random::RandomSource;
+use std::sync::Wait;
 use std::test::Fail;
 use tokio_util::codec::{LinesCodec, LinesCodecError};
 
@@ -25,24 +32,29 @@ fn texts(alloc: Global) -> Result<Vec<&'static str>, Fail> {
     Ok(texts)
 }
 
-#[test]
-fn what_was_sent_comes_back_wherever_it_is_cut(rt: HostRuntime) -> Result<(), Fail> {
-    let mut on = BlockOn::new(&rt)?;
+/// The texts as this codec writes them come back from it, wherever their bytes are cut.
+fn come_back<R, C>(rt: &R, codec: C, written: &[u8]) -> Result<(), Fail>
+where
+    R: Wait + Abort + RandomSource + AllocGlobal,
+    C: Copy + RoundTrip<&'static str, Decoder = C, Error = FrameError>,
+    C: PromptDecoder<Item = BytesMut, Error = FrameError> + Drop,
+{
+    let mut on = BlockOn::new(rt)?;
     let (mut sent, mut out) = (Vec::new(rt.alloc()), BytesMut::new(rt.alloc()));
-    let (mut codec, texts) = (CODEC, texts(rt.alloc())?);
-    if let Err(e) = wait_send_all(&mut on, &rt, &mut sent, &mut codec, texts, &mut out) {
+    let (mut encoder, texts) = (codec, texts(rt.alloc())?);
+    if let Err(e) = wait_send_all(&mut on, rt, &mut sent, &mut encoder, texts, &mut out) {
         return Err(refused(e));
     }
-    assert_eq!(rt;
-        sent.as_slice(),
-        b"\0\0\0\x03one\0\0\0\0\0\0\0\x05three".as_slice()
-    );
+    assert_eq!(rt; sent.as_slice(), written);
     for at in 0..sent.len() + 1 {
         let mut marks = Marks::new(rt.alloc());
         marks.chunk(&sent.as_slice()[..at])?;
         marks.chunk(&sent.as_slice()[at..])?;
-        let mut frames = frames_of(rt.alloc(), 64, marks)?;
-        match collect_frames(&mut on, &rt, &mut frames) {
+        let Ok(reader) = BufReader::with_capacity(rt.alloc(), 64, marks) else {
+            return Err(AllocError.into());
+        };
+        let mut frames = FramedRead::new(rt.alloc(), reader, codec);
+        match collect_frames(&mut on, rt, &mut frames) {
             Ok(frames) => {
                 assert_eq!(rt; frames.len(), 3);
                 for (frame, text) in frames.iter().zip(TEXTS) {
@@ -53,6 +65,16 @@ fn what_was_sent_comes_back_wherever_it_is_cut(rt: HostRuntime) -> Result<(), Fa
         }
     }
     Ok(())
+}
+
+#[test]
+fn frames_come_back_wherever_they_are_cut(rt: HostRuntime) -> Result<(), Fail> {
+    come_back(&rt, CODEC, b"\0\0\0\x03one\0\0\0\0\0\0\0\x05three")
+}
+
+#[test]
+fn lines_come_back_wherever_they_are_cut(rt: HostRuntime) -> Result<(), Fail> {
+    come_back(&rt, LineDelimited { max: 5 }, b"one\n\nthree\n")
 }
 
 #[test]
