@@ -102,19 +102,33 @@ def passed_on_in(crate):
     return dict(used(read_text(path))) if os.path.isfile(path) else {}
 
 
-@functools.cache
-def modules_of_words():
-    """Returns the module of the facade's specs that has each word, by the word's crate, module and name; no name stands for all words of a module."""
-    found = {}
+def passed_words():
+    """Yields what the facade's specs pass on: the crate, the module and the name of a word, with the module there; no name stands for all words of a module."""
     for file in files_of(f"{TOP}/crates/{FACADE}/specs"):
         module = os.path.splitext(file)[0]
         for it in PASSED_WORDS.finditer(read_text(f"{TOP}/crates/{FACADE}/specs/{file}")):
             if it["names"]:
-                for name in it["names"].split(","):
-                    found.setdefault((it["crate"], it["module"], name.strip()), module)
+                yield from (((it["crate"], it["module"], name.strip()), module) for name in it["names"].split(","))
             else:
-                found.setdefault((it["crate"], it["module"], ""), f"{module}.{it['module'].rpartition('.')[2]}")
+                yield (it["crate"], it["module"], ""), f"{module}.{it['module'].rpartition('.')[2]}"
+
+
+@functools.cache
+def modules_of_words():
+    """Returns the module of the facade's specs that has each word, by the word's crate, module and name; no name stands for all words of a module."""
+    found = {}
+    for word, module in passed_words():
+        found.setdefault(word, module)
     return found
+
+
+@functools.cache
+def words_of_uses_alone():
+    """Returns the names of the words that no module of the facade's specs but its Uses passes on, so that programs import them from there."""
+    passed = list(passed_words())
+    elsewhere = {word for word, module in passed if module != USES}
+    defined = {(it.crate, it.module, it.name) for crate in libraries() for it in definitions(crate)}
+    return {word[2] for word, module in passed if module == USES and word in defined and not elsewhere.intersection({word, (*word[:2], "")})}
 
 
 def module_for_programs(word):

@@ -8,7 +8,9 @@ use Rattle.futures_lite.specs.Answers.{Answer, Poll, Ready}
 use Rattle.futures_lite.specs.Marks.{ReadMark}
 use Rattle.futures_lite.specs.Own.{MarkLaws, Runs}
 use Rattle.futures_lite.specs.Readers.{ToldStripped}
-use Rattle.lite_theorems.specs.Uses.{Consume, Consumes, Decides, Folds, Lent, MutBor, Next, consumes_steps, nexts}
+use Rattle.lite_theorems.specs.Uses.{Consume, Consumes, Decides, Folds, Lent, MutBor, consumes_steps}
+use Rattle.lite_consume.specs.Next.{nexts}
+use Rattle.lite_consume.specs.declared.next.Next.{Next}
 use Rattle.tokio_util.specs.Codec.Next as codec
 use Rattle.tokio_util.specs.Codec.Next.{PartialHasNoFrame}
 use Rattle.framed.specs.Frames.{FrameStep, Framed}

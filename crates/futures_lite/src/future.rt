@@ -1,8 +1,14 @@
 //! Functions that make futures, and the extension methods of every future.
 ghost use Rattle.std.specs.Prelude.{◌≡◌, Err, IfOk, List, Ok, OnErr, Result, Some};
-ghost use Rattle.futures_lite.specs.Uses.{Poll, Gives, Finishes, try_pair, Asked, LeftAs, LeftSeen, HasValue, Seen, ValueIs, Waited};
-ghost use Rattle.futures_lite.specs.Uses.{AllocError, Called, Context, MutBor, ReturnedBy, ValueHolds};
-ghost use Rattle.futures_lite.specs.Uses.{AtOnce, HasOk, HasValueAs, NeverReady, PickedValue, TryZipRuns, ZipRuns};
+ghost use Rattle.futures_lite.specs.Uses.{LeftAs, HasValue, Seen, ValueIs, Waited, AllocError, Called, Context, MutBor, ValueHolds, AtOnce};
+ghost use Rattle.futures_lite.specs.Uses.{NeverReady, TryZipRuns, ZipRuns};
+ghost use Rattle.futures.specs.declared.task.Poll.{Poll};
+ghost use Rattle.lite_base.specs.Answers.{Gives};
+ghost use Rattle.lite_base.specs.Future.Finishes.{Finishes};
+ghost use Rattle.lite_base.specs.Future.TryZip.{try_pair};
+ghost use Rattle.lite_base.specs.declared.future.half.Half.TheVariants.{Asked};
+ghost use Rattle.lite_views.specs.Answering.{HasOk, HasValueAs, PickedValue, ReturnedBy};
+ghost use Rattle.lite_views.specs.Waiting.{LeftSeen};
 
 pub use lite_base::Future;
 pub use lite_base::future::block_on::BlockOn;

@@ -1,6 +1,8 @@
 -- A `&mut` that is lent for one call, for a new lifetime within ρ, and comes back at the value that the call left.
 use Rattle.std.specs.Prelude.{ℕ, [], ◌∷◌}
-use Rattle.lite_base.specs.Uses.{LentAgain, lends_again, comes_back, RattleType, MutRef}
+use Rattle.lite_base.specs.Uses.{RattleType}
+use denote.Lend.{LentAgain, comes_back, lends_again}
+use denote.Ref.{MutRef}
 use seplogic.Ra.Ura.{Ura}
 use base.Fml.{Fml, Lft, GName, Share, flft, fdead, fres}
 use base.Fraction.{full_share}

@@ -1,7 +1,8 @@
 -- Runs that differ only in when they returned `Pending`, and what it means that two items, values or errors are the
 -- same.
 use Rattle.std.specs.Prelude.{◌≡◌, ◌⊎◌, ⊤, List, Option, Some, None, Result, Ok, Err}
-use Rattle.lite_base.specs.Uses.{AllZip, Poll}
+use Rattle.lite_base.specs.Uses.{Poll}
+use Rattle.std.specs.List.{AllZip}
 use Rattle.lite_base.specs.Answers.{ComparableBy, strip}
 use Rattle.lite_base.specs.Runs.{Runs}
 

@@ -1,7 +1,8 @@
 -- What closures do with the items of a stream. Adapters are defined over such calls: `call p x o q` says that a call in
 -- the state `p` with the item `x` returns `o` and leaves the state `q`.
 use Rattle.std.specs.Prelude.{◌≡◌, ⊤, List, [], ◌∷◌, Option, Some, None, Bool, true, false}
-use Rattle.lite_base.specs.Uses.{Mut, Called, CalledWithState, FoldsTo}
+use Rattle.lite_base.specs.Uses.{Mut, Called, FoldsTo}
+use Rattle.std.specs.Fn.{CalledWithState}
 use denote.Ref.{MutBor}
 use Rattle.lite_base.specs.Alike.{OptionBy, Sameness}
 use Rattle.lite_base.specs.Answers.{ComparableBy}

@@ -1,8 +1,16 @@
 -- Laws of reads, writes and seeks that wait.
 use Rattle.std.specs.Prelude.{◌≡◌, ℕ, suc, List, [], ◌∷◌, ◌⊎◌, Err, Ok, Result}
-use Rattle.lite_bridge.specs.Uses.{◌∙◌, ap, inl, inr, refl, subst, sym, ReadsAtMost, WritesAtMost, Error, ErrorKind, SeekFrom, Poll, Pending, Ready, Gives}
-use Rattle.lite_bridge.specs.Uses.{Runs, by_kind, ReadMark, fill_marks, read_marks, MarkLaws, WriteMark, done_marks, write_marks, PolledByCalls, Reads, Seeks}
-use Rattle.lite_bridge.specs.Uses.{ReadFuture, SeekFuture, Flushes, Writes, FlushFuture, WriteFuture}
+use Rattle.lite_bridge.specs.Uses.{◌∙◌, ap, inl, inr, refl, subst, sym, ReadsAtMost, WritesAtMost, Error, ErrorKind, SeekFrom, Poll, Pending, Ready}
+use Rattle.lite_bridge.specs.Uses.{Gives, Runs, by_kind, ReadMark, fill_marks, read_marks, MarkLaws, WriteMark, done_marks, write_marks}
+use Rattle.lite_bridge.specs.Uses.{PolledByCalls}
+use Rattle.lite_read.specs.Read.{Reads}
+use Rattle.lite_read.specs.Seek.{Seeks}
+use Rattle.lite_read.specs.declared.read.ReadFuture.{ReadFuture}
+use Rattle.lite_read.specs.declared.seek.SeekFuture.{SeekFuture}
+use Rattle.lite_write.specs.Flush.{Flushes}
+use Rattle.lite_write.specs.Write.{Writes}
+use Rattle.lite_write.specs.declared.flush.FlushFuture.{FlushFuture}
+use Rattle.lite_write.specs.declared.write.WriteFuture.{WriteFuture}
 use Rattle.lite_bridge.specs.Filling.{FillsLent}
 use Rattle.lite_bridge.proofs.Waits.{gave_blocks, gave_last, gave_stays, read_at_most, refused_reads}
 use Rattle.lite_bridge.proofs.Waits.{refused_writes}

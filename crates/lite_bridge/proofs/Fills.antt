@@ -1,6 +1,7 @@
 -- Laws of fills.
 use Rattle.std.specs.Prelude.{◌≡◌, ℕ, List, [], ◌∷◌, Result}
-use Rattle.lite_bridge.specs.Uses.{Error, Poll, ReadMark, fill_marks, polled_one, PolledByCalls, Runs}
+use Rattle.lite_bridge.specs.Uses.{Error, Poll, ReadMark, fill_marks, PolledByCalls, Runs}
+use Rattle.lite_read.specs.Laws.Polled.{polled_one}
 use Rattle.lite_bridge.specs.Filling.{FillsLent}
 use Rattle.lite_bridge.specs.declared.filling.Filling.{Filling}
 

@@ -1,8 +1,9 @@
 -- A seek of a buffered reader over a cursor is one of the bare cursor.
 use Rattle.std.specs.Prelude.{◌≡◌, ◌<◌, ◌^◌, ℕ, pos, ◌-◌, List, [], length, take, Option, Some, None, Ok}
 use Rattle.std.proofs.Common.{◌-ℤ◌}
-use Rattle.lite_bridge.specs.Uses.{◌∙◌, inl, inr, refl, sym, ap, subst, arith, SeekFrom, Start, End, Current, Ready, BufReader, ahead, reader_capacity}
-use Rattle.lite_bridge.specs.Uses.{reader_inner, AheadAfter, IsUnsuccessful, SeekAnswer, SeeksOnce, SeeksThrough}
+use Rattle.lite_bridge.specs.Uses.{◌∙◌, inl, inr, refl, sym, ap, subst, arith, SeekFrom, Start, End, Current, Ready, BufReader, ahead}
+use Rattle.lite_bridge.specs.Uses.{reader_capacity, reader_inner, SeeksThrough}
+use Rattle.lite_buffered.specs.SeeksThrough.{AheadAfter, IsUnsuccessful, SeekAnswer, SeeksOnce}
 use Rattle.lite_bridge.specs.declared.cursor.Cursor.{Cursor}
 use Rattle.lite_bridge.specs.Cursor.{CursorSeeks, Lands, at_offset, at_place, bytes_left, cursor_inner as value_of}
 use Rattle.lite_bridge.specs.Cursor.{position_of, target}

@@ -1,8 +1,11 @@
 -- How polled calls appear under std's blocking traits.
 use Rattle.std.specs.Prelude.{◌≡◌, Result, IsErrAnd}
-use Rattle.lite_bridge.specs.Uses.{Once, error_kind, Error, WouldBlock, Lasting, Context, Poll, Ready, Pending, Registered}
+use Rattle.lite_bridge.specs.Uses.{error_kind, Error, Poll, Ready, Pending, Registered}
+use Rattle.futures.specs.declared.task.context.Context.{Context}
+use Rattle.std.specs.Fn.{Once}
+use Rattle.std.specs.declared.io.ErrorKind.TheVariants.{WouldBlock}
 use denote.Ref.{MutBor}
-use Rattle.futures.specs.Task.{Keeps}
+use Rattle.futures.specs.Task.{Keeps, Lasting}
 use Rattle.lite_bridge.specs.declared.async_as_sync.AsyncAsSync.{AsyncAsSync}
 
 module _ {A : Type 0} where

@@ -1,5 +1,7 @@
 ghost use Rattle.std.specs.Prelude.{◌≡◌, ⊤};
-ghost use Rattle.lite_bridge.specs.Uses.{Lends, sem, idle_laws, Idle};
+ghost use Rattle.lite_bridge.specs.Uses.{Lends, sem};
+ghost use Rattle.lite_io_base.specs.Laws.Runs.{idle_laws};
+ghost use Rattle.lite_io_base.specs.Runs.{Idle};
 ghost use Rattle.lite_bridge.specs.Known.{GainsKnown, MovesKnown, SameKnown, SpendsKnown, SpendsWell, known_bytes};
 ghost use Rattle.lite_bridge.specs.Laws.StdKnown.{gains_calm, gains_laws, gains_steady, spends_calm, spends_laws};
 ghost use Rattle.lite_bridge.specs.Laws.StdKnown.{spends_steady};

@@ -1,6 +1,7 @@
 ghost use Rattle.std.specs.Prelude.{◌≡◌, ◌≤◌, [], length, None, IfOk};
-ghost use Rattle.lite_bridge.specs.Uses.{Lends, sem, ReadsAtMost, WritesAtMost, SeekMoves, io_slices_bytes, by_kind, read_marks, ReadsInto, room_in};
-ghost use Rattle.lite_bridge.specs.Uses.{done_marks, write_marks, closed, flushed};
+ghost use Rattle.lite_bridge.specs.Uses.{Lends, sem, ReadsAtMost, WritesAtMost, SeekMoves, io_slices_bytes, by_kind, read_marks, room_in, done_marks};
+ghost use Rattle.lite_bridge.specs.Uses.{write_marks, closed, flushed};
+ghost use Rattle.lite_io_base.specs.Runs.{ReadsInto};
 ghost use Rattle.std.specs.Io.KnownBytes.{Keeps as KeepsKnown, ReadConsumes, WriteAppends};
 ghost use mir.Syntax.{named};
 ghost use Rattle.lite_bridge.specs.AsyncAsSync.{InTime, PollsWith, SameContext, Synced};

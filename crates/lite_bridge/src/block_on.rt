@@ -1,6 +1,8 @@
 ghost use Rattle.std.specs.Prelude.{◌≡◌, ℕ, List, [], length, None, IfSome, IfOk, drop, take};
-ghost use Rattle.lite_bridge.specs.Uses.{Lends, sem, ReadsAtMost, StartsWith, WritesAtMost, DropsConsumable, FillKeeps, Rests, Keeps, ReadConsumes};
-ghost use Rattle.lite_bridge.specs.Uses.{WriteAppends, SeekMoves, ReadMark, bytes, fill_marks, read_marks, WriteMark, done_marks, write_marks};
+ghost use Rattle.lite_bridge.specs.Uses.{Lends, sem, ReadsAtMost, WritesAtMost, Keeps, ReadConsumes, WriteAppends, SeekMoves, ReadMark, bytes};
+ghost use Rattle.lite_bridge.specs.Uses.{fill_marks, read_marks, WriteMark, done_marks, write_marks};
+ghost use Rattle.std.specs.Io.{StartsWith};
+ghost use Rattle.std.specs.Io.BufRead.{DropsConsumable, FillKeeps, Rests};
 ghost use Rattle.lite_bridge.specs.Waits.{Blocks, GaveOrRefused, NoMemoryToWait, SeekBlocks};
 
 use crate::filling::Filling;

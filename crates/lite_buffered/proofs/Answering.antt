@@ -1,7 +1,8 @@
 -- What an answer leaves.
 use Rattle.std.specs.Prelude.{◌≡◌, ℕ, ◌≤◌, List, [], ◌∷◌, ◌++◌, length, take, Result, Ok, Err}
-use Rattle.lite_buffered.specs.Uses.{◌∙◌, inl, inr, refl, sym, ap, subst, arith, take_all, append-nil, boxed_slice_items, error_kind, Error, ErrorKind, Poll}
-use Rattle.lite_buffered.specs.Uses.{Ready, Pending, MarkLaws, WriteMark, done_marks, write_marks, segments_one, Runs}
+use Rattle.lite_buffered.specs.Uses.{◌∙◌, inl, inr, refl, sym, ap, subst, arith, take_all, append-nil, boxed_slice_items, error_kind, Error}
+use Rattle.lite_buffered.specs.Uses.{ErrorKind, Poll, Ready, Pending, MarkLaws, WriteMark, done_marks, write_marks, Runs}
+use Rattle.lite_base.specs.Laws.Segments.{segments_one}
 use Rattle.std.proofs.lemmas.List.{length-take}
 use Rattle.lite_buffered.specs.declared.buf_writer.BufWriter.{BufWriter}
 use Rattle.lite_buffered.specs.BufWriter.{Buffers, FlushesBuffer, MakesRoom, PassesOn, ShownAfter, TakesHeld}

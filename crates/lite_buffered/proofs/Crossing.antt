@@ -1,7 +1,8 @@
 -- The poll in which a `Chain` goes on to its second reader.
 use Rattle.std.specs.Prelude.{◌≡◌, ◌<◌, ◌≤◌, ℕ, List, [], ◌∷◌, true, false, length, Result}
-use Rattle.lite_buffered.specs.Uses.{refl, arith, Error, IoSliceMut, Poll, CountsWithin, in_room, within_more, ReadMark, moved, read_marks, MarkLaws, ReadsInto}
-use Rattle.lite_buffered.specs.Uses.{room_in, Runs}
+use Rattle.lite_buffered.specs.Uses.{refl, arith, Error, IoSliceMut, Poll, CountsWithin, ReadMark, moved, read_marks, MarkLaws, ReadsInto, room_in}
+use Rattle.lite_buffered.specs.Uses.{Runs}
+use Rattle.lite_io_base.specs.Laws.Runs.{in_room, within_more}
 use Rattle.lite_buffered.specs.declared.chain.Chain.{Chain}
 use Rattle.lite_buffered.specs.Chain.{ChainsReaders}
 

@@ -1,8 +1,9 @@
 -- What a flush of the buffer does.
 use Rattle.std.specs.Prelude.{◌≡◌, ℕ, ◌+◌, ◌-◌, ◌≤◌, ◌<◌, List, [], ◌∷◌, ◌++◌, length, take, drop, slice_range, Ok, Err}
-use Rattle.lite_buffered.specs.Uses.{◌∙◌, inr, refl, sym, ap, subst, arith, length-take-le, drop-take, drop-append-le, boxed_slice_items, ErrorKind}
-use Rattle.lite_buffered.specs.Uses.{Interrupted, WriteZero, Ready, Pending, MarkLaws, WriteMark, write_marks, offered_marks, Runs}
-use Rattle.std.proofs.lemmas.List.{length-take}
+use Rattle.lite_buffered.specs.Uses.{◌∙◌, inr, refl, sym, ap, subst, arith, length-take-le, drop-take, boxed_slice_items, ErrorKind, Interrupted}
+use Rattle.lite_buffered.specs.Uses.{WriteZero, Ready, Pending, MarkLaws, WriteMark, write_marks, Runs}
+use Rattle.lite_io_base.specs.Laws.Runs.{offered_marks}
+use Rattle.std.proofs.lemmas.List.{length-take, drop-append-le}
 use Rattle.lite_buffered.specs.declared.buf_writer.BufWriter.{BufWriter}
 use Rattle.lite_buffered.specs.BufWriter.{FlushesBuffer, IsFault, TakesHeld, WriterAnswers, WriterSegment, unwritten}
 use Rattle.lite_buffered.specs.BufWriter.{writer_capacity}

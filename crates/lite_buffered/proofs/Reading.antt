@@ -1,7 +1,9 @@
 -- What single polls of a `BufReader` do.
 use Rattle.std.specs.Prelude.{◌≡◌, ℕ, zero, suc, ◌≤◌, ◌<◌, min, List, [], ◌∷◌, ◌++◌, length, take, drop}
-use Rattle.lite_buffered.specs.Uses.{◌∙◌, refl, sym, ap, subst, arith, append-nil, length-take-le, take-append-drop, sub-zero, map-append, ReadMark, bytes}
-use Rattle.lite_buffered.specs.Uses.{filled, moved, MarkLaws, Runs}
+use Rattle.lite_buffered.specs.Uses.{◌∙◌, refl, sym, ap, subst, arith, append-nil, length-take-le, take-append-drop, ReadMark, bytes, filled, moved}
+use Rattle.lite_buffered.specs.Uses.{MarkLaws, Runs}
+use Rattle.std.proofs.Math.Nat.{sub-zero}
+use Rattle.std.proofs.lemmas.List.{map-append}
 use Rattle.lite_buffered.specs.declared.buf_reader.BufReader.{BufReader}
 use Rattle.lite_buffered.specs.BufReader.{Padded, PassesBuffer, ThroughBuffer, ahead, reader_capacity}
 use Rattle.lite_buffered.specs.Laws.BufReader.{ahead_none, passes_of, through_laws}

@@ -1,7 +1,8 @@
 -- How bytes pass through the buffer of a `BufWriter`.
 use Rattle.std.specs.Prelude.{◌≡◌, ◌<◌, ◌≤◌, ◌⊎◌, ◌+◌, ℕ, List, [], ◌∷◌, ◌++◌, length, take, slice_range, Result, Ok, Err}
-use Rattle.lite_buffered.specs.Uses.{boxed_slice_items, Error, ErrorKind, Interrupted, WriteZero, SeekFrom, Lasting, Poll, Ready, Pending, by_kind, WriteMark}
-use Rattle.lite_buffered.specs.Uses.{bytes_taken, write_marks, Runs, Segments}
+use Rattle.lite_buffered.specs.Uses.{boxed_slice_items, Error, ErrorKind, Interrupted, WriteZero, SeekFrom, Lasting, Poll, Ready, Pending, by_kind}
+use Rattle.lite_buffered.specs.Uses.{WriteMark, bytes_taken, write_marks, Runs}
+use Rattle.lite_base.specs.Segments.{Segments}
 use Rattle.lite_buffered.specs.declared.buf_writer.BufWriter.{BufWriter}
 
 -- The bytes in the buffer.

@@ -1,6 +1,7 @@
 -- How reads and writes of one `BufReader` reach its inner value.
 use Rattle.std.specs.Prelude.{◌≡◌, List, [], ◌∷◌, ⊤}
-use Rattle.lite_buffered.specs.Uses.{ReadMark, Part, PartsInOrder, reading_of, WriteMark, Runs}
+use Rattle.lite_buffered.specs.Uses.{ReadMark, Part, WriteMark, Runs}
+use Rattle.lite_io_base.specs.Parts.{PartsInOrder, reading_of}
 use Rattle.lite_buffered.specs.declared.buf_reader.BufReader.{BufReader}
 use Rattle.lite_buffered.specs.BufReader.{PassesBuffer, Past, ThroughBuffer, ahead, reader_capacity}
 

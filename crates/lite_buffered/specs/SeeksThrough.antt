@@ -1,6 +1,8 @@
 -- What a seek of a `BufReader` does. `seeks` says what a seek of its inner reader may do.
 use Rattle.std.specs.Prelude.{◌≡◌, ◌⊎◌, ℕ, pos, ◌-ℤ◌, List, [], length, Result, Ok, Err, FitsSigned, ⊤}
-use Rattle.lite_buffered.specs.Uses.{w64, ErrorKind, SeekFrom, Start, End, Current, Poll, Ready, Pending}
+use Rattle.lite_buffered.specs.Uses.{ErrorKind, SeekFrom, Current, Poll, Ready, Pending}
+use Rattle.std.specs.Int.{w64}
+use Rattle.std.specs.declared.io.traits.SeekFrom.TheVariants.{End, Start}
 use Rattle.lite_buffered.specs.declared.buf_reader.BufReader.{BufReader}
 use Rattle.lite_buffered.specs.BufReader.{ahead, reader_capacity}
 

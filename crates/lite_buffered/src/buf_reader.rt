@@ -567,7 +567,7 @@ impl<R: AsyncRead> AsyncBufRead for BufReader<R> {
     ghost use Rattle.lite_buffered.specs.BufReader.{AsksWhereEmpty, ThroughBuffer, ahead, reader_capacity, reader_inner};
     ghost use Rattle.lite_buffered.specs.Laws.BufReader.{through_shows};
     ghost use Rattle.lite_buffered.specs.contracts.buf_reader.BufReader.{the_row};
-    ghost use Rattle.lite_buffered.specs.Uses.{Afterwards, Fills};
+    ghost use Rattle.lite_io_base.specs.Runs.{Afterwards, Fills};
 
     ghost lent = { ahead };
 

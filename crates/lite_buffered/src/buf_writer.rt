@@ -1,6 +1,7 @@
 ghost use Rattle.std.specs.Prelude.{◌≡◌, ◌+◌, ◌<◌, ◌≤◌, [], Ok, ◌++◌, length, IfOk, IfErr};
-ghost use Rattle.lite_buffered.specs.Uses.{Lends, sem, boxed_slice_items, IfReady, Keeps, by_kind, idle_laws, Idle, done_marks, write_marks, closed, flushed};
+ghost use Rattle.lite_buffered.specs.Uses.{Lends, sem, boxed_slice_items, IfReady, Keeps, by_kind, idle_laws, Idle, done_marks, write_marks};
 ghost use Rattle.lite_buffered.specs.Uses.{Registered};
+ghost use Rattle.lite_io_base.specs.Takings.WriteMark.{closed, flushed};
 
 use lite_base::{Context, Poll, ready};
 use lite_io_base::{AsyncSeek, AsyncWrite, CalmWrite, SteadyWrite, Takings, Tale};

@@ -1,7 +1,10 @@
 -- The steps of a poll that consumes a stream make one segment.
 use Rattle.std.specs.Prelude.{List, [], ◌∷◌, Some, None, refl}
 use Rattle.std.proofs.Common.{◌++◌}
-use Rattle.lite_consume.specs.Uses.{Poll, Answer, item, NextStep, Reaches, Reaches-back, up_to_one, answers_given, answers_taken, Runs}
+use Rattle.lite_consume.specs.Uses.{Poll, Answer, item, answers_given, answers_taken, Runs}
+use Rattle.lite_base.specs.Chain.{NextStep, Reaches}
+use Rattle.lite_base.specs.Laws.Answers.{up_to_one}
+use Rattle.lite_base.specs.Laws.Chain.{Reaches-back}
 use Rattle.lite_consume.specs.Consume.{ConsumePollStep, Folds}
 use Rattle.lite_consume.specs.Consuming.{Consumed, Decides, Fold, TakesIn}
 use Rattle.lite_consume.specs.PollSteps.{ConsumeStep}

@@ -1,7 +1,8 @@
 -- Futures that consume a stream: items are consumed one after the other, until the end of the stream or until an item
 -- decides the value.
 use Rattle.std.specs.Prelude.{◌≡◌, List, Option, Some, None}
-use Rattle.lite_consume.specs.Uses.{Poll, Ready, Pending, Answer, item, Question, Runs, OneAnswer, Segment, SegmentsToValue}
+use Rattle.lite_consume.specs.Uses.{Poll, Ready, Pending, Answer, item, Question, Runs, OneAnswer, Segment}
+use Rattle.lite_base.specs.Segments.{SegmentsToValue}
 
 -- What such a future makes of the items: which items it consumes, which item decides the value, and what the value is
 -- at the end of the stream.

@@ -1,6 +1,8 @@
 -- The steps of a poll that consumes a stream. In each of them the stream is polled once.
 use Rattle.std.specs.Prelude.{List, [], ◌∷◌, Option, Some, None}
-use Rattle.lite_consume.specs.Uses.{Poll, Answer, item, Terminates, Runs, AtEachItem}
+use Rattle.lite_consume.specs.Uses.{Poll, Answer, item, Runs}
+use Rattle.lite_base.specs.Ends.{Terminates}
+use Rattle.lite_stream.specs.EachItem.{AtEachItem}
 use Rattle.lite_consume.specs.Consuming.{Decides, Fold, TakesIn}
 
 module _ {S M A R : Type 0} (run : Runs (Answer A) S) (fold : Fold M A R) where

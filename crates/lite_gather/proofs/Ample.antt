@@ -1,7 +1,13 @@
 -- The steps of those that collect in which nothing was refused are those in which memory was found.
 use Rattle.std.specs.Prelude.{◌≡◌, ⊤, List, [], ◌∷◌, ◌++◌, Option, Some, None, Result, Ok, Err, Bool, IfSome, IsOk}
-use Rattle.lite_gather.specs.Uses.{AllByRecursion, subst, Poll, Ready, Pending, Answer, Gives, end, item, Question, WithinWhere, Consumes, Decides}
-use Rattle.lite_gather.specs.Uses.{each_consumed}
+use Rattle.lite_gather.specs.Uses.{subst, Question}
+use Rattle.futures.specs.declared.task.Poll.{Poll}
+use Rattle.futures.specs.declared.task.Poll.TheVariants.{Pending, Ready}
+use Rattle.lite_base.specs.Answers.{Answer, Gives, end, item}
+use Rattle.lite_consume.specs.Agreeing.{WithinWhere}
+use Rattle.lite_consume.specs.Consuming.{Consumes, Decides}
+use Rattle.lite_consume.specs.Laws.Consuming.{each_consumed}
+use Rattle.std.specs.List.{AllByRecursion}
 use Rattle.lite_gather.specs.Collect.{Collected, collects}
 use Rattle.lite_gather.specs.Gathering.{NeverRefuses}
 use Rattle.lite_gather.specs.Partition.{partitions}

@@ -1,7 +1,8 @@
 -- When two collections, or two values of the futures that collect, are the same: if they hold one list, or lists that
 -- are the same item by item.
 use Rattle.std.specs.Prelude.{List, map, Result, Ok, Err}
-use Rattle.lite_gather.specs.Uses.{AllZip, Sameness}
+use Rattle.lite_gather.specs.Uses.{Sameness}
+use Rattle.std.specs.List.{AllZip}
 use Rattle.lite_gather.specs.declared.refused.TryCollectError.{TryCollectError}
 use Rattle.lite_gather.specs.declared.refused.TryCollectError.TheVariants.{Source}
 

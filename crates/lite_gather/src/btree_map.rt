@@ -1,5 +1,6 @@
 ghost use Rattle.std.specs.Prelude.{◌≡◌, []};
-ghost use Rattle.lite_gather.specs.Uses.{ContainsKey, insert_entry, fold};
+ghost use Rattle.lite_gather.specs.Uses.{fold};
+ghost use Rattle.std.specs.BTreeMap.{ContainsKey, insert_entry};
 
 use crate::gather::Gather;
 use std::alloc::Allocator;

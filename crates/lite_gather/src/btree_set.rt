@@ -1,5 +1,6 @@
 ghost use Rattle.std.specs.Prelude.{◌≡◌, IsTrue, []};
-ghost use Rattle.lite_gather.specs.Uses.{contains, insert_key, fold};
+ghost use Rattle.lite_gather.specs.Uses.{fold};
+ghost use Rattle.std.specs.BTreeSet.{contains, insert_key};
 
 use crate::gather::Gather;
 use std::alloc::Allocator;

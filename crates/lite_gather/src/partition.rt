@@ -1,5 +1,6 @@
 ghost use Rattle.std.specs.Prelude.{◌≡◌, IfErr, IsSome, OnOk};
-ghost use Rattle.lite_gather.specs.Uses.{AgreeFrom, CalledAt, OptionBy, SameItem, Sameness, TakesAt, fold_of, part_steady, returns_counted};
+ghost use Rattle.lite_gather.specs.Uses.{AgreeFrom, OptionBy, SameItem, Sameness, fold_of, part_steady, returns_counted};
+ghost use Rattle.std.specs.Fn.{CalledAt, TakesAt};
 ghost use Rattle.lite_gather.specs.Agreeing.{HoldsSameBoth, SameCollected};
 ghost use Rattle.lite_gather.specs.Gathering.{LacksRoom, NeverRefuses};
 ghost use Rattle.lite_gather.specs.Partition.{Sorted, Unsorted, partitions, partitions_open};

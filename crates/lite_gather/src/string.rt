@@ -1,5 +1,6 @@
 ghost use Rattle.std.specs.Prelude.{◌≡◌, ◌≤◌, ◌+◌, length, string_bytes, string_capacity, string_len};
-ghost use Rattle.lite_gather.specs.Uses.{encode_utf8, flat_map};
+ghost use Rattle.std.specs.Char.{encode_utf8};
+ghost use Rattle.std.specs.List.{flat_map};
 
 use crate::gather::Gather;
 use std::alloc::Allocator;

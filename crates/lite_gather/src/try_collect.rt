@@ -1,5 +1,6 @@
 ghost use Rattle.std.specs.Prelude.{IsSome};
-ghost use Rattle.lite_gather.specs.Uses.{OptionBy, SameErr, SameItem, SameOk, Sameness, fold_of, part_steady, returns_ok};
+ghost use Rattle.lite_gather.specs.Uses.{OptionBy, SameErr, SameItem, SameOk, Sameness, fold_of, part_steady};
+ghost use Rattle.lite_consume.specs.Laws.Returning.{returns_ok};
 ghost use Rattle.lite_gather.specs.Agreeing.{HoldsSame, TrySameCollected, Unmixed};
 ghost use Rattle.lite_gather.specs.Gathering.{LacksRoom, NeverRefuses};
 ghost use Rattle.lite_gather.specs.TryCollect.{tries_collect, tries_collect_open};

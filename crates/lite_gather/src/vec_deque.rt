@@ -1,5 +1,5 @@
 ghost use Rattle.std.specs.Prelude.{◌≡◌, ◌<◌};
-ghost use Rattle.lite_gather.specs.Uses.{deque_capacity, deque_len};
+ghost use Rattle.std.specs.VecDeque.{deque_capacity, deque_len};
 
 use crate::gather::Gather;
 use std::alloc::Allocator;

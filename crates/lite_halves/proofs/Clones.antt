@@ -1,6 +1,7 @@
 -- A clone of an entry says what the entry says.
 use Rattle.std.specs.Prelude.{◌≡◌, List, [], ◌∷◌}
-use Rattle.lite_halves.specs.Uses.{ap, refl, AllZip, each_same}
+use Rattle.lite_halves.specs.Uses.{ap, refl}
+use Rattle.std.specs.List.{AllZip, each_same}
 use Rattle.lite_halves.specs.declared.entry.Entry.{Entry}
 use Rattle.lite_halves.specs.declared.entry.Call.{Call}
 use Rattle.lite_halves.specs.declared.entry.Call.TheVariants.{Read, Write, Flush, Close}

@@ -1,7 +1,8 @@
 -- What a loop over calls has come to: so many were made, and their answers appended.
 use Rattle.std.specs.Prelude.{◌≡◌, ◌<◌, ◌+◌, ℕ, List, [], ◌∷◌, ◌++◌, length, map}
-use Rattle.lite_halves.specs.Uses.{get_or, refl, sym, ap, append-nil, append_assoc, length-append, add-zero, arith, get_or_default, map-append, sum_by-append}
+use Rattle.lite_halves.specs.Uses.{get_or, refl, sym, ap, append-nil, append_assoc, length-append, add-zero, arith, map-append, sum_by-append}
 use Rattle.lite_halves.specs.Uses.{ReadMark, WriteMark, Runs}
+use Rattle.std.proofs.lemmas.List.{get_or_default}
 use Rattle.lite_halves.specs.declared.entry.Answer.{Answer}
 use Rattle.lite_halves.specs.declared.entry.Call.{Call}
 use Rattle.lite_halves.specs.Counts.{CountsOn, HalfCounts, Makes, count_moved, moved_by}

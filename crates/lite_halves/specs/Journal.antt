@@ -1,7 +1,10 @@
 -- Journals: a stream, the calls that were made of it with their results, and a clone of the stream before these calls.
 use Rattle.std.specs.Prelude.{◌≡◌, ◌⊎◌, ◌<◌, ◌≤◌, ℕ, ◌+◌, List, [], ◌∷◌, ◌++◌, length, map, Option, Some, None, Result, vec_capacity}
-use Rattle.lite_halves.specs.Uses.{flat_map, Global, Error, OutOfMemory, IoSliceMut, Vec, Poll, Part, PartRuns, PartsInOrder, ReadMark, StandsFirst, room_in}
-use Rattle.lite_halves.specs.Uses.{Steps, WriteMark, Runs}
+use Rattle.lite_halves.specs.Uses.{Error, OutOfMemory, IoSliceMut, Poll, Part, PartRuns, PartsInOrder, ReadMark, StandsFirst, room_in, Steps}
+use Rattle.lite_halves.specs.Uses.{WriteMark, Runs}
+use Rattle.std.proofs.Common.{Global}
+use Rattle.std.specs.List.{flat_map}
+use Rattle.std.specs.declared.vec.Vec.{Vec}
 use Rattle.lite_halves.specs.Entry.{AllFit, FitsCall, Note, Request, Told, copied, part_of, parts_in, read_note}
 use Rattle.lite_halves.specs.Entry.{write_note}
 

@@ -1,6 +1,7 @@
 -- A call that lends may say more than its trait does of what is there once the borrow ends.
 use Rattle.std.specs.Prelude.{⊤}
-use Rattle.lite_io_base.specs.Uses.{RattleType, such_by, follows_if}
+use Rattle.lite_io_base.specs.Uses.{RattleType}
+use denote.Follow.{follows_if, such_by}
 use Rattle.std.specs.Borrow.{MutBor}
 use base.Logic.{SProp, all, all_i, emp, emp∗, ent, ex_e, ex_i, sep, snd∗, via, wand, wand_i}
 use borrow.Fn.Refines.{Gives, Turns}

@@ -1,7 +1,8 @@
 -- Readers whose tale does not depend on when they were pending, as long as no allocation failed. The runs in which none
 -- failed are the ample runs.
 use Rattle.std.specs.Prelude.{List, [], ◌∷◌, ⊤}
-use Rattle.lite_io_base.specs.Uses.{Comparable, CalmRuns, Runs, TakesNone}
+use Rattle.lite_io_base.specs.Uses.{Comparable, CalmRuns, Runs}
+use Rattle.lite_base.specs.Steady.{TakesNone}
 use Rattle.lite_io_base.specs.Marks.{ReadMark}
 use Rattle.lite_io_base.specs.Runs.{MarkLaws}
 

@@ -1,6 +1,7 @@
 -- Writers whose bytes do not depend on when they were pending, and writers that are never pending.
 use Rattle.std.specs.Prelude.{◌≡◌, ℕ, List, [], ◌∷◌, ◌++◌, ⊤}
-use Rattle.lite_io_base.specs.Uses.{Interrupted, CalmRuns, Runs}
+use Rattle.lite_io_base.specs.Uses.{CalmRuns, Runs}
+use Rattle.std.specs.declared.io.ErrorKind.TheVariants.{Interrupted}
 use Rattle.lite_io_base.specs.Takings.{WriteMark, bytes_taken}
 
 -- No mark is an error, except interruptions.

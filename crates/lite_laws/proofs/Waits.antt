@@ -1,6 +1,7 @@
 -- What a run leaves whose last answer is Pending.
 use Rattle.std.specs.Prelude.{List, [], ◌∷◌, ◌++◌}
-use Rattle.lite_laws.specs.Uses.{OnPending, Poll, Ready, Pending}
+use Rattle.lite_laws.specs.Uses.{OnPending, Poll}
+use Rattle.futures.specs.declared.task.Poll.TheVariants.{Pending, Ready}
 use Rattle.lite_laws.specs.Waits.{IfWaits}
 
 pub waits_last : {A : Type 0} (l : List (Poll A)) (a : Poll A) (P : Type 0) → OnPending a P → IfWaits (l ++ a ∷ []) P

@@ -1,6 +1,10 @@
 -- Two runs of streams that are alike, and two of futures that are.
 use Rattle.std.specs.Prelude.{◌≡◌, ◌⊎◌, ◌<◌, ℕ, List, [], length}
-use Rattle.lite_laws.specs.Uses.{Poll, SameAnswer, SameItem, Sameness, Answer, ComparableBy, strip, Finishes, Runs}
+use Rattle.lite_laws.specs.Uses.{Poll, Answer}
+use Rattle.lite_base.specs.Alike.{SameAnswer, SameItem, Sameness}
+use Rattle.lite_base.specs.Answers.{ComparableBy, strip}
+use Rattle.lite_base.specs.Future.Finishes.{Finishes}
+use Rattle.lite_base.specs.Runs.{Runs}
 
 -- Two streams return the results `l` and `m`, from `x` and from `y`. If no allocation failed in either run, or no poll
 -- allocates, one list is a prefix of the other. `Pending`s are left out, and results that are the same by `same` count

@@ -1,6 +1,8 @@
 -- What a run leaves in the list to which its results are appended.
 use Rattle.std.specs.Prelude.{◌≡◌, ◌<◌, ℕ, List, ◌++◌, length, Result, IfOk, IfErr}
-use Rattle.lite_laws.specs.Uses.{Vec, Global, Answer}
+use Rattle.lite_laws.specs.Uses.{Answer}
+use Rattle.std.proofs.Common.{Global}
+use Rattle.std.specs.declared.vec.Vec.{Vec}
 
 -- A run appended the list `l` of its results to `before`. If the value is `Ok`, `l` has as many results as `polls`
 -- says, and otherwise fewer. `P` holds of `l`.

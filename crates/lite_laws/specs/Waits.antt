@@ -1,6 +1,8 @@
 -- What a context holds after a run whose last result is `Pending`.
 use Rattle.std.specs.Prelude.{⊤, List, [], ◌∷◌}
-use Rattle.lite_laws.specs.Uses.{OnPending, Holds, Lasting, Poll, Context}
+use Rattle.lite_laws.specs.Uses.{OnPending, Poll}
+use Rattle.futures.specs.Task.{Holds, Lasting}
+use Rattle.futures.specs.declared.task.context.Context.{Context}
 
 -- `P` holds if the last result of the list is `Pending`.
 abbrev pub IfWaits : {A : Type 0} → List (Poll A) → Type 0 → Type 0

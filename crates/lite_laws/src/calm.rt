@@ -1,5 +1,6 @@
 ghost use Rattle.std.specs.Prelude.{◌≡◌, ◌+◌, ◌<◌, ◌++◌, List, length, vec_capacity, vec_len, IfOk, IfErr};
-ghost use Rattle.lite_laws.specs.Uses.{Keeps, Answer, NoPending};
+ghost use Rattle.lite_laws.specs.Uses.{Keeps, Answer};
+ghost use Rattle.lite_base.specs.Calm.{NoPending};
 
 use crate::polls::run;
 use lite_base::{CalmStream, Context, Poll};

@@ -1,6 +1,8 @@
 -- `drain`: an end of stream replaces each `Pending`.
 use Rattle.std.specs.Prelude.{◌≡◌, List, [], ◌∷◌}
-use Rattle.lite_merge.specs.Uses.{MutBor, Ready, Pending, Answer, end, Lent, Runs, AdapterParts, Through, parts_of, Relates}
+use Rattle.lite_merge.specs.Uses.{Ready, Pending, Answer, end, Runs, AdapterParts, Through, parts_of, Relates}
+use Rattle.lite_base.specs.Lent.{Lent}
+use denote.MutBor.{MutBor}
 use Rattle.lite_merge.specs.declared.drain.Drain.{Drain}
 
 -- The results with each `Pending` replaced by the end of the stream. Items and ends stay as they are.

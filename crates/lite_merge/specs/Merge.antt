@@ -1,7 +1,8 @@
 -- Two streams that are merged row by row. Each row makes one result: it polls one stream first, and the other if that
 -- one yields no item.
 use Rattle.std.specs.Prelude.{◌≡◌, ◌⊎◌, ◌+◌, List, ◌∷◌, ◌++◌, Bool, false, Some, None}
-use Rattle.lite_merge.specs.Uses.{Ready, Pending, Lasting, Answer, item, Ranks, Rows, Runs, Fuses, Fuse}
+use Rattle.lite_merge.specs.Uses.{Ready, Pending, Lasting, Answer, item, Ranks, Runs, Fuses, Fuse}
+use Rattle.lite_base.specs.Rows.{Rows}
 
 -- The result of a row in which one stream is pending and the other returns this: its item, or `Pending`, also if it has
 -- ended.

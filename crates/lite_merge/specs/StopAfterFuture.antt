@@ -1,7 +1,9 @@
 -- `stop_after_future`: a stream's results until a future returns its value or the stream ends. Then every poll returns
 -- the end of the stream. Once the future is taken out, the results are the stream's.
 use Rattle.std.specs.Prelude.{◌≡◌, ◌+◌, List, [], ◌∷◌, ◌++◌, length, Some, None}
-use Rattle.lite_merge.specs.Uses.{Poll, Answer, Endless, Waiting, end, Finishes, Runs, AllEnds, Through, Relates}
+use Rattle.lite_merge.specs.Uses.{Poll, Answer, Endless, end, Runs, AllEnds, Through, Relates}
+use Rattle.lite_base.specs.Answers.{Waiting}
+use Rattle.lite_base.specs.Future.Finishes.{Finishes}
 use Rattle.lite_merge.specs.declared.stop_after_future.StopAfterFuture.{StopAfterFuture}
 use Rattle.lite_merge.specs.declared.stop_after_future.Stopping.TheVariants.{Holding, TakenOut, Stopped}
 use Rattle.lite_merge.specs.declared.stop_after_future.Stopping.{Stopping}

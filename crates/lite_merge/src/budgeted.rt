@@ -1,5 +1,6 @@
 ghost use Rattle.std.specs.Prelude.{◌∷◌, []};
-ghost use Rattle.lite_merge.specs.Uses.{HoldsWoken, Keeps, Registered, laws_hinted, ok_counting, through_on};
+ghost use Rattle.lite_merge.specs.Uses.{HoldsWoken, Keeps, Registered, ok_counting, through_on};
+ghost use Rattle.lite_stream.specs.Laws.Through.{laws_hinted};
 ghost use Rattle.lite_merge.specs.Budgeted.{RegistersLeft, Budgets, budget_parts, budget_ranks};
 ghost use Rattle.lite_merge.specs.Laws.Budgeted.{budget_counting, budget_steady, paces_relating};
 

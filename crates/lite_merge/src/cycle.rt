@@ -1,5 +1,6 @@
 ghost use Rattle.std.specs.Prelude.{◌≡◌, [], ◌∷◌, IfSome, None, Result, Some};
-ghost use Rattle.lite_merge.specs.Uses.{AllocError, Keeps, Registered, NoHint};
+ghost use Rattle.lite_merge.specs.Uses.{Keeps, Registered, NoHint};
+ghost use Rattle.std.specs.declared.alloc.AllocError.{AllocError};
 ghost use Rattle.lite_merge.specs.Cycle.{AllCopies, Cycles, Renews};
 ghost use Rattle.lite_merge.specs.Laws.Cycle.{cycle_calm, cycle_laws};
 

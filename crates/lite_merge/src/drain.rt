@@ -1,5 +1,7 @@
 ghost use Rattle.std.specs.Prelude.{◌≡◌, ⊤, ℕ, Option};
-ghost use Rattle.lite_merge.specs.Uses.{Lends, laws_capped, lent_counting, lent_laws, ok_counting, ranks_of, sem, through_counting, through_on};
+ghost use Rattle.lite_merge.specs.Uses.{laws_capped, ok_counting, ranks_of, through_counting, through_on};
+ghost use Rattle.lite_base.specs.Laws.Lent.{lent_counting, lent_laws};
+ghost use Rattle.std.specs.Borrow.{Lends, sem};
 ghost use Rattle.lite_merge.specs.Drain.{Drains, drain_parts};
 ghost use Rattle.lite_merge.specs.Laws.Drain.{drain_calm, drained_relating};
 

@@ -1,6 +1,8 @@
 -- Runs of `split` and `lines` without a refusal are runs in which memory was found, where the reader asks for none.
 use Rattle.std.specs.Prelude.{⊤, ℕ, List, Option, Some, None, Result}
-use Rattle.lite_read.specs.Uses.{Global, inl, inr, Error, String, Ready, Pending, Answer, segment_gives, segments_map, Runs, ReadMark, TakesNone}
+use Rattle.lite_read.specs.Uses.{Global, inl, inr, Error, String, Ready, Pending, Answer, Runs, ReadMark}
+use Rattle.lite_base.specs.Laws.Segments.{segment_gives, segments_map}
+use Rattle.lite_base.specs.Steady.{TakesNone}
 use Rattle.lite_read.specs.Lines.{GivesLines, lines_over}
 use Rattle.lite_read.specs.ReadFold.{AnswerMarks}
 use Rattle.lite_read.specs.NoneRefused.{NoneRefused, NotRefused}

@@ -1,8 +1,9 @@
 -- Steps and polls of `read_to_end`.
 use Rattle.std.specs.Prelude.{◌≡◌, ◌≤◌, ◌<◌, ◌+◌, ◌-◌, ℕ, List, [], ◌∷◌, length, take, Result, Err, ⊤, ◌*◌, max, vec_capacity}
-use Rattle.lite_read.specs.Uses.{◌∙◌, refl, ap, sym, subst, arith, length-take-le, take-length, error_kind, Error, OutOfMemory, with_items, Vec, OnPending}
-use Rattle.lite_read.specs.Uses.{Poll, Ready, Pending, Ranks, up_to_one, segment_alone, segments_one, Runs, ReadCounting, ReadMark, bytes, moved, MarkLaws}
+use Rattle.lite_read.specs.Uses.{◌∙◌, refl, ap, sym, subst, arith, length-take-le, error_kind, Error, OutOfMemory, with_items, Vec, OnPending, Poll}
+use Rattle.lite_read.specs.Uses.{Ready, Pending, Ranks, up_to_one, segment_alone, segments_one, Runs, ReadCounting, ReadMark, bytes, moved, MarkLaws}
 use Rattle.lite_read.specs.Uses.{Reaches}
+use Rattle.std.proofs.Math.Seq.{take-length}
 use denote.MutBor.{MutBor}
 use borrow.Rule.Slice.PartMut.{put_mid}
 use Rattle.lite_read.proofs.Filling.{Behind, bytes_came, how_long, put_front, put_kept, put_len}

@@ -1,8 +1,11 @@
 -- What a fill, a search and what was consumed say of the cuts.
 use Rattle.std.specs.Prelude.{◌≡◌, ◌≢◌, ◌<◌, ◌≤◌, ◌+◌, ℕ, List, [], ◌∷◌, ◌++◌, Some, None, length, take, true}
-use Rattle.lite_read.specs.Uses.{◌∙◌, All, refl, ap, sym, subst, arith, add-one, get_or, eqb-true, eq-eqb, zero-le, append-nil, append_assoc, length-take-le}
-use Rattle.lite_read.specs.Uses.{get_or-take, map-append, All-from_get_or, recursion_from_All, take-suc, AllByRecursion, FoldsTo, Poll, Ready, Pending}
-use Rattle.lite_read.specs.Uses.{IsFirstByte, is_byte, ReadMark, bytes, filled, MarkLaws, segment_alone, segments_one, Runs}
+use Rattle.lite_read.specs.Uses.{◌∙◌, All, refl, ap, sym, subst, arith, add-one, get_or, eqb-true, eq-eqb, append-nil, append_assoc, length-take-le}
+use Rattle.lite_read.specs.Uses.{map-append, AllByRecursion, FoldsTo, Poll, Ready, Pending, IsFirstByte, is_byte, ReadMark, bytes, filled, MarkLaws}
+use Rattle.lite_read.specs.Uses.{segment_alone, segments_one, Runs}
+use Rattle.std.proofs.Common.{get_or-take, zero-le}
+use Rattle.std.proofs.Math.Seq.{take-suc}
+use Rattle.std.proofs.lemmas.List.Elements.{All-from_get_or, recursion_from_All}
 use Rattle.lite_read.specs.ReadFold.{AnswerMarks, ReadFold}
 use Rattle.lite_read.specs.Pieces.{Cut, CutsPiece, pieces}
 use Rattle.lite_read.specs.Segments.{Flows, StreamOver}

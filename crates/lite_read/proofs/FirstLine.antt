@@ -1,11 +1,14 @@
 -- What is known of the first line from what was seen of it.
 use Rattle.std.specs.Prelude.{◌≡◌, ◌≢◌, ℕ, ◌+◌, ◌-◌, ◌<◌, ◌≤◌, Bool, true, List, [], ◌∷◌, length, take, drop, position, Some}
 use Rattle.std.proofs.Common.{◌&&◌}
-use Rattle.lite_read.specs.Uses.{zero, suc, false, not, cond, get_or, leb, sym, ap, ◌∙◌, arith, and_from, cond-false, cond-true, le-leb, lt-leb, lt-ltb, ne_eqb}
-use Rattle.lite_read.specs.Uses.{drop_more, length-drop, length-take, take-append-drop, leb-suc-suc, take-add, list_all-append, prefix_len-append}
-use Rattle.lite_read.specs.Uses.{prefix_len-le-length, is_ascii, before_first, list_all, position_or_len, prefix_len}
-use Rattle.std.proofs.lemmas.Bool.{eq-eqb}
-use Rattle.std.proofs.lemmas.List.{length-take-le}
+use Rattle.lite_read.specs.Uses.{zero, suc, false, not, cond, get_or, leb, sym, ap, ◌∙◌, arith, le-leb, lt-leb, lt-ltb, length-drop, length-take}
+use Rattle.lite_read.specs.Uses.{list_all-append, is_ascii, before_first, list_all, position_or_len, prefix_len}
+use Rattle.std.proofs.Math.Dec.{leb-suc-suc}
+use Rattle.std.proofs.Math.Seq.{take-add}
+use Rattle.std.proofs.lemmas.List.Folds.{prefix_len-append}
+use Rattle.std.proofs.lemmas.List.Sums.{prefix_len-le-length}
+use Rattle.std.proofs.lemmas.Bool.{eq-eqb, and_from, cond-false, cond-true, ne_eqb}
+use Rattle.std.proofs.lemmas.List.{length-take-le, drop_more, take-append-drop}
 use Rattle.lite_read.specs.Scan.{IsPlain, LineGoesOn, is_newline}
 
 module _ (p : ℕ → Bool) (d : List ℕ) where

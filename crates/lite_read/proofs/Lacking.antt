@@ -1,7 +1,7 @@
 -- How many bytes stand before a byte that was looked for.
 use Rattle.std.specs.Prelude.{◌≡◌, ◌≢◌, ◌<◌, ◌≤◌, ◌+◌, ◌==◌, ℕ, Bool, true, List, [], ◌∷◌, Some, None, length}
-use Rattle.lite_read.specs.Uses.{false, refl, arith, get_or, eqb-true, eq-eqb, length-take-le, zero, suc, position_or_len_is, before_first, IsFirstByte}
-use Rattle.lite_read.specs.Uses.{is_byte}
+use Rattle.lite_read.specs.Uses.{false, refl, arith, get_or, eqb-true, eq-eqb, length-take-le, zero, suc, before_first, IsFirstByte, is_byte}
+use Rattle.std.proofs.lemmas.List.Sums.{position_or_len_is}
 use Rattle.lite_read.specs.BytePieces.{through_first}
 
 not_true : (b : Bool) → (b ≡ true → ⊥) → b ≡ false

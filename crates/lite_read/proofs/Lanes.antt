@@ -1,8 +1,11 @@
 -- From the mask of one load to how many of its bytes pass a test.
 use Rattle.std.specs.Prelude.{◌≡◌, ℕ, ◌+◌, ◌^◌, ◌≤◌, Bool, true, List, length}
-use Rattle.std.proofs.Common.{◌%◌}
-use Rattle.lite_read.specs.Uses.{false, not, cond, map, leb, refl, sym, ap, ◌∙◌, arith, inl, inr, cases_lt, le-leb, le-ltb, lt-leb, lt-ltb, map-map, mask_l-mod}
-use Rattle.lite_read.specs.Uses.{length-chunk, first_set_mask_l, leading_from_mask_l, length-map, is_ascii, prefix_len}
+use Rattle.std.proofs.Common.{◌%◌, map}
+use Rattle.lite_read.specs.Uses.{false, not, cond, leb, refl, sym, ap, ◌∙◌, arith, inl, inr, le-leb, lt-leb, lt-ltb, length-chunk, is_ascii}
+use Rattle.lite_read.specs.Uses.{prefix_len}
+use Rattle.std.proofs.lemmas.Bool.{cases_lt, le-ltb}
+use Rattle.std.proofs.lemmas.List.{length-map}
+use Rattle.std.proofs.lemmas.Simd.{first_set_mask_l, leading_from_mask_l, map-map, mask_l-mod}
 use lib.Lanes.{chunk, mask_l, top}
 use Rattle.lite_read.specs.Scan.{first_set}
 

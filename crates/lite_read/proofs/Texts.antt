@@ -1,9 +1,14 @@
 -- Lines of ASCII, and where they end.
 use Rattle.std.specs.Prelude.{◌≡◌, ◌<◌, ◌≤◌, ℕ, Bool, true, List, ◌++◌, Option, Some, None, length, take, position, IsUtf8}
-use Rattle.std.proofs.Common.{◌&&◌}
-use Rattle.lite_read.specs.Uses.{◌∙◌, false, cond, ltb, refl, ap, sym, subst, arith, All, All-take, ltb-false, ltb-true, take_all, list_all-append}
-use Rattle.lite_read.specs.Uses.{AllPass-from_list_all, fails_before_first, passes_at_first, IsUtf8-from_ascii, IsAscii-from_all, is_ascii, before_first}
-use Rattle.lite_read.specs.Uses.{list_all, position_or_len, IsFirstByte, is_byte}
+use Rattle.std.proofs.Common.{◌&&◌, ltb}
+use Rattle.lite_read.specs.Uses.{◌∙◌, false, cond, refl, ap, sym, subst, arith, All, list_all-append, is_ascii, before_first, list_all}
+use Rattle.lite_read.specs.Uses.{position_or_len, IsFirstByte, is_byte}
+use Rattle.std.proofs.lemmas.Bool.{ltb-false, ltb-true}
+use Rattle.std.proofs.lemmas.List.{take_all}
+use Rattle.std.proofs.lemmas.List.Elements.{All-take}
+use Rattle.std.proofs.lemmas.List.Sums.{AllPass-from_list_all, fails_before_first, passes_at_first}
+use Rattle.std.proofs.lemmas.Str.{IsUtf8-from_ascii}
+use Rattle.std.proofs.lemmas.Str.Ascii.{IsAscii-from_all}
 use Rattle.lite_read.specs.Scan.{is_newline}
 use Rattle.lite_read.specs.Find.{up_to}
 use Rattle.lite_read.specs.LineText.{without_return}

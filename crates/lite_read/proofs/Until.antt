@@ -1,8 +1,9 @@
 -- The steps of `read_until`.
 use Rattle.std.specs.Prelude.{◌≡◌, ◌<◌, ◌≤◌, ◌+◌, ◌-◌, ℕ, List, [], ◌∷◌, ◌++◌, Some, None, Result, Ok, Err, length, take, drop, ⊤, vec_capacity}
-use Rattle.lite_read.specs.Uses.{◌∙◌, inl, inr, refl, ap, sym, subst, arith, append-nil, append_assoc, length-append, drop-append-le, length-drop}
-use Rattle.lite_read.specs.Uses.{take-append-le, error_kind, Error, OutOfMemory, Poll, Ready, Pending, IsFirstByte, is_byte, ReadMark, bytes, filled, MarkLaws}
+use Rattle.lite_read.specs.Uses.{◌∙◌, inl, inr, refl, ap, sym, subst, arith, append-nil, append_assoc, length-append, length-drop, take-append-le}
+use Rattle.lite_read.specs.Uses.{error_kind, Error, OutOfMemory, Poll, Ready, Pending, IsFirstByte, is_byte, ReadMark, bytes, filled, MarkLaws}
 use Rattle.lite_read.specs.Uses.{Reaches, up_to_one, segments_one, Runs}
+use Rattle.std.proofs.lemmas.List.{drop-append-le}
 use Rattle.lite_read.specs.ReadFold.{AnswerMarks}
 use Rattle.lite_read.specs.Pieces.{Cut}
 use Rattle.lite_read.specs.UntilVector.{UntilStays, read_of}

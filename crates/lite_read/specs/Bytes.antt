@@ -1,6 +1,8 @@
 -- The `bytes` stream: each mark of its reader becomes one poll result.
 use Rattle.std.specs.Prelude.{◌≡◌, ◌⊎◌, ℕ, List, [], ◌∷◌, ⊤, Some, None, Result, Ok, Err}
-use Rattle.lite_read.specs.Uses.{error_kind, Error, Interrupted, Context, Holds, HoldsWoken, Lasting, Ready, Pending, Answer, Runs, ReadMark}
+use Rattle.lite_read.specs.Uses.{error_kind, Error, Interrupted, HoldsWoken, Ready, Pending, Answer, Runs, ReadMark}
+use Rattle.futures.specs.Task.{Holds, Lasting}
+use Rattle.futures.specs.declared.task.context.Context.{Context}
 use Rattle.lite_read.specs.declared.bytes.Bytes.{Bytes}
 
 -- The poll result that one mark of the reader becomes. A byte is an item, end of file is the end of the stream, and

@@ -1,6 +1,7 @@
 -- The `read` future: each poll reads once into a buffer.
 use Rattle.std.specs.Prelude.{◌≡◌, ◌≤◌, ℕ, length, Result, IfOk}
-use Rattle.lite_read.specs.Uses.{Error, IfReady, Poll, ReadMark, read_marks, Runs}
+use Rattle.lite_read.specs.Uses.{Error, IfReady, Poll, ReadMark, Runs}
+use Rattle.lite_io_base.specs.Marks.{read_marks}
 use Rattle.lite_read.specs.declared.read.ReadFuture.{ReadFuture}
 
 -- One poll of `read`: the reader ran by the marks of this result, which counts at most the buffer's length. The future

@@ -1,6 +1,7 @@
 -- The `read_exact` future: bytes are read until the buffer is full.
 use Rattle.std.specs.Prelude.{◌≡◌, ◌<◌, List, [], ◌∷◌, ◌++◌, length, Result, Ok, Err}
-use Rattle.lite_read.specs.Uses.{error_kind, Error, UnexpectedEof, Poll, ReadMark, Runs}
+use Rattle.lite_read.specs.Uses.{error_kind, Error, Poll, ReadMark, Runs}
+use Rattle.std.specs.declared.io.ErrorKind.TheVariants.{UnexpectedEof}
 use Rattle.lite_read.specs.Filling.{ExactStays, Filling, filling_of}
 use Rattle.lite_read.specs.ReadFold.{Gathers, ReadFold}
 use Rattle.lite_read.specs.declared.read_exact.ReadExactFuture.{ReadExactFuture}

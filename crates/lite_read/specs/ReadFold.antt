@@ -1,6 +1,9 @@
 -- Futures and streams over a reader: they consume its bytes one after the other until they have a result.
 use Rattle.std.specs.Prelude.{◌≡◌, ℕ, List, [], ◌∷◌}
-use Rattle.lite_read.specs.Uses.{Poll, Ready, Pending, ReadMark, Question, Runs, UpToValue, Waiting, Segment, Segments, SegmentsToValue}
+use Rattle.lite_read.specs.Uses.{Poll, Ready, Pending, ReadMark, Runs, Waiting, Segments}
+use Rattle.lite_base.specs.Answers.{UpToValue}
+use Rattle.lite_base.specs.Runs.{Question}
+use Rattle.lite_base.specs.Segments.{Segment, SegmentsToValue}
 
 -- A fold over the marks of a reader, with states of the type `M`: which bytes it consumes, when it may read on, and
 -- what value it produces.

@@ -1,6 +1,8 @@
 -- The `read_vectored` future: each poll reads once into several buffers.
 use Rattle.std.specs.Prelude.{◌≡◌, ◌≤◌, ℕ, List, length, Some, Result, IfOk}
-use Rattle.lite_read.specs.Uses.{MutBor, Error, IoSliceMut, IfReady, Poll, ReadMark, ReadsInto, room_in, Runs}
+use Rattle.lite_read.specs.Uses.{MutBor, Error, IfReady, Poll, ReadMark, Runs}
+use Rattle.lite_io_base.specs.Runs.{ReadsInto, room_in}
+use Rattle.std.specs.declared.io.slices.IoSliceMut.{IoSliceMut}
 use Rattle.lite_read.specs.declared.read_vectored.ReadVectoredFuture.{ReadVectoredFuture}
 
 -- One poll of `read_vectored`: the reader ran as in a read into one buffer with the room of all buffers together, and

@@ -1,7 +1,8 @@
 -- The first line of some bytes. `position is_newline bytes` is the index of its newline, or `None`. `before_first
 -- is_newline bytes` is the line: the bytes before that newline, or all if there is none.
 use Rattle.std.specs.Prelude.{ℕ, Bool, true, List, length, take, ◌==◌, ◌≡◌, ◌≤◌, if◌then◌else◌}
-use Rattle.lite_read.specs.Uses.{is_ascii, list_all, position_or_len, w64, trailing_zeros}
+use Rattle.lite_read.specs.Uses.{is_ascii, list_all, position_or_len}
+use Rattle.std.specs.Int.{trailing_zeros, w64}
 
 -- The byte is a newline, 0x0A.
 abbrev pub is_newline : ℕ → Bool

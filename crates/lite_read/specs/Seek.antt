@@ -1,6 +1,8 @@
 -- The `seek` future: each poll seeks once.
 use Rattle.std.specs.Prelude.{◌≡◌, ℕ, Result}
-use Rattle.lite_read.specs.Uses.{Error, ErrorKind, SeekFrom, Poll, by_kind}
+use Rattle.lite_read.specs.Uses.{Error, ErrorKind, Poll}
+use Rattle.lite_io_base.specs.Kinds.{by_kind}
+use Rattle.std.specs.declared.io.traits.SeekFrom.{SeekFrom}
 use Rattle.lite_read.specs.declared.seek.SeekFuture.{SeekFuture}
 
 -- One poll of `seek`: it returns what `poll_seek` of the seeker returns for this position. The future keeps its

@@ -1,5 +1,7 @@
 ghost use Rattle.std.specs.Prelude.{None, ◌∷◌, [], ⊤};
-ghost use Rattle.lite_read.specs.Uses.{ranks_of, NoHint, idle_laws, Idle, HoldsWoken, Keeps, OnPending, Registered, Sameness};
+ghost use Rattle.lite_read.specs.Uses.{ranks_of, NoHint, HoldsWoken, Keeps, OnPending, Registered, Sameness};
+ghost use Rattle.lite_io_base.specs.Laws.Runs.{idle_laws};
+ghost use Rattle.lite_io_base.specs.Runs.{Idle};
 ghost use Rattle.lite_read.specs.Bytes.{BytesPend, TellsBytes};
 ghost use Rattle.lite_read.specs.Deterministic.{SameByKind};
 ghost use Rattle.lite_read.specs.Laws.Bytes.{bytes_counting, bytes_laws, inner_calm, inner_counting, inner_laws, inner_steady};
@@ -65,7 +67,7 @@ impl<R: CountedRead> Counted for Bytes<R> {
 }
 
 impl<R: CountedRead> OkCounted for Bytes<R> {
-    ghost use Rattle.lite_read.specs.Uses.{ok_counting};
+    ghost use Rattle.lite_base.specs.Laws.OkRanks.{ok_counting};
 
     type Ok = u8;
 

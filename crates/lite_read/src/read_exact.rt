@@ -1,5 +1,6 @@
 ghost use Rattle.std.specs.Prelude.{◌≤◌, ◌-◌, [], ◌∷◌, length};
-ghost use Rattle.lite_read.specs.Uses.{OneStep, Sameness, Terminates-count};
+ghost use Rattle.lite_read.specs.Uses.{OneStep, Sameness};
+ghost use Rattle.lite_base.specs.Laws.Ends.{Terminates-count};
 ghost use Rattle.lite_read.specs.Deterministic.{SameByKind};
 ghost use Rattle.lite_read.specs.PollSteps.{ReadsMore};
 ghost use Rattle.lite_read.specs.ReadExact.{ReadsExactly};

@@ -1,6 +1,7 @@
 -- `cloned`: every reference is replaced by a clone. Each allocation failure while cloning is an `Err` item before it.
 use Rattle.std.specs.Prelude.{◌≡◌, ⊤, List, [], ◌∷◌, ◌++◌, Option, Some, None, Result, Ok, Err}
-use Rattle.lite_reshape.specs.Uses.{AllByRecursion, Bor, MadeOf, OptionBy, Sameness, Answer, item, Runs, AdapterParts, Through, parts_of}
+use Rattle.lite_reshape.specs.Uses.{AllByRecursion, Bor, OptionBy, Sameness, Answer, item, Runs, AdapterParts, Through, parts_of}
+use Rattle.lite_base.specs.Alike.{MadeOf}
 use Rattle.lite_reshape.specs.Expanding.{Expanding}
 use Rattle.lite_reshape.specs.declared.cloned.Cloned.{Cloned}
 

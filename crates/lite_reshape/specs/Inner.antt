@@ -1,6 +1,7 @@
 -- More about `flatten` and `flat_map`: a step of a poll, when a poll may be made, and their ranks.
 use Rattle.std.specs.Prelude.{◌≡◌, ◌⊎◌, ℕ, ◌+◌, List, [], ◌∷◌, ◌++◌, Option, Some, None, IfSome, replicate}
-use Rattle.lite_reshape.specs.Uses.{Answer, end, item, OneStep, Ranks, Runs, AdapterParts, parts_of}
+use Rattle.lite_reshape.specs.Uses.{Answer, end, item, Ranks, Runs, AdapterParts, parts_of}
+use Rattle.lite_base.specs.Chain.{OneStep}
 use Rattle.lite_reshape.specs.Flatten.{Flattening}
 use Rattle.lite_reshape.specs.declared.flatten.Flatten.{Flatten}
 

@@ -1,6 +1,7 @@
 -- Adapters that leave some items of their source out.
 use Rattle.std.specs.Prelude.{◌≡◌, [], ◌∷◌, Option, Some, None}
-use Rattle.lite_reshape.specs.Uses.{Ready, Pending, Answer, end, item, Question, Runs, OneAnswer, Segment, Segments, Relates}
+use Rattle.lite_reshape.specs.Uses.{Ready, Pending, Answer, end, item, Question, Runs, Segment, Relates}
+use Rattle.lite_base.specs.Segments.{OneAnswer, Segments}
 
 -- `call p x o q`: the call with the item `x` returns `o`, and takes the closure from `p` to `q`. The item is kept if
 -- `o` is `Some`, and rejected if it is `None`.

@@ -1,6 +1,7 @@
 -- `skip_while`: the items before the first one that the predicate rejects are left out.
 use Rattle.std.specs.Prelude.{◌≡◌, Option, Some, None, Bool, true, false, IfSome}
-use Rattle.lite_reshape.specs.Uses.{Mut, CalledAt, TakesAt, Bor, Answer, Ranks, Question, Runs, AtEachItem, AdapterParts, Through, parts_of}
+use Rattle.lite_reshape.specs.Uses.{Mut, CalledAt, Bor, Answer, Ranks, Question, Runs, AtEachItem, AdapterParts, Through, parts_of}
+use Rattle.std.specs.Fn.{TakesAt}
 use Rattle.lite_reshape.specs.Leaving.{LeavesOut}
 use Rattle.lite_reshape.specs.declared.skip_while.SkipWhile.{SkipWhile}
 

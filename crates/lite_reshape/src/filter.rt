@@ -1,6 +1,9 @@
 ghost use Rattle.std.specs.Prelude.{Option, ℕ, ◌≡◌, []};
-ghost use Rattle.lite_reshape.specs.Uses.{asks_testing, ranks_of, CalledAt, Terminates-map, MayShowEach, Accepts, laws_capped, through_counting, ok_counting};
-ghost use Rattle.lite_reshape.specs.Uses.{AgreeFrom, SameItem, through_calm, through_steady_over};
+ghost use Rattle.lite_reshape.specs.Uses.{ranks_of, CalledAt, Terminates-map, Accepts, through_counting, ok_counting, AgreeFrom, SameItem};
+ghost use Rattle.lite_reshape.specs.Uses.{through_calm, through_steady_over};
+ghost use Rattle.lite_stream.specs.EachItem.{MayShowEach};
+ghost use Rattle.lite_stream.specs.Laws.Pointwise.{asks_testing};
+ghost use Rattle.lite_stream.specs.Laws.Through.{laws_capped};
 ghost use Rattle.lite_reshape.specs.Filter.{CanFilter, Filters, filter_parts};
 ghost use Rattle.lite_reshape.specs.Leaving.{Sifts};
 ghost use Rattle.lite_reshape.specs.Laws.Agreeing.{leaves_testing};

@@ -1,8 +1,11 @@
 -- What `unfold` and `try_unfold` share: a function makes a future of each seed. The future's value says what is
 -- yielded, and which seed comes next.
 use Rattle.std.specs.Prelude.{◌≡◌, ◌⊎◌, ⊤, List, [], ◌∷◌, map, flat_map, Option, Some, None}
-use Rattle.lite_source.specs.Uses.{Mut, Called, FoldsTo, Poll, Ready, Pending, Lasting, MadeOf, OptionBy, SameItem, Sameness, Answer, Waiting, AgreeBy}
-use Rattle.lite_source.specs.Uses.{AgreeFrom, Finishes, handed, Question, Runs}
+use Rattle.lite_source.specs.Uses.{Mut, Called, FoldsTo, Poll, Ready, Pending, OptionBy, SameItem, Sameness, Answer, Waiting, AgreeFrom, Finishes}
+use Rattle.lite_source.specs.Uses.{handed, Question, Runs}
+use Rattle.futures.specs.Task.{Lasting}
+use Rattle.lite_base.specs.Alike.{MadeOf}
+use Rattle.lite_base.specs.Calling.{AgreeBy}
 use Rattle.lite_source.specs.Empty.{GivesEnds}
 
 -- What the stream holds between polls: the seed of the next future, or a future that is pending, or nothing, when it is

@@ -1,5 +1,7 @@
 ghost use Rattle.std.specs.Prelude.{◌≡◌};
-ghost use Rattle.lite_source.specs.Uses.{MakesAlways, Keeps, Registered};
+ghost use Rattle.lite_source.specs.Uses.{MakesAlways};
+ghost use Rattle.futures.specs.Task.{Keeps};
+ghost use Rattle.lite_base.specs.Registered.{Registered};
 ghost use Rattle.lite_source.specs.Unfolding.{Current, HeldStep, Holding, IfHeldFuture, IsMade, UnfoldRegisters, UnfoldStep};
 
 use lite_base::{Context, Future, Poll, ready};

@@ -1,6 +1,7 @@
 -- `copied`: every reference that the source yields is replaced by the value it refers to.
 use Rattle.std.specs.Prelude.{◌≡◌}
-use Rattle.lite_stream.specs.Uses.{Bor, MadeOf, Sameness, Answer, Runs}
+use Rattle.lite_stream.specs.Uses.{Bor, Sameness, Answer, Runs}
+use Rattle.lite_base.specs.Alike.{MadeOf}
 use Rattle.lite_stream.specs.Pointwise.{Replaces}
 use Rattle.lite_stream.specs.Through.{AdapterParts, Through, parts_of}
 use Rattle.lite_stream.specs.declared.copied.Copied.{Copied}

@@ -1,5 +1,7 @@
 ghost use Rattle.std.specs.Prelude.{◌≡◌, None};
-ghost use Rattle.lite_stream.specs.Uses.{number_ranks, number_counting, NoHint, ok_counting};
+ghost use Rattle.lite_stream.specs.Uses.{NoHint, ok_counting};
+ghost use Rattle.lite_base.specs.Laws.Ranks.{number_counting};
+ghost use Rattle.lite_base.specs.Ranks.{number_ranks};
 ghost use Rattle.lite_stream.specs.Take.{Takes, is_none_left, left_after, take_parts};
 ghost use Rattle.lite_stream.specs.Laws.Agreeing.{through_steady_over};
 ghost use Rattle.lite_stream.specs.Laws.Calming.{through_calm};

@@ -1,7 +1,8 @@
 -- What `try_collect` makes of the answers of `lines`.
 use Rattle.std.specs.Prelude.{string_bytes, ◌≡◌, List, [], ◌∷◌, ◌++◌, Some, None, Result, Ok, Err}
-use Rattle.lite_theorems.specs.Uses.{◌∙◌, Option, Global, refl, ap, sym, subst, append-nil, append_assoc, Error, String, Poll, Ready, Answer, Gives, item}
-use Rattle.lite_theorems.specs.Uses.{Consumes, Decides, Fold, TakesIn, fold_of, consumes_steps, tries_collect, TryCollectError, Source, Memory, ReadMark}
+use Rattle.lite_theorems.specs.Uses.{◌∙◌, Option, Global, refl, ap, sym, subst, append-nil, append_assoc, Error, String, Poll, Ready, Answer, Gives}
+use Rattle.lite_theorems.specs.Uses.{item, Consumes, Decides, Fold, fold_of, consumes_steps, tries_collect, TryCollectError, Source, Memory, ReadMark}
+use Rattle.lite_consume.specs.Consuming.{TakesIn}
 use Rattle.lite_theorems.specs.Laws.Collected.{Has, held_by}
 use Rattle.lite_theorems.specs.Lines.{CollectsOf, Line, StandsFor, as_lines, lines_told}
 use Rattle.lite_theorems.proofs.Telling.{Given, Text}

@@ -1,8 +1,10 @@
 -- What the answers of `lines` say of the lines that are told.
 use Rattle.std.specs.Prelude.{⊤, string_bytes, ◌≡◌, ◌≢◌, ◌==◌, ℕ, List, [], ◌∷◌, ◌++◌, Some, None, Result, Ok, Err, Bool, true, false}
-use Rattle.lite_theorems.specs.Uses.{◌∙◌, inl, inr, Option, Global, arith, eqb-true, refl, ap, sym, subst, append_assoc, error_kind, FoldsTo, Error}
-use Rattle.lite_theorems.specs.Uses.{OutOfMemory, String, Ready, Pending, Answer, segment_front, ReadMark, bytes, lining, Cut, PieceSegments, IsText}
+use Rattle.lite_theorems.specs.Uses.{◌∙◌, inl, inr, Option, Global, arith, refl, ap, sym, subst, append_assoc, error_kind, FoldsTo, Error}
+use Rattle.lite_theorems.specs.Uses.{OutOfMemory, String, Ready, Pending, Answer, segment_front, ReadMark, bytes, lining, Cut, PieceSegments}
 use Rattle.lite_theorems.specs.Uses.{without_return}
+use Rattle.lite_read.specs.LineText.{IsText}
+use Rattle.std.proofs.Common.{eqb-true}
 use Rattle.lite_theorems.specs.Lines.{Line, StandsFor, lines_told}
 
 abbrev pub Text : Type 0

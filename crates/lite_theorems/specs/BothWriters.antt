@@ -1,6 +1,7 @@
 -- A writer that was given bytes and then flushed, and two such writers that are alike.
 use Rattle.std.specs.Prelude.{◌≡◌, ◌⊎◌, ℕ, List, [], ◌∷◌, ◌++◌, Result, Ok, Err, IsOk, ⊤}
-use Rattle.lite_theorems.specs.Uses.{error_kind, Error, WriteZero, StandsFirst, WriteMark, bytes_taken, Runs}
+use Rattle.lite_theorems.specs.Uses.{error_kind, Error, StandsFirst, WriteMark, bytes_taken, Runs}
+use Rattle.std.specs.declared.io.ErrorKind.TheVariants.{WriteZero}
 
 -- Each mark is a `Pending`, or a write that took at least one byte. So none is an error, a flush or a close.
 abbrev pub OnlyWrites : List WriteMark → Type 0

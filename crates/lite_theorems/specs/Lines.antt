@@ -1,7 +1,8 @@
 -- What a collection of the lines of a reader's first bytes holds, as a function of what the reader produced.
 use Rattle.std.specs.Prelude.{◌≡◌, ◌==◌, ◌⊎◌, if◌then◌else◌, ℕ, zero, suc, List, [], ◌∷◌, ◌++◌, map, string_bytes, IsUtf8, Result, Ok, Err}
-use Rattle.lite_theorems.specs.Uses.{Global, error_kind, Error, ErrorKind, InvalidData, OutOfMemory, String, Poll, Gives, Runs, TryCollectError, Source, Memory}
+use Rattle.lite_theorems.specs.Uses.{Global, error_kind, Error, ErrorKind, OutOfMemory, String, Poll, Gives, Runs, TryCollectError, Source, Memory}
 use Rattle.lite_theorems.specs.Uses.{ReadMark, bytes, without_return}
+use Rattle.std.specs.declared.io.ErrorKind.TheVariants.{InvalidData}
 
 -- The bytes of a line, or the kind of an error that came in its place.
 abbrev pub Line : Type 0

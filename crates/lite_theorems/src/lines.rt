@@ -1,5 +1,6 @@
 ghost use Rattle.std.specs.Prelude.{◌≡◌, ◌<◌, [], IfErr, IfOk};
-ghost use Rattle.lite_theorems.specs.Uses.{ahead, reader_capacity, reader_inner, take_inner};
+ghost use Rattle.lite_theorems.specs.Uses.{ahead, reader_capacity, take_inner};
+ghost use Rattle.lite_buffered.specs.BufReader.{reader_inner};
 ghost use Rattle.lite_theorems.specs.Lines.{AtEachValue, CollectsLines};
 
 use lite_base::Future;

@@ -1,6 +1,9 @@
 -- The value of `all`, by the items of the stream.
 use Rattle.std.specs.Prelude.{◌≡◌, List, Bool, true, false}
-use Rattle.lite_views.specs.Uses.{All, list_all, Question, alls, fold_of}
+use Rattle.lite_views.specs.Uses.{Question, fold_of}
+use Rattle.lite_consume.specs.All.{alls}
+use Rattle.lite_consume.specs.declared.all.All.{All}
+use Rattle.std.specs.List.{list_all}
 use Rattle.lite_views.proofs.Views.{AnswersAs}
 use Rattle.lite_views.proofs.Consume.{MakesOnly, asked_made}
 

@@ -1,6 +1,9 @@
 -- The value of `any`, by the items of the stream.
 use Rattle.std.specs.Prelude.{◌≡◌, List, Bool, true, false}
-use Rattle.lite_views.specs.Uses.{Any, list_any, Question, anys, fold_of}
+use Rattle.lite_views.specs.Uses.{Question, fold_of}
+use Rattle.lite_consume.specs.Any.{anys}
+use Rattle.lite_consume.specs.declared.any.Any.{Any}
+use Rattle.std.specs.List.{list_any}
 use Rattle.lite_views.proofs.Views.{AnswersAs}
 use Rattle.lite_views.proofs.Consume.{MakesOnly, asked_made}
 

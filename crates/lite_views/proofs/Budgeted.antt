@@ -1,7 +1,10 @@
 -- The items of `with_budget`, by those of its source.
 use Rattle.std.specs.Prelude.{ℕ, List, [], ◌∷◌, Some, None}
 use Rattle.std.proofs.Common.{◌-◌}
-use Rattle.lite_views.specs.Uses.{inl, inr, Ready, Pending, Answer, Paces, left_behind, Runs, Budgets, budget_parts, Budgeted}
+use Rattle.lite_views.specs.Uses.{inl, inr, Ready, Pending, Answer, Runs}
+use Rattle.lite_base.specs.Paces.{Paces, left_behind}
+use Rattle.lite_merge.specs.Budgeted.{Budgets, budget_parts}
+use Rattle.lite_merge.specs.declared.budgeted.Budgeted.{Budgeted}
 use Rattle.lite_views.proofs.Views.{Carries, listed_through}
 use Rattle.lite_views.specs.Views.{Lists, ListsAs}
 

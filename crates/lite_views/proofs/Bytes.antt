@@ -1,7 +1,9 @@
 -- The items of `bytes` of a reader of which it is known what bytes are to come.
 use Rattle.lite_views.proofs.Views.{listed}
 use Rattle.std.specs.Prelude.{ℕ, List, [], ◌∷◌, map, Some, None, Result, Ok}
-use Rattle.lite_views.specs.Uses.{Bytes, ap, Error, Ready, Pending, Answer, Runs, TellsKnown, Known, Knows, knows_spends, ReadMark, TellsEach, TellsBytes}
+use Rattle.lite_views.specs.Uses.{ap, Error, Ready, Pending, Answer, Runs, TellsKnown, Known, Knows, knows_spends, ReadMark}
+use Rattle.lite_read.specs.Bytes.{TellsBytes, TellsEach}
+use Rattle.lite_read.specs.declared.bytes.Bytes.{Bytes}
 use Rattle.lite_views.specs.Views.{Fits, ListsAs}
 
 bytes_fit : (marks : List ReadMark) (out : List (Answer (Result ℕ Error))) (bs ys : List ℕ) → TellsEach marks out

@@ -1,6 +1,8 @@
 -- The items of `chain`, by those of its sources.
 use Rattle.std.specs.Prelude.{◌≡◌, List, [], ◌∷◌, ◌++◌, Some, None}
-use Rattle.lite_views.specs.Uses.{inl, inr, Ready, Pending, Answer, item, Runs, Cuts, Chains, Joins, is_done, second_after, Chain, Part, First, Second}
+use Rattle.lite_views.specs.Uses.{inl, inr, Ready, Pending, Answer, item, Runs, Cuts, Joins, is_done, second_after, Part, First, Second}
+use Rattle.lite_reshape.specs.Chain.{Chains}
+use Rattle.lite_reshape.specs.declared.chain.Chain.{Chain}
 use Rattle.lite_views.proofs.Views.{listed}
 use Rattle.lite_views.specs.Views.{Fits, Lists, ListsAs}
 use Rattle.lite_views.proofs.Continuing.{continued_fits, endless_fits}

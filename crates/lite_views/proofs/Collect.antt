@@ -1,6 +1,8 @@
 -- The value of `collect`, by the items of the stream.
 use Rattle.std.specs.Prelude.{◌≡◌, List, [], Result, IfOk, IfSome}
-use Rattle.lite_views.specs.Uses.{Collect, fold_of, collects, Refused}
+use Rattle.lite_views.specs.Uses.{fold_of, Refused}
+use Rattle.lite_gather.specs.Collect.{collects}
+use Rattle.lite_gather.specs.declared.collect.Collect.{Collect}
 use Rattle.lite_views.proofs.Consume.{MakesOf}
 use Rattle.lite_views.proofs.Gathering.{WhereSome, gathered, where_some}
 

@@ -1,6 +1,8 @@
 -- The items of `copied`, by those of its source.
 use Rattle.std.specs.Prelude.{List, map, refl}
-use Rattle.lite_views.specs.Uses.{Copied, Answer, Always, Runs, CopiesItem, CopiesAll, copied_parts, Exchanges}
+use Rattle.lite_views.specs.Uses.{Answer, Always, Runs, Exchanges}
+use Rattle.lite_stream.specs.Copied.{CopiesAll, CopiesItem, copied_parts}
+use Rattle.lite_stream.specs.declared.copied.Copied.{Copied}
 use Rattle.std.proofs.Common.{Bor}
 use Rattle.lite_views.proofs.Views.{listed_through}
 use Rattle.lite_views.specs.Views.{Lists, ListsAs}

@@ -1,9 +1,13 @@
 -- `copy` from a reader of which it is known what bytes are to come, to a writer of which it is known what it keeps.
 use Rattle.std.specs.Prelude.{◌≡◌, ◌%◌, ℕ, List, [], ◌∷◌, ◌++◌, refl, ⊤, Result, Ok, Err, IfOk}
 use Rattle.std.proofs.Common.{◌+◌, ◌^◌}
-use Rattle.lite_views.specs.Uses.{◌∙◌, length, ap, sym, arith, append-nil, Error, Poll, Ready, Pending, Gives, strip, Runs, CopyRuns, CopyValue, Moves}
-use Rattle.lite_views.specs.Uses.{NothingCopied, held_of, met_in, source_of, CopyFuture, BytesAlone, bytes_told, Known, Knows, TellsKnown, knows_spends, Stored}
-use Rattle.lite_views.specs.Uses.{Stores, stores_kept, ReadMark, WriteMark, bytes_taken}
+use Rattle.lite_views.specs.Uses.{◌∙◌, length, ap, sym, arith, append-nil, Error, Poll, Ready, Pending, Gives, Runs, Known, Knows, TellsKnown}
+use Rattle.lite_views.specs.Uses.{knows_spends, Stored, Stores, stores_kept, ReadMark, WriteMark, bytes_taken}
+use Rattle.lite_base.specs.Answers.{strip}
+use Rattle.lite_write.specs.Copy.{CopyRuns, CopyValue, Moves}
+use Rattle.lite_write.specs.MarkLists.{BytesAlone, bytes_told}
+use Rattle.lite_write.specs.Parts.{NothingCopied, held_of, met_in, source_of}
+use Rattle.lite_write.specs.declared.copy.CopyFuture.{CopyFuture}
 use Rattle.lite_views.proofs.Futures.{when_left}
 use Rattle.lite_views.specs.Waiting.{WhenLeft}
 

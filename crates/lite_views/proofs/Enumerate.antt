@@ -1,7 +1,10 @@
 -- The items of `enumerate`, by those of its source.
 use Rattle.std.specs.Prelude.{◌≡◌, ℕ, ◌%◌, List, [], ◌∷◌, refl, ⊤}
 use Rattle.std.proofs.Common.{◌<◌, ◌+◌, ◌^◌}
-use Rattle.lite_views.specs.Uses.{Enumerate, length, arith, mod-eq_of_lt, enumerate_from, Answer, Always, Runs, Numbers, Enumerates, enumerate_parts, Exchanges}
+use Rattle.lite_views.specs.Uses.{length, arith, enumerate_from, Answer, Always, Runs, Exchanges}
+use Rattle.lite_stream.specs.Enumerate.{Enumerates, Numbers, enumerate_parts}
+use Rattle.lite_stream.specs.declared.enumerate.Enumerate.{Enumerate}
+use Rattle.std.proofs.Math.Nat.{mod-eq_of_lt}
 use Rattle.lite_views.proofs.Views.{listed_through}
 use Rattle.lite_views.specs.Views.{Lists, ListsAs}
 use Rattle.lite_views.proofs.Carrying.{exchanged_fits}

@@ -1,6 +1,7 @@
 -- The value of `find`, by the items of the stream.
 use Rattle.std.specs.Prelude.{◌≡◌, List, Bool, true, false}
-use Rattle.lite_views.specs.Uses.{Find, find, Answer, Consume, Hints, MutBor, Question, Runs, StreamLaws, fold_of, finds}
+use Rattle.lite_views.specs.Uses.{Find, Answer, Consume, Hints, MutBor, Question, Runs, StreamLaws, fold_of, finds}
+use Rattle.std.specs.List.{find}
 use Rattle.lite_views.specs.Futures.{FindRuns, RestIfFound, behind_match}
 use Rattle.lite_views.specs.Views.{Lists}
 use Rattle.lite_views.specs.Waiting.{WhenLeft}

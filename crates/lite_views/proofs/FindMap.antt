@@ -1,6 +1,8 @@
 -- The value of `find_map`, by the items of the stream.
 use Rattle.std.specs.Prelude.{◌≡◌, List, [], ◌∷◌, Option, Some, None}
-use Rattle.lite_views.specs.Uses.{FindMap, inl, inr, filter_map, slice_get, Question, fold_of, finds_map}
+use Rattle.lite_views.specs.Uses.{inl, inr, filter_map, slice_get, Question, fold_of}
+use Rattle.lite_consume.specs.FindMap.{finds_map}
+use Rattle.lite_consume.specs.declared.find_map.FindMap.{FindMap}
 use Rattle.lite_views.proofs.Views.{AnswersAs, answered}
 use Rattle.lite_views.proofs.Consume.{MakesOnly}
 

@@ -1,6 +1,7 @@
 -- The value of `fold`, by the items of the stream.
 use Rattle.std.specs.Prelude.{◌≡◌, List, [], ◌∷◌, Some}
-use Rattle.lite_views.specs.Uses.{inl, inr, fold, fold_of, folds}
+use Rattle.lite_views.specs.Uses.{inl, inr, fold_of, folds}
+use Rattle.std.specs.List.{fold}
 use Rattle.lite_consume.specs.declared.fold.Fold.{Fold as FoldFolder}
 use Rattle.lite_views.proofs.Consume.{MakesOnly}
 

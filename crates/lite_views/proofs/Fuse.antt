@@ -1,6 +1,7 @@
 -- The items of `fuse`, by those of its source.
 use Rattle.std.specs.Prelude.{◌≡◌, List, [], ◌∷◌, refl, true, false}
-use Rattle.lite_views.specs.Uses.{Fuse, append-nil, Answer, end, Runs, FusesOn, Fuses, fuse_parts}
+use Rattle.lite_views.specs.Uses.{Fuse, append-nil, Answer, end, Runs, FusesOn}
+use Rattle.lite_stream.specs.Fuse.{Fuses, fuse_parts}
 use Rattle.lite_views.proofs.Views.{Carries, listed_through}
 use Rattle.lite_views.specs.Views.{Lists, ListsAs}
 use Rattle.lite_views.proofs.Continuing.{continued_fits}

@@ -1,10 +1,13 @@
 -- What futures share that were waited for; what those share that read from a reader of which it is known what bytes are
 -- to come; and `read_to_end`, whose lemma `read_to_string` shares.
 use Rattle.std.specs.Prelude.{◌≡◌, ℕ, List, [], ◌∷◌, ◌++◌, ⊤, Result, Ok, Err, IfOk}
-use Rattle.std.proofs.Common.{◌+◌}
-use Rattle.lite_views.specs.Uses.{length, ap, sym, subst, arith, append_assoc, append-nil, length-append, FoldsTo, Error, Poll, Ready, Pending, Gives}
-use Rattle.lite_views.specs.Uses.{folds_follow, to_value_last, Runs, TellsKnown, Known, Knows, spends_bytes, spends_split, knows_spends, ReadMark, bytes}
-use Rattle.lite_views.specs.Uses.{AnswerMarks, ReadFold, ReadFolds, Gathers, Appended, appends}
+use Rattle.std.proofs.Common.{◌+◌, length-append}
+use Rattle.lite_views.specs.Uses.{length, ap, sym, subst, arith, append_assoc, append-nil, FoldsTo, Error, Poll, Ready, Pending, Gives, to_value_last}
+use Rattle.lite_views.specs.Uses.{Runs, TellsKnown, Known, Knows, spends_bytes, spends_split, knows_spends, ReadMark, bytes, AnswerMarks, ReadFold}
+use Rattle.lite_views.specs.Uses.{appends}
+use Rattle.lite_base.specs.Laws.Calls.{folds_follow}
+use Rattle.lite_read.specs.ReadFold.{Gathers, ReadFolds}
+use Rattle.lite_read.specs.ReadToEnd.{Appended}
 use Rattle.lite_views.specs.Waiting.{LeftAs, WhenLeft}
 use Rattle.lite_views.proofs.Waiting.{left_seen}
 

@@ -1,9 +1,14 @@
 -- The items of `then` and `cloned`, which share one lemma, and of `flatten` and `flat_map`, which share another: these
 -- adapters hold what was made of an item.
 use Rattle.std.specs.Prelude.{◌≡◌, List, [], ◌∷◌, ◌++◌, map, refl, ⊤, Option, Some, None, Result, Ok, flat_map}
-use Rattle.lite_views.specs.Uses.{inl, inr, ap, sym, subst, append-nil, Called, Mut, AllByRecursion, Bor, Poll, Ready, Pending, Answer, Gives, Waiting, end}
-use Rattle.lite_views.specs.Uses.{Always, Calls, handed, Question, Runs, Clones, IsCloneRefusal, Refers, Flat, Flattening, FlatMaps, FlatMap, Expanding}
-use Rattle.lite_views.specs.Uses.{Expands, HandsOut, Exchanges}
+use Rattle.lite_views.specs.Uses.{inl, inr, ap, sym, subst, append-nil, Called, Mut, AllByRecursion, Bor, Poll, Ready, Pending, Answer, Gives}
+use Rattle.lite_views.specs.Uses.{Waiting, end, Always, handed, Question, Runs, Flat, Expands, HandsOut, Exchanges}
+use Rattle.lite_base.specs.Calling.{Calls}
+use Rattle.lite_reshape.specs.Cloned.{Clones, IsCloneRefusal, Refers}
+use Rattle.lite_reshape.specs.Expanding.{Expanding}
+use Rattle.lite_reshape.specs.FlatMap.{FlatMaps}
+use Rattle.lite_reshape.specs.Flatten.{Flattening}
+use Rattle.lite_reshape.specs.declared.flat_map.FlatMap.{FlatMap}
 use Rattle.lite_views.proofs.Continuing.{continued_fits, endless_fits}
 use Rattle.lite_views.proofs.Views.{Carries, listed}
 use Rattle.lite_views.specs.Views.{Fits, HasValue, Lists, ListsAs}

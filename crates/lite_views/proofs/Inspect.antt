@@ -1,6 +1,8 @@
 -- The items of `inspect`, by those of its source.
 use Rattle.std.specs.Prelude.{List, refl, ⊤}
-use Rattle.lite_views.specs.Uses.{Inspect, Answer, Always, Question, Runs, ShowsItem, Inspects, inspect_parts, Exchanges}
+use Rattle.lite_views.specs.Uses.{Answer, Always, Question, Runs, Exchanges}
+use Rattle.lite_stream.specs.Inspect.{Inspects, ShowsItem, inspect_parts}
+use Rattle.lite_stream.specs.declared.inspect.Inspect.{Inspect}
 use Rattle.lite_views.proofs.Views.{listed_through}
 use Rattle.lite_views.specs.Views.{Lists, ListsAs}
 use Rattle.lite_views.proofs.Carrying.{exchanged_fits}

@@ -1,9 +1,18 @@
 -- The items of `iter`.
 use Rattle.std.specs.Prelude.{◌≡◌, ℕ, List, [], ◌∷◌, refl, Option, Some, None, ⊤}
 use Rattle.std.proofs.Common.{◌+◌, ◌-◌}
-use Rattle.lite_views.specs.Uses.{length-range_with_len, ◌∙◌, suc, length, ap, sym, arith, array_into_iter_items, array_steps, Count, at_most, copied_steps}
-use Rattle.lite_views.specs.Uses.{range_with_len, range_steps, iter_steps, into_iter_items, into_iter_len, into_iter_steps, Global, Range, IntoIter, Ready}
-use Rattle.lite_views.specs.Uses.{Pending, Answer, slice_items, Iterates, Iter}
+use Rattle.lite_views.specs.Uses.{◌∙◌, suc, length, ap, sym, arith, Count, into_iter_items, into_iter_len, into_iter_steps, IntoIter, Ready, Pending}
+use Rattle.lite_views.specs.Uses.{Answer, Iterates, Iter}
+use Rattle.lite_source.specs.Laws.Iterators.{slice_items}
+use Rattle.std.proofs.lemmas.List.FromFn.{length-range_with_len}
+use Rattle.std.specs.Array.Iter.{array_into_iter_items, array_steps}
+use Rattle.std.specs.Iterator.{at_most}
+use Rattle.std.specs.Iterator.Adapters.{copied_steps}
+use Rattle.std.specs.List.{range_with_len}
+use Rattle.std.specs.Range.{range_steps}
+use Rattle.std.specs.Slice.Iter.{iter_steps}
+use Rattle.std.specs.declared.alloc.Global.{Global}
+use Rattle.std.specs.declared.ops.Range.{Range}
 use Rattle.std.specs.declared.array.IntoIter.{IntoIter as ArrayIter}
 use Rattle.std.specs.declared.iter.Copied.{Copied}
 use Rattle.std.specs.declared.slice.Iter.{Iter as SliceIter}

@@ -1,6 +1,7 @@
 -- The value of `last`, by the items of the stream.
 use Rattle.std.specs.Prelude.{List, [], ◌∷◌, Option}
-use Rattle.lite_views.specs.Uses.{Last, ◌∙◌, inl, inr, ap, last_or, Answer, Runs, fold_of, lasts, Consume}
+use Rattle.lite_views.specs.Uses.{Last, ◌∙◌, inl, inr, ap, Answer, Runs, fold_of, lasts, Consume}
+use Rattle.std.specs.List.{last_or}
 use Rattle.lite_views.specs.Futures.{LastRuns}
 use Rattle.lite_views.specs.Views.{Lists, ValueIs}
 use Rattle.lite_views.proofs.Consume.{MakesOnly, only_made}

@@ -1,7 +1,10 @@
 -- The items of `or` and `race` if one of the two streams is never ready, and what the first poll of `or` returns.
 use Rattle.std.specs.Prelude.{◌≡◌, List, [], ◌∷◌, ◌++◌, map, refl, Bool, true, false, Option, Some, None, ⊤}
-use Rattle.lite_views.specs.Uses.{AllEnds, Answer, Endless, Fuse, FusesOn, MergeRow, MergeRows, Merges, Ors, Pending, RacesOn, Ready, Runs, Stream}
-use Rattle.lite_views.specs.Uses.{Waiting, append-nil, end, is_first, item, rows_by}
+use Rattle.lite_views.specs.Uses.{AllEnds, Answer, Endless, Fuse, FusesOn, MergeRow, MergeRows, Pending, Ready, Runs, Stream, Waiting, append-nil}
+use Rattle.lite_views.specs.Uses.{end, is_first, item, rows_by}
+use Rattle.lite_merge.specs.Merge.{Merges}
+use Rattle.lite_merge.specs.Or.{Ors}
+use Rattle.lite_merge.specs.Race.{RacesOn}
 use Rattle.lite_merge.specs.declared.or.Or.{Or}
 use Rattle.lite_merge.specs.declared.race.Race.{Race}
 use Rattle.lite_views.specs.Answering.{AtOnce, NeverReady}

@@ -1,8 +1,10 @@
 -- The value of `next`, by the items of the stream, and what is left of the stream.
 use Rattle.std.specs.Prelude.{◌≡◌, ℕ, List, [], ◌∷◌, ◌++◌, refl, Option, Some, None, IfSome}
 use Rattle.std.proofs.Common.{◌≤◌}
-use Rattle.lite_views.specs.Uses.{Lent, MutBor, Next, ◌∙◌, suc, length, inl, inr, ap, arith, slice_get, Poll, Ready, Answer, Gives, item, Runs, Folds, nexts}
+use Rattle.lite_views.specs.Uses.{Lent, MutBor, ◌∙◌, suc, length, inl, inr, ap, arith, slice_get, Poll, Ready, Answer, Gives, item, Runs, Folds}
 use Rattle.lite_views.specs.Uses.{Consume, Pending, Hints, StreamLaws, Waiting, consumes_steps, drop, end, items_in, replicate, until_end, zero}
+use Rattle.lite_consume.specs.Next.{nexts}
+use Rattle.lite_consume.specs.declared.next.Next.{Next}
 use Rattle.lite_views.proofs.Futures.{when_left}
 use Rattle.lite_views.proofs.Views.{lent_lists, listed, seen, value_holds}
 use Rattle.lite_views.specs.Answering.{AtOnce, NeverReady}

@@ -1,6 +1,6 @@
 -- The item of `once`.
 use Rattle.std.specs.Prelude.{[], ◌∷◌, Some}
-use Rattle.lite_views.specs.Uses.{GivesOnce, once_left}
+use Rattle.lite_source.specs.Once.{GivesOnce, once_left}
 use Rattle.lite_views.specs.Answering.{AtOnce}
 use Rattle.lite_views.specs.Views.{Fronts, ListsAs}
 use Rattle.lite_views.proofs.Views.{listed}

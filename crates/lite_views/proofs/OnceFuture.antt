@@ -1,6 +1,9 @@
 -- The item of `once_future`, by the value of its future.
 use Rattle.std.specs.Prelude.{◌≡◌, List, [], ◌∷◌, map, Option, Some, None}
-use Rattle.lite_views.specs.Uses.{AllByRecursion, Answer, end, GivesFuture, OnceFuture, Poll, Runs, Spends, handed}
+use Rattle.lite_views.specs.Uses.{AllByRecursion, Answer, end, Poll, Runs, handed}
+use Rattle.lite_base.specs.Future.Spent.{Spends}
+use Rattle.lite_source.specs.OnceFuture.{GivesFuture}
+use Rattle.lite_source.specs.declared.once_future.OnceFuture.{OnceFuture}
 use Rattle.lite_views.specs.Views.{Fits, HasValue, ListsAs}
 use Rattle.lite_views.proofs.Holding.{given_fits, gives_handed, waiting_fits, waiting_handed}
 use Rattle.lite_views.proofs.Views.{listed}

@@ -1,9 +1,23 @@
 -- `read`, `write`, `flush` and `close`, which are polled by calls: what the whole wait did to the reader or the writer.
 use Rattle.std.specs.Prelude.{◌≡◌, ◌≤◌, ◌⊎◌, ℕ, zero, suc, List, [], ◌∷◌, ◌++◌, refl, drop, length, take, Result, Ok, Err, IfOk, ⊤}
-use Rattle.lite_views.specs.Uses.{Arrives, CloseFuture, Closes, Error, FlushFuture, Flushes, Gives, Known, Knows, MarkLaws, MutBor, Poll, PolledByCalls, ReadFuture}
-use Rattle.lite_views.specs.Uses.{ReadMark, Reads, Ready, Pending, Runs, Stored, Stores, TellsKnown, WriteFuture, WriteMark, Writes, bytes_taken, done_marks, replicate}
-use Rattle.lite_views.specs.Uses.{knows_spends, moved, read_marks, spends_bytes, stores_kept, taken_both, write_marks, ap, append-nil, arith, inl, inr, sym, ◌∙◌}
-use Rattle.lite_views.specs.Uses.{drop-append_seam, length-take-le, take-append_seam, take-nil}
+use Rattle.lite_views.specs.Uses.{Error, Gives, Known, Knows, MutBor, Poll, ReadMark, Ready, Pending, Runs, Stored, Stores, TellsKnown, WriteMark}
+use Rattle.lite_views.specs.Uses.{bytes_taken, replicate, knows_spends, spends_bytes, stores_kept, taken_both, ap, append-nil, arith, inl, inr, sym}
+use Rattle.lite_views.specs.Uses.{◌∙◌, drop-append_seam, take-append_seam}
+use Rattle.lite_io_base.specs.Marks.{moved, read_marks}
+use Rattle.lite_io_base.specs.Runs.{MarkLaws}
+use Rattle.lite_io_base.specs.Stored.{Arrives}
+use Rattle.lite_io_base.specs.Takings.{done_marks, write_marks}
+use Rattle.lite_read.specs.Polled.{PolledByCalls}
+use Rattle.lite_read.specs.Read.{Reads}
+use Rattle.lite_read.specs.declared.read.ReadFuture.{ReadFuture}
+use Rattle.lite_write.specs.Close.{Closes}
+use Rattle.lite_write.specs.Flush.{Flushes}
+use Rattle.lite_write.specs.Write.{Writes}
+use Rattle.lite_write.specs.declared.close.CloseFuture.{CloseFuture}
+use Rattle.lite_write.specs.declared.flush.FlushFuture.{FlushFuture}
+use Rattle.lite_write.specs.declared.write.WriteFuture.{WriteFuture}
+use lib.Seq.{take-nil}
+use Rattle.std.proofs.lemmas.List.{length-take-le}
 use Rattle.lite_views.specs.OneCall.{ArrivesAll, ReadsFront, WritesFront}
 use Rattle.lite_views.specs.Waiting.{WhenLeft}
 use Rattle.lite_views.proofs.Futures.{when_left}

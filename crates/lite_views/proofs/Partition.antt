@@ -1,6 +1,9 @@
 -- The value of `partition`, by the items of the stream.
 use Rattle.std.specs.Prelude.{◌≡◌, List, [], ◌∷◌, ◌++◌, Bool, true, false, cond, not, None, Result, IfOk, IfSome}
-use Rattle.lite_views.specs.Uses.{Partition, filter-append, ◌∙◌, ap, append-nil, not-not, filter, Question, fold_of, Sorted, partitions, Partitioned, Refused}
+use Rattle.lite_views.specs.Uses.{filter-append, ◌∙◌, ap, append-nil, filter, Question, fold_of, Refused}
+use Rattle.lite_gather.specs.Partition.{Partitioned, Sorted, partitions}
+use Rattle.lite_gather.specs.declared.partition.Partition.{Partition}
+use Rattle.std.proofs.Math.Bool.{not-not}
 use Rattle.lite_views.proofs.Views.{AnswersAs}
 use Rattle.lite_views.proofs.Consume.{MakesOf}
 use Rattle.lite_views.proofs.Gathering.{WhereSome, gathered, where_some}

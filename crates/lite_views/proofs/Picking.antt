@@ -4,13 +4,23 @@ use Rattle.lite_base.specs.declared.future.poll_fn.PollFn.{PollFn}
 use Rattle.lite_base.specs.Future.Zip.{FutureZips}
 use Rattle.lite_base.specs.declared.future.zip.Zip.{Zip}
 use Rattle.std.specs.Prelude.{◌≡◌, ◌+◌, ◌⊎◌, ⊤, List, [], ◌∷◌, ◌++◌, map, refl, Bool, true, Result, Ok, Err}
-use Rattle.lite_views.specs.Uses.{length, inl, inr, ap, sym, subst, arith, AllByRecursion, Stream, Poll, Ready, Pending, Gives, Waiting, Finishes, Runs, Stands}
-use Rattle.lite_views.specs.Uses.{FutureOrs, PickRow, PickRows, Picks, FutureRacesOn, is_first, PairRows, TryZips, try_pair, Called, Context, MutBor, Polled}
-use Rattle.lite_views.specs.Uses.{Poller, waiting_not_gives, rows_by, Half, Asked, Gave, Taken, Or, Race, TryZip}
+use Rattle.lite_views.specs.Uses.{length, inl, inr, ap, sym, subst, arith, AllByRecursion, Stream, Poll, Ready, Pending, Gives, Waiting, Finishes}
+use Rattle.lite_views.specs.Uses.{Runs, is_first, TryZips, Called, Context, MutBor, Poller, rows_by, TryZip, CallAnswers, FoldsTo}
+use Rattle.lite_base.specs.Future.Calls.{Polled}
+use Rattle.lite_base.specs.Future.Half.{Stands}
+use Rattle.lite_base.specs.Future.Or.{FutureOrs}
+use Rattle.lite_base.specs.Future.Picks.{PickRow, PickRows, Picks}
+use Rattle.lite_base.specs.Future.Race.{FutureRacesOn}
+use Rattle.lite_base.specs.Future.Together.{PairRows}
+use Rattle.lite_base.specs.Future.TryZip.{try_pair}
+use Rattle.lite_base.specs.Laws.Answers.{waiting_not_gives}
+use Rattle.lite_base.specs.declared.future.half.Half.{Half}
+use Rattle.lite_base.specs.declared.future.half.Half.TheVariants.{Asked, Gave, Taken}
+use Rattle.lite_base.specs.declared.future.or.Or.{Or}
+use Rattle.lite_base.specs.declared.future.race.Race.{Race}
 use Rattle.lite_views.specs.Answering.{AtOnce, HasOk, HasValueAs, NeverReady, PickedValue, ReturnedBy}
 use Rattle.lite_views.specs.Futures.{TryZipRuns, ZipRuns}
 use Rattle.lite_views.specs.Views.{HasValue, ValueHolds, ValueIs}
-use Rattle.lite_views.specs.Uses.{CallAnswers, FoldsTo}
 use Rattle.lite_views.proofs.Views.{value_holds}
 
 -- If both lists are done when the rows are, the value of the rows is the last of one of the lists.

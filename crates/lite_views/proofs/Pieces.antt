@@ -3,8 +3,10 @@ use Rattle.lite_views.proofs.OkLists.{ok_seen}
 use Rattle.std.specs.Prelude.{◌≡◌, ℕ, List, [], ◌∷◌, ◌++◌, refl, ⊤, Option, Some, None, Result, Ok, Err}
 use Rattle.std.proofs.Common.{◌<◌}
 use Rattle.lite_views.specs.Uses.{◌∙◌, length, ap, subst, arith, FoldsTo, Error, Ready, Pending, Answer, Runs, TellsKnown, Known, Knows, spends_bytes}
-use Rattle.lite_views.specs.Uses.{spends_split, knows_spends, ReadMark, bytes, Cut, CutsPiece, Itemised, pieces, PieceSegments, Flows, StreamOver, AnswerMarks}
-use Rattle.lite_views.specs.Uses.{ReadFold, last_piece, pieces_from}
+use Rattle.lite_views.specs.Uses.{spends_split, knows_spends, ReadMark, bytes, Cut, CutsPiece, AnswerMarks, ReadFold}
+use Rattle.lite_read.specs.BytePieces.{last_piece, pieces_from}
+use Rattle.lite_read.specs.Pieces.{Itemised, pieces}
+use Rattle.lite_read.specs.Segments.{Flows, PieceSegments, StreamOver}
 use Rattle.lite_views.specs.OkLists.{OkFits, OkLists, OkListsAs}
 use Rattle.lite_views.proofs.Equal.{equal, not_equal}
 

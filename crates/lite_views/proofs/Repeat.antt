@@ -1,6 +1,8 @@
 -- The item of `repeat`, if its clones equal it and are not refused.
 use Rattle.std.specs.Prelude.{◌≡◌, List, [], ◌∷◌, Some, None, Result, Ok, Err}
-use Rattle.lite_views.specs.Uses.{ap, AllByRecursion, Ready, Pending, Answer, IsCloned, Repeats, Repeat}
+use Rattle.lite_views.specs.Uses.{ap, AllByRecursion, Ready, Pending, Answer}
+use Rattle.lite_source.specs.Repeat.{IsCloned, Repeats}
+use Rattle.lite_source.specs.declared.repeat.Repeat.{Repeat}
 use Rattle.lite_views.specs.Views.{EachIs, Seen, GoesOn}
 use Rattle.lite_views.proofs.Views.{seen}
 

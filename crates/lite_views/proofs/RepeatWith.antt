@@ -1,6 +1,8 @@
 -- The item of `repeat_with`, if its function always returns that.
 use Rattle.std.specs.Prelude.{◌≡◌, refl}
-use Rattle.lite_views.specs.Uses.{Call, Called, Mut, RepeatWith, RepeatsWith}
+use Rattle.lite_views.specs.Uses.{Called, Mut}
+use Rattle.lite_source.specs.RepeatWith.{Call, RepeatsWith}
+use Rattle.lite_source.specs.declared.repeat_with.RepeatWith.{RepeatWith}
 use Rattle.lite_views.specs.Views.{GoesOn, Seen}
 use Rattle.lite_views.proofs.Views.{seen}
 use Rattle.lite_views.proofs.Repeating.{stepped_on}

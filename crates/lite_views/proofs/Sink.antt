@@ -1,6 +1,8 @@
 -- The writes of a `sink` do not fail.
 use Rattle.std.specs.Prelude.{List, [], ◌∷◌}
-use Rattle.lite_views.specs.Uses.{Sink, Sinks, WriteMark}
+use Rattle.lite_views.specs.Uses.{WriteMark}
+use Rattle.lite_write.specs.Sink.{Sinks}
+use Rattle.lite_write.specs.declared.sink.Sink.{Sink}
 use Rattle.lite_views.specs.Accepts.{AcceptsAll, AllAccepted}
 
 pub sink_accepts : (x : Sink) → AcceptsAll Sinks x

@@ -1,6 +1,9 @@
 -- The items of `skip`, by those of its source.
 use Rattle.std.specs.Prelude.{◌≡◌, ℕ, List, [], refl, ⊤}
-use Rattle.lite_views.specs.Uses.{Skip, zero, suc, drop, add-one, Answer, Runs, LeavesOut, Skips, SkipsFirst, skip_parts}
+use Rattle.lite_views.specs.Uses.{zero, suc, drop, Answer, Runs, LeavesOut}
+use Rattle.lite_reshape.specs.Skip.{Skips, SkipsFirst, skip_parts}
+use Rattle.lite_reshape.specs.declared.skip.Skip.{Skip}
+use Rattle.std.proofs.Common.{add-one}
 use Rattle.lite_views.proofs.Views.{listed_through}
 use Rattle.lite_views.specs.Views.{Lists, ListsAs}
 use Rattle.lite_views.proofs.Carrying.{left_fits}

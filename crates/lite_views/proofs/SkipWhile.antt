@@ -1,7 +1,8 @@
 -- The items of `skip_while`, by those of its source.
 use Rattle.std.specs.Prelude.{◌≡◌, List, [], ◌∷◌, refl, ⊤, Bool, true, false, cond, Option, Some, None}
 use Rattle.std.proofs.Common.{◌+◌}
-use Rattle.lite_views.specs.Uses.{suc, drop, arith, prefix_len, Question, LeavesOut, SkipsUntil}
+use Rattle.lite_views.specs.Uses.{suc, drop, arith, prefix_len, Question, LeavesOut}
+use Rattle.lite_reshape.specs.SkipWhile.{SkipsUntil}
 use Rattle.lite_views.proofs.Views.{AnswersAs, Carries, answered}
 use Rattle.lite_views.proofs.Carrying.{left_fits}
 

@@ -1,8 +1,12 @@
 -- The items of `step_by`, by those of its source.
 use Rattle.std.specs.Prelude.{◌≡◌, ◌==◌, ℕ, ◌%◌, List, [], ◌∷◌, map, refl, ⊤, Bool, true, false, cond}
 use Rattle.std.proofs.Common.{◌≤◌, ◌+◌}
-use Rattle.lite_views.specs.Uses.{StepBy, ◌∙◌, length, ap, sym, arith, length-map, length-enumerate_from, mod-add-mod, zero-mod, enumerate_from, filter, Answer}
-use Rattle.lite_views.specs.Uses.{Runs, LeavesOut, Numbered, StepsOn, StepsBy, step_by_parts}
+use Rattle.lite_views.specs.Uses.{◌∙◌, length, ap, sym, arith, enumerate_from, filter, Answer, Runs, LeavesOut}
+use Rattle.lite_reshape.specs.StepBy.{Numbered, StepsBy, StepsOn, step_by_parts}
+use Rattle.lite_reshape.specs.declared.step_by.StepBy.{StepBy}
+use Rattle.std.proofs.Math.Nat.{mod-add-mod, zero-mod}
+use Rattle.std.proofs.lemmas.List.{length-map}
+use Rattle.std.proofs.lemmas.List.FromFn.{length-enumerate_from}
 use Rattle.lite_views.proofs.Views.{Carries, listed_through}
 use Rattle.lite_views.specs.Lists.{step_from}
 use Rattle.lite_views.specs.Views.{Lists, ListsAs}

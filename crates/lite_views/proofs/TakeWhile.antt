@@ -1,7 +1,8 @@
 -- The items of `take_while`, by those of its source.
 use Rattle.std.specs.Prelude.{◌≡◌, ℕ, List, [], ◌∷◌, refl, Bool, true, false, cond, Option, Some, None}
 use Rattle.std.proofs.Common.{◌+◌}
-use Rattle.lite_views.specs.Uses.{suc, take, ap, arith, prefix_len, take_while, Accepts, Question, Exchanges}
+use Rattle.lite_views.specs.Uses.{suc, take, ap, arith, prefix_len, Accepts, Question, Exchanges}
+use Rattle.std.specs.List.{take_while}
 use Rattle.lite_views.proofs.Views.{AnswersAs, Carries}
 use Rattle.lite_views.specs.Lists.{cons_while, map_while}
 use Rattle.lite_views.proofs.MapWhile.{mapped_while_fits}

@@ -1,6 +1,7 @@
 -- The value of `try_collect`, by the items of the stream.
 use Rattle.std.specs.Prelude.{◌≡◌, List, [], ◌∷◌, ◌++◌, map, refl, Some, None, Result, Ok, Err, IfSome}
-use Rattle.lite_views.specs.Uses.{TryCollect, map-append, sym, ok_prefix, fold_of, tries_collect, TryCollected, TryCollectError}
+use Rattle.lite_views.specs.Uses.{TryCollect, map-append, sym, ok_prefix, fold_of, tries_collect, TryCollectError}
+use Rattle.lite_gather.specs.TryCollect.{TryCollected}
 use Rattle.lite_views.specs.Trying.{first_error, TriesCollect}
 use Rattle.lite_views.proofs.Consume.{MakesOf}
 use Rattle.lite_views.proofs.Gathering.{WhereSome, gathered, where_some}

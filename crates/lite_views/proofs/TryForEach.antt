@@ -1,6 +1,8 @@
 -- The value of `try_for_each`, by the items of the stream.
 use Rattle.std.specs.Prelude.{◌≡◌, List, [], ◌∷◌, map, Result, Ok, Err}
-use Rattle.lite_views.specs.Uses.{TryForEach, inl, inr, Question, fold_of, tries_each}
+use Rattle.lite_views.specs.Uses.{inl, inr, Question, fold_of}
+use Rattle.lite_consume.specs.TryForEach.{tries_each}
+use Rattle.lite_consume.specs.declared.try_for_each.TryForEach.{TryForEach}
 use Rattle.lite_views.proofs.Views.{AnswersAs, answered}
 use Rattle.lite_views.specs.Trying.{first_error}
 use Rattle.lite_views.proofs.Consume.{MakesOnly}

@@ -1,8 +1,13 @@
 -- The items of `unfold` and `try_unfold`.
 use Rattle.std.specs.Prelude.{◌≡◌, List, [], ◌∷◌, ◌++◌, map, flat_map, refl, Option, Some, None, MatchOption, Result, Ok}
-use Rattle.lite_views.specs.Uses.{Answer, Called, Finishes, FoldsTo, FutureRunLaws, Gives, Holding, Leads, Mut, Pending, Poll, Ready, Runs}
-use Rattle.lite_views.specs.Uses.{TryUnfold, TryUnfoldsBy, Unfold, UnfoldPart, UnfoldsBy, Waiting, comes, finishes_later, handed, inl, inr, seed_of, item_of}
-use Rattle.lite_views.specs.Uses.{subst, sym, try_item_of, try_seed_of}
+use Rattle.lite_views.specs.Uses.{Answer, Called, Finishes, FoldsTo, Gives, Mut, Pending, Poll, Ready, Runs, Waiting, handed, inl, inr, subst, sym}
+use Rattle.lite_base.specs.FutureLaws.{FutureRunLaws}
+use Rattle.lite_base.specs.Laws.Future.Finishes.{finishes_later}
+use Rattle.lite_source.specs.TryUnfold.{TryUnfoldsBy, try_item_of, try_seed_of}
+use Rattle.lite_source.specs.Unfold.{UnfoldsBy, item_of, seed_of}
+use Rattle.lite_source.specs.Unfolding.{Holding, Leads, UnfoldPart, comes}
+use Rattle.lite_source.specs.declared.try_unfold.TryUnfold.{TryUnfold}
+use Rattle.lite_source.specs.declared.unfold.Unfold.{Unfold}
 use Rattle.lite_views.specs.Unfold.{GoesOnWith, UnfoldsInto}
 use Rattle.lite_views.specs.Views.{Fits, HasValue, ListsAs}
 use Rattle.lite_views.proofs.Views.{listed}

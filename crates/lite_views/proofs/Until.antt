@@ -1,7 +1,11 @@
 -- `read_until` and `read_line` of a reader of which it is known what bytes are to come. They share one lemma.
 use Rattle.std.specs.Prelude.{◌≡◌, ℕ, List, [], ◌∷◌, ◌++◌, refl, ⊤, Result, Ok, Err, IfOk}
-use Rattle.lite_views.specs.Uses.{take-length, drop-length, ◌∙◌, length, take, drop, ap, sym, append_assoc, append-nil, take-append-drop, FoldsTo, Error}
-use Rattle.lite_views.specs.Uses.{TellsKnown, ReadMark, Cut, CutsPiece, CountsPiece, until, Reading, in_text, behind, through_first}
+use Rattle.lite_views.specs.Uses.{◌∙◌, length, take, drop, ap, sym, append_assoc, append-nil, FoldsTo, Error, TellsKnown, ReadMark, Cut, CutsPiece}
+use Rattle.lite_views.specs.Uses.{Reading, in_text}
+use Rattle.lite_read.specs.BytePieces.{behind, through_first}
+use Rattle.lite_read.specs.ReadUntil.{CountsPiece, until}
+use Rattle.std.proofs.Common.{take-append-drop}
+use Rattle.std.proofs.Math.Seq.{drop-length, take-length}
 use Rattle.lite_views.proofs.Futures.{TakenUp}
 use Rattle.lite_views.proofs.Equal.{equal, not_equal}
 use Rattle.lite_views.proofs.Texts.{under_text}

@@ -1,6 +1,9 @@
 -- The value of `unzip`, by the items of the stream.
 use Rattle.std.specs.Prelude.{◌≡◌, List, [], map, Result, IfOk, IfSome}
-use Rattle.lite_views.specs.Uses.{Unzip, map-append, fold_of, unzips, UnzipRefused}
+use Rattle.lite_views.specs.Uses.{map-append, fold_of}
+use Rattle.lite_gather.specs.Unzip.{unzips}
+use Rattle.lite_gather.specs.declared.refused.UnzipRefused.{UnzipRefused}
+use Rattle.lite_gather.specs.declared.unzip.Unzip.{Unzip}
 use Rattle.lite_views.proofs.Consume.{MakesOf}
 use Rattle.lite_views.proofs.Gathering.{WhereSome, gathered, where_some}
 

@@ -1,7 +1,11 @@
 -- `write_all` to a writer of which it is known what it keeps.
 use Rattle.std.specs.Prelude.{◌≡◌, ℕ, List, [], ◌∷◌, ◌++◌, map, refl, Result, Ok, Err, IfOk, IsOk}
-use Rattle.lite_views.specs.Uses.{WriteAllFuture, ◌∙◌, ap, sym, append_assoc, FoldsTo, Error, Poll, Ready, Pending, Gives, segment_front, to_value_last, Runs}
-use Rattle.lite_views.specs.Uses.{Stored, Stores, stores_kept, WriteMark, bytes_taken, taken_both, Hands, Ended, HandsMarks, HandsOver, WritesAll}
+use Rattle.lite_views.specs.Uses.{◌∙◌, ap, sym, append_assoc, FoldsTo, Error, Poll, Ready, Pending, Gives, to_value_last, Runs, Stored, Stores}
+use Rattle.lite_views.specs.Uses.{stores_kept, WriteMark, bytes_taken, taken_both}
+use Rattle.lite_base.specs.Laws.Segments.{segment_front}
+use Rattle.lite_write.specs.Hands.{Hands}
+use Rattle.lite_write.specs.WriteAll.{Ended, HandsMarks, HandsOver, WritesAll}
+use Rattle.lite_write.specs.declared.write_all.WriteAllFuture.{WriteAllFuture}
 use Rattle.lite_views.proofs.Futures.{when_left}
 use Rattle.lite_views.specs.Accepts.{AcceptsAll, AllAccepted}
 use Rattle.lite_views.specs.Waiting.{WhenLeft}

@@ -1,6 +1,9 @@
 -- The items of `zip`, by those of its sources.
 use Rattle.std.specs.Prelude.{◌≡◌, ℕ, List, [], ◌∷◌, refl, Option, Some, None}
-use Rattle.lite_views.specs.Uses.{zero, suc, inl, inr, sym, subst, zip, Ready, Pending, Answer, item, Runs, Pairs, Zips, pendings, Zip}
+use Rattle.lite_views.specs.Uses.{zero, suc, inl, inr, sym, subst, Ready, Pending, Answer, item, Runs, Pairs, pendings}
+use Rattle.lite_merge.specs.Zip.{Zips}
+use Rattle.lite_merge.specs.declared.zip.Zip.{Zip}
+use Rattle.std.specs.List.{zip}
 use Rattle.lite_views.proofs.Views.{listed}
 use Rattle.lite_views.specs.Views.{Fits, Lists, ListsAs}
 

@@ -1,6 +1,7 @@
 -- What closures do, if std has no definition for it.
 use Rattle.std.specs.Prelude.{◌≡◌}
-use Rattle.lite_views.specs.Uses.{Mut, CalledWithState}
+use Rattle.lite_views.specs.Uses.{Mut}
+use Rattle.std.specs.Fn.{CalledWithState}
 use denote.Ref.{MutBor}
 
 -- Each call of the closure with a state and an item returns what `h` says, leaves the state that `h` says, and leaves

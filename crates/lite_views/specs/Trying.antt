@@ -1,6 +1,7 @@
 -- What becomes of a list of Results, up to the first error.
 use Rattle.std.specs.Prelude.{◌≡◌, ⊤, List, [], ◌∷◌, Result, Ok, Err, IfOk, IfErr, map}
-use Rattle.lite_views.specs.Uses.{ok_prefix, TryCollectError, Source, Memory}
+use Rattle.lite_views.specs.Uses.{ok_prefix, TryCollectError}
+use Rattle.lite_gather.specs.declared.refused.TryCollectError.TheVariants.{Memory, Source}
 
 -- What `k` returns of the value, or the error.
 abbrev pub and_then : {T U E : Type 0} → Result T E → (T → Result U E) → Result U E

@@ -1,8 +1,13 @@
 -- The steps of `copy`.
 use Rattle.std.specs.Prelude.{◌≡◌, ◌<◌, ◌+◌, ◌%◌, ◌^◌, ℕ, List, [], ◌∷◌, ◌++◌, Result, Ok, Err, length}
-use Rattle.lite_write.specs.Uses.{◌∙◌, Option, Some, None, refl, ap, sym, subst, arith, append-nil, error_kind, Error, WriteZero, Poll, Ready, Pending}
-use Rattle.lite_write.specs.Uses.{passes_some, ThroughBuffer, ahead, reader_capacity, through_laws, BufReader, ReadMark, bytes, filled, MarkLaws, WriteMark}
-use Rattle.lite_write.specs.Uses.{bytes_taken, write_marks, offered_marks, UpToValue, strip, waits, OneStep, up_to_one, Runs}
+use Rattle.lite_write.specs.Uses.{◌∙◌, refl, ap, sym, subst, arith, append-nil, error_kind, Error, WriteZero, Poll, Ready, Pending, ThroughBuffer}
+use Rattle.lite_write.specs.Uses.{ahead, reader_capacity, ReadMark, bytes, MarkLaws, WriteMark, bytes_taken, write_marks, offered_marks, UpToValue}
+use Rattle.lite_write.specs.Uses.{strip, waits, OneStep, Runs}
+use Rattle.lite_base.specs.Laws.Answers.{up_to_one}
+use Rattle.lite_buffered.specs.Laws.BufReader.{passes_some, through_laws}
+use Rattle.lite_buffered.specs.declared.buf_reader.BufReader.{BufReader}
+use Rattle.lite_io_base.specs.Marks.{filled}
+use Rattle.std.proofs.Common.{None, Option, Some}
 use Rattle.lite_write.specs.Copy.{CopyValue, Moves, CopiesSome}
 use Rattle.lite_write.specs.MarkLists.{BytesAlone, TakesUpTo, TellsUpTo, bytes_told, waits_taken, waits_told}
 use Rattle.lite_write.specs.Parts.{held_of, met_in, source_of}

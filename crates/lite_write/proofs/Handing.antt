@@ -1,6 +1,7 @@
 -- One answer of `write_all`.
 use Rattle.std.specs.Prelude.{◌≡◌, List, [], ◌∷◌}
-use Rattle.lite_write.specs.Uses.{Poll, segment_alone, to_value_one, Runs, WriteMark}
+use Rattle.lite_write.specs.Uses.{Poll, Runs, WriteMark}
+use Rattle.lite_base.specs.Laws.Segments.{segment_alone, to_value_one}
 use Rattle.lite_write.specs.Laws.WriteAll.{WriteAllResult}
 use Rattle.lite_write.specs.WriteAll.{HandsMarks, LastTaken, WritesAll}
 use Rattle.lite_write.specs.declared.write_all.WriteAllFuture.{WriteAllFuture}

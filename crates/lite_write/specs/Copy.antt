@@ -1,7 +1,8 @@
 -- The `copy` future: the bytes of a reader before its first end of file are written to a writer, which is then flushed.
 use Rattle.std.specs.Prelude.{◌≡◌, ◌<◌, ◌+◌, ◌%◌, ◌^◌, ⊤, ℕ, List, [], ◌∷◌, ◌++◌, length, Result, Ok, Err}
-use Rattle.lite_write.specs.Uses.{error_kind, Error, WriteZero, Poll, UpToValue, strip, waits, Runs, ReadMark, WriteMark, bytes_taken}
-use Rattle.lite_write.specs.Uses.{Lasting, ThroughBuffer, bytes}
+use Rattle.lite_write.specs.Uses.{error_kind, Error, WriteZero, Poll, UpToValue, strip, waits, Runs, ReadMark, WriteMark, bytes_taken, ThroughBuffer}
+use Rattle.lite_write.specs.Uses.{bytes}
+use Rattle.futures.specs.Task.{Lasting}
 use Rattle.lite_write.specs.MarkLists.{TakesUpTo, TellsUpTo, bytes_told, waits_taken, waits_told}
 use Rattle.lite_write.specs.Parts.{held_of, met_in, source_of}
 use Rattle.lite_write.specs.declared.copy.CopyFuture.{CopyFuture}

@@ -1,6 +1,8 @@
 -- The `write_all` future: bytes are passed to a writer from the front, until it has taken all.
 use Rattle.std.specs.Prelude.{◌≡◌, ◌<◌, ℕ, List, [], ◌∷◌, length, Result, Ok, Err}
-use Rattle.lite_write.specs.Uses.{error_kind, Error, WriteZero, Poll, Ready, Pending, WriteMark, Question, Runs, Segment, SegmentsToValue}
+use Rattle.lite_write.specs.Uses.{error_kind, Error, WriteZero, Poll, Ready, Pending, WriteMark, Runs}
+use Rattle.lite_base.specs.Runs.{Question}
+use Rattle.lite_base.specs.Segments.{Segment, SegmentsToValue}
 use Rattle.lite_write.specs.Hands.{Hands}
 use Rattle.lite_write.specs.declared.write_all.WriteAllFuture.{WriteAllFuture}
 

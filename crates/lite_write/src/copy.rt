@@ -1,6 +1,10 @@
 ghost use Rattle.std.specs.Prelude.{◌≡◌, ◌<◌, ◌↔◌, ◌^◌, [], ◌∷◌, length, IfOk, IfSome, IsTrue};
-ghost use Rattle.lite_write.specs.Uses.{IfReady, Keeps, Terminates-map, ahead, reader_capacity, reader_inner, through_counting, counting_ends, fill_marks};
-ghost use Rattle.lite_write.specs.Uses.{OnlyOkLends, Registered, SameByKind, Sameness};
+ghost use Rattle.lite_write.specs.Uses.{IfReady, Keeps, ahead, reader_capacity, reader_inner, Registered, SameByKind, Sameness};
+ghost use Rattle.lite_base.specs.Laws.Ends.{Terminates-map};
+ghost use Rattle.lite_buffered.specs.Laws.BufReader.{through_counting};
+ghost use Rattle.lite_io_base.specs.Laws.Counting.{counting_ends};
+ghost use Rattle.lite_io_base.specs.Marks.{fill_marks};
+ghost use Rattle.lite_io_base.specs.Runs.{OnlyOkLends};
 ghost use Rattle.lite_write.specs.declared.copy.Phase.TheVariants.{Copying, Flushing};
 
 use lite_base::{CalmFuture, Context, Future, Poll, PollSteps, SteadyFuture, drive};

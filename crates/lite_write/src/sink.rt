@@ -1,5 +1,7 @@
 ghost use Rattle.std.specs.Prelude.{◌≡◌, ◌<◌, ◌≤◌, [], Ok, length, IfOk, ⊤};
-ghost use Rattle.lite_write.specs.Uses.{io_slices_bytes, IfReady, Keeps, idle_laws, Idle, write_marks, Registered};
+ghost use Rattle.lite_write.specs.Uses.{io_slices_bytes, IfReady, Keeps, write_marks, Registered};
+ghost use Rattle.lite_io_base.specs.Laws.Runs.{idle_laws};
+ghost use Rattle.lite_io_base.specs.Runs.{Idle};
 ghost use Rattle.lite_write.specs.Laws.Sink.{sinks_calm, sinks_laws, sinks_steady};
 ghost use Rattle.lite_write.specs.Sink.{Sinks};
 

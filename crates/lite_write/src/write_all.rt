@@ -1,5 +1,6 @@
 ghost use Rattle.std.specs.Prelude.{[], ◌∷◌, length, ⊤};
-ghost use Rattle.lite_write.specs.Uses.{OneStep, Terminates-count};
+ghost use Rattle.lite_write.specs.Uses.{OneStep};
+ghost use Rattle.lite_base.specs.Laws.Ends.{Terminates-count};
 ghost use Rattle.lite_write.specs.Laws.SteadyWriteAll.{all_calm, all_steady};
 ghost use Rattle.lite_write.specs.Laws.WriteAll.{all_laws, left_falls};
 ghost use Rattle.lite_write.specs.PollSteps.{WritesSome};

@@ -1,6 +1,7 @@
 -- `race` of futures: as `or`, but in each row the random generator's next word says which future is polled first.
 use Rattle.std.specs.Prelude.{◌≡◌, ◌%◌, ◌==◌, ℕ, List, [], ◌∷◌, map, Bool}
-use Rattle.lite_base.specs.Uses.{FoldsTo, Stream, next_u32, Poll}
+use Rattle.lite_base.specs.Uses.{FoldsTo, Stream, Poll}
+use Rattle.rand_core.specs.Stream.{next_u32}
 use Rattle.lite_base.specs.Future.Picks.{Picks}
 use Rattle.lite_base.specs.declared.future.race.Race.{Race}
 use Rattle.lite_base.specs.Runs.{Runs}

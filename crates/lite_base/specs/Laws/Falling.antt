@@ -1,6 +1,7 @@
 -- Laws of ranks that fall.
 use Rattle.std.specs.Prelude.{◌≡◌, ℕ, zero, suc, ◌<◌, ◌≤◌, List, [], ◌∷◌, ◌++◌, length, Some, refl}
-use Rattle.lite_base.specs.Uses.{inl, inr, sym, ap, subst, ◌∙◌, arith, length-append, Ready, Pending, eq-or-lt_of_le}
+use Rattle.lite_base.specs.Uses.{inl, inr, sym, ap, subst, ◌∙◌, arith, length-append, Ready, Pending}
+use Rattle.std.proofs.Math.Nat.{eq-or-lt_of_le}
 use mathlib.Core.WellFounded.{Acc, WellFounded}
 use lib.Measure.{by_dom}
 use lib.WfN.{lt-wf_rel}

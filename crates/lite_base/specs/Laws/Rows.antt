@@ -1,6 +1,7 @@
 -- Laws of two lists that are read row by row.
 use Rattle.std.specs.Prelude.{◌≡◌, ◌%◌, ℕ, List, [], ◌∷◌, ◌++◌, map, Bool, true, false, refl}
-use Rattle.lite_base.specs.Uses.{eq-eqb, ne_eqb}
+use Rattle.std.proofs.Common.{eq-eqb}
+use Rattle.std.proofs.lemmas.Bool.{ne_eqb}
 use Rattle.lite_base.specs.Future.Race.{is_first}
 use Rattle.lite_base.specs.Rows.{Rows}
 

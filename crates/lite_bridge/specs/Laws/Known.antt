@@ -1,7 +1,11 @@
 -- The bytes known to come from a cursor, which are those from its position on. And those that a cursor at their end
 -- keeps as a writer.
 use Rattle.std.specs.Prelude.{◌≡◌, ℕ, ◌+◌, ◌-◌, List, [], ◌∷◌, ◌++◌, length, ⊤}
-use Rattle.lite_bridge.specs.Uses.{drop_all, take_all, ◌∙◌, ap, refl, sym, arith, append-nil, length-append, Known, told_spends, Stored, WriteMark, bytes_taken}
+use Rattle.lite_bridge.specs.Uses.{take_all, ◌∙◌, ap, refl, sym, arith, append-nil, length-append, WriteMark, bytes_taken}
+use Rattle.lite_io_base.specs.Known.{Known}
+use Rattle.lite_io_base.specs.Laws.Known.{told_spends}
+use Rattle.lite_io_base.specs.Stored.{Stored}
+use Rattle.std.proofs.lemmas.List.{drop_all}
 use Rattle.lite_bridge.specs.Cursor.{CursorReads, CursorWrites, bytes_left}
 use Rattle.lite_bridge.specs.Laws.Cursor.{cursor_told}
 use Rattle.lite_bridge.specs.Laws.SteadyWrite.{puts_all}

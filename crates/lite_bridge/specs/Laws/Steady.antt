@@ -1,6 +1,7 @@
 -- Cursors at positions with equal bytes left have one tale, and none is ever pending.
 use Rattle.std.specs.Prelude.{◌≡◌, ℕ, List, ⊤}
-use Rattle.lite_bridge.specs.Uses.{ap, no_wait_bytes, told_no_wait, told_one_tale, steady_read_always, steps_laws, CalmReadLaws, SteadyReadLaws, strip_marks}
+use Rattle.lite_bridge.specs.Uses.{ap, told_one_tale, steps_laws, CalmReadLaws, SteadyReadLaws, strip_marks}
+use Rattle.lite_io_base.specs.Laws.Steady.{no_wait_bytes, steady_read_always, told_no_wait}
 use Rattle.lite_io_base.specs.Marks.{bytes as marks_of}
 use Rattle.lite_bridge.specs.Cursor.{CursorReads, bytes_left}
 use Rattle.lite_bridge.specs.Laws.Cursor.{cursor_told}

@@ -1,8 +1,9 @@
 -- Laws of a reader with a budget.
 use Rattle.std.specs.Prelude.{◌≡◌, ◌+◌, ◌-◌, ℕ, zero, suc, List, [], ◌∷◌, ◌++◌, Option, Some, None, length, take}
-use Rattle.lite_buffered.specs.Uses.{◌∙◌, inl, inr, refl, ap, subst, sym, arith, Comparable, paces_follow, Runs, ReadCounting, Falls, Known, TellsKnown}
-use Rattle.lite_buffered.specs.Uses.{calm_part, steady_write_part, AllGiven, ReadMark, bytes, MarkLaws, Shows, SteadyReadLaws, strip_marks, CalmWriteLaws}
+use Rattle.lite_buffered.specs.Uses.{◌∙◌, inl, inr, refl, ap, subst, sym, arith, Comparable, Runs, ReadCounting, Falls, Known, TellsKnown, calm_part}
+use Rattle.lite_buffered.specs.Uses.{steady_write_part, AllGiven, ReadMark, bytes, MarkLaws, Shows, SteadyReadLaws, strip_marks, CalmWriteLaws}
 use Rattle.lite_buffered.specs.Uses.{SteadyWriteLaws, WriteMark}
+use Rattle.lite_base.specs.Laws.Paces.{paces_follow}
 use Rattle.lite_buffered.specs.Budgeted.{BudgetsMarks, PacesMarks, WritesWithin, budgeted_lent, budgeted_ranks}
 use Rattle.lite_buffered.specs.Budgeted.{left_behind_mark, left_noted, lent_noted}
 use Rattle.lite_buffered.specs.declared.budgeted.Budgeted.{Budgeted}

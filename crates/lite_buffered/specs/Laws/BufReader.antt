@@ -1,8 +1,9 @@
 -- Laws of a `BufReader` as a reader.
 use Rattle.std.specs.Prelude.{◌≡◌, ◌<◌, ℕ, zero, suc, ◌+◌, ◌-◌, List, [], ◌∷◌, ◌++◌, length}
-use Rattle.lite_buffered.specs.Uses.{◌∙◌, refl, sym, ap, arith, append_assoc, append-nil, length-append, Comparable, Ranks, Runs, ReadCounting, WriteMark}
-use Rattle.lite_buffered.specs.Uses.{falls_held, bytes_given, given-append, given-bytes, given_all, given_both, given_parts, AllGiven, ReadMark, bytes, given}
-use Rattle.lite_buffered.specs.Uses.{MarkLaws, Shows}
+use Rattle.lite_buffered.specs.Uses.{◌∙◌, refl, sym, ap, arith, append_assoc, append-nil, length-append, Comparable, Ranks, Runs, ReadCounting}
+use Rattle.lite_buffered.specs.Uses.{WriteMark, given-append, given_parts, AllGiven, ReadMark, bytes, given, MarkLaws, Shows}
+use Rattle.lite_io_base.specs.Laws.Falls.{falls_held}
+use Rattle.lite_io_base.specs.Laws.Marks.{bytes_given, given-bytes, given_all, given_both}
 use Rattle.lite_buffered.specs.declared.buf_reader.BufReader.{BufReader}
 use Rattle.lite_buffered.specs.BufReader.{Padded, PassesBuffer, Past, ThroughBuffer, ahead, ahead_ranks}
 use Rattle.lite_buffered.specs.BufReader.{reader_capacity}

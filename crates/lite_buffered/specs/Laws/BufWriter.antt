@@ -1,7 +1,10 @@
 -- Laws of `BufWriter`.
 use Rattle.std.specs.Prelude.{◌≡◌, ℕ, List, [], ◌∷◌, ◌++◌}
-use Rattle.lite_buffered.specs.Uses.{◌∙◌, inl, inr, refl, sym, ap, append_assoc, append-nil, taken_both, Arrives, MarkLaws, Stored, WriteMark, bytes_in, bytes_taken}
-use Rattle.lite_buffered.specs.Uses.{segments_join, Runs}
+use Rattle.lite_buffered.specs.Uses.{◌∙◌, inl, inr, refl, sym, ap, append_assoc, append-nil, MarkLaws, WriteMark, bytes_taken, Runs}
+use Rattle.lite_base.specs.Laws.Segments.{segments_join}
+use Rattle.lite_io_base.specs.Laws.Takings.{taken_both}
+use Rattle.lite_io_base.specs.Stored.{Arrives, Stored}
+use Rattle.lite_io_base.specs.Takings.{bytes_in}
 use Rattle.lite_buffered.specs.BufWriter.{Balanced, Buffers, TakesHeld, WriterAnswers, WriterSegment, WriterSegments, unwritten}
 use Rattle.lite_buffered.specs.declared.buf_writer.BufWriter.{BufWriter}
 

@@ -1,7 +1,10 @@
 -- Laws of `chain`.
 use Rattle.std.specs.Prelude.{◌≡◌, ℕ, Bool, true, false, cond, replicate, ◌+◌, List, [], ◌∷◌, ◌++◌, length, ⊤}
-use Rattle.lite_buffered.specs.Uses.{◌∙◌, refl, ap, append_assoc, add-zero, zero-add, inl, length-append, length-replicate, Falls, falls_both, falls_to_zeros}
-use Rattle.lite_buffered.specs.Uses.{Comparable, AllGiven, ReadMark, bytes, given, given-append, given_parts, ReadCounting, Ranks, Runs, MarkLaws, Shows}
+use Rattle.lite_buffered.specs.Uses.{◌∙◌, refl, ap, append_assoc, inl, length-append, Falls, Comparable, AllGiven, ReadMark, bytes, given}
+use Rattle.lite_buffered.specs.Uses.{given-append, given_parts, ReadCounting, Ranks, Runs, MarkLaws, Shows}
+use Rattle.lite_io_base.specs.Laws.Falls.{falls_both, falls_to_zeros}
+use Rattle.std.proofs.Common.{add-zero, zero-add}
+use Rattle.std.proofs.lemmas.List.{length-replicate}
 use Rattle.lite_buffered.specs.declared.chain.Chain.{Chain}
 use Rattle.lite_buffered.specs.Chain.{ChainsReaders, EndlessMarks, JoinsReaders, chain_read_ranks}
 

@@ -1,6 +1,7 @@
 -- The bytes known to come from a `BufReader`, a `take` and a `chain`.
 use Rattle.std.specs.Prelude.{◌≡◌, ◌<◌, ℕ, zero, suc, Bool, true, false, List, [], ◌∷◌, ◌++◌, take}
-use Rattle.lite_buffered.specs.Uses.{◌∙◌, ap, refl, Known, TellsKnown, spends_both, spends_bytes, spends_front, spends_split, ReadMark, bytes}
+use Rattle.lite_buffered.specs.Uses.{◌∙◌, ap, refl, Known, TellsKnown, ReadMark, bytes}
+use Rattle.lite_io_base.specs.Laws.Known.{spends_both, spends_bytes, spends_front, spends_split}
 use Rattle.lite_buffered.specs.Laws.BufReader.{passes_some}
 use Rattle.lite_buffered.specs.BufReader.{ThroughBuffer, ahead, reader_capacity, reader_inner}
 use Rattle.lite_buffered.specs.Chain.{ChainsReaders, EndlessMarks, JoinsReaders}

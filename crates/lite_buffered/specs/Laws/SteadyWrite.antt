@@ -1,7 +1,9 @@
 -- A `BufWriter` is steady over a steady writer, and calm over a calm one.
 use Rattle.std.specs.Prelude.{◌≡◌, ℕ, List, [], ◌∷◌, ◌++◌}
-use Rattle.lite_buffered.specs.Uses.{◌∙◌, inl, inr, refl, sym, ap, subst, append_assoc, append-nil, never_waits_parts, CalmWriteLaws, EndsFlushed, NoError}
-use Rattle.lite_buffered.specs.Uses.{NoPendingWrite, SteadyWriteLaws, WriteMark, bytes_taken, Runs}
+use Rattle.lite_buffered.specs.Uses.{◌∙◌, inl, inr, refl, sym, ap, subst, append_assoc, append-nil, CalmWriteLaws, SteadyWriteLaws, WriteMark}
+use Rattle.lite_buffered.specs.Uses.{bytes_taken, Runs}
+use Rattle.lite_io_base.specs.Laws.SteadyWrite.{never_waits_parts}
+use Rattle.lite_io_base.specs.SteadyWrite.{EndsFlushed, NoError, NoPendingWrite}
 use Rattle.lite_buffered.specs.declared.buf_writer.BufWriter.{BufWriter}
 use Rattle.lite_buffered.specs.Laws.BufWriter.{segments_done}
 use Rattle.lite_buffered.specs.BufWriter.{Buffers, TakesHeld, WriterAnswers, WriterSegment, WriterSegments, unwritten}

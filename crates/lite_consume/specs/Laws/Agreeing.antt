@@ -1,7 +1,10 @@
 -- Laws of futures that consume a stream: their values do not depend on when the stream was pending.
 use Rattle.std.specs.Prelude.{◌≡◌, ◌⊎◌, List, [], ◌∷◌, Option, Some, None, refl, ⊤}
-use Rattle.lite_consume.specs.Uses.{inl, inr, subst, Poll, Ready, SameAnswer, SameItem, Sameness, Answer, ComparableBy, Gives, strip, Finishes, both_items}
-use Rattle.lite_consume.specs.Uses.{comparable_nil, gives_strip, item_same, FutureSteadyLawsBy, SteadyLawsBy, TakesNone, Runs}
+use Rattle.lite_consume.specs.Uses.{inl, inr, subst, Poll, Ready, SameAnswer, SameItem, Sameness, Answer, Gives, both_items, Runs}
+use Rattle.lite_base.specs.Answers.{ComparableBy, strip}
+use Rattle.lite_base.specs.Future.Finishes.{Finishes}
+use Rattle.lite_base.specs.Laws.Alike.{comparable_nil, gives_strip, item_same}
+use Rattle.lite_base.specs.Steady.{FutureSteadyLawsBy, SteadyLawsBy, TakesNone}
 use Rattle.lite_consume.specs.Agreeing.{FoldSteadyLaws, Within, WithinWhere}
 use Rattle.lite_consume.specs.Consume.{Folds}
 use Rattle.lite_consume.specs.Consuming.{Consumes, Decides, Fold, fold_of}

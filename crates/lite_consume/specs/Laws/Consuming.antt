@@ -1,9 +1,18 @@
 -- Laws of futures that consume a stream.
 use Rattle.std.specs.Prelude.{◌≡◌, Option, Some, None, List, [], ◌∷◌, refl}
 use Rattle.std.proofs.Common.{◌++◌}
-use Rattle.lite_consume.specs.Uses.{AllByRecursion, Poll, Ready, Pending, Answer, Gives, UpToValue, item, CalmLaws, NoPending, FutureRunLaws, up_to_once}
-use Rattle.lite_consume.specs.Uses.{answers_by, answers_given, answers_taken, to_value_join, RunLaws, Runs, OneAnswer, Segment}
-use Rattle.lite_consume.specs.Uses.{FoldsTo, FutureLaws, Hints, StreamLaws, Waiting, WaitsOn, each_along, future_laws_of, items_in, runs_of}
+use Rattle.lite_consume.specs.Uses.{Poll, Ready, Pending, Answer, Gives, item, answers_given, answers_taken, Runs, OneAnswer, Segment, FoldsTo, Hints}
+use Rattle.lite_consume.specs.Uses.{StreamLaws, items_in}
+use Rattle.lite_base.specs.Answers.{UpToValue, Waiting}
+use Rattle.lite_base.specs.Calm.{CalmLaws, NoPending}
+use Rattle.lite_base.specs.FutureLaws.{FutureLaws, FutureRunLaws, WaitsOn}
+use Rattle.lite_base.specs.Laws.Answers.{up_to_once}
+use Rattle.lite_base.specs.Laws.FutureLaws.{future_laws_of}
+use Rattle.lite_base.specs.Laws.Segments.{answers_by, to_value_join}
+use Rattle.lite_base.specs.Laws.StreamLaws.{runs_of}
+use Rattle.lite_base.specs.StreamLaws.{RunLaws}
+use Rattle.lite_stream.specs.Laws.EachItem.{each_along}
+use Rattle.std.specs.List.{AllByRecursion}
 use Rattle.lite_consume.specs.PollSteps.{Returns}
 use Rattle.lite_consume.specs.Agreeing.{WithinWhere}
 use Rattle.lite_consume.specs.Consume.{CanFold, Folds}

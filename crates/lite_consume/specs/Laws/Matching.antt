@@ -1,8 +1,10 @@
 -- Which states of each fold agree: closures that agree, and numbers and items that are the same.
 use Rattle.std.specs.Prelude.{⊤, Result, Ok, Err, IsErr, IsSome, Bool, true, false, ◌≡◌, Option, Some, None, refl}
-use Rattle.lite_consume.specs.Uses.{◌∙◌, inl, inr, ap, subst, sym, arith, OptionBy, Optional, SameAnswer, SameHeld, SameItem, Sameness, Agree, AgreeFrom}
-use Rattle.lite_consume.specs.Uses.{AgreeKeeping, Keeping, Kin, KinAnswers, both_items, ends_same, held_same, optional_same, same_answer, same_held}
-use Rattle.lite_consume.specs.Uses.{agree_from_matches, keeping_from, keeping_matches, kin_matches, Question}
+use Rattle.lite_consume.specs.Uses.{inl, inr, subst, arith, OptionBy, Optional, SameAnswer, SameHeld, SameItem, Sameness, Agree, AgreeFrom}
+use Rattle.lite_consume.specs.Uses.{AgreeKeeping, Keeping, Kin, KinAnswers, both_items, Question}
+use Rattle.lite_base.specs.Laws.Alike.{ends_same, held_same, optional_same, same_answer, same_held}
+use Rattle.lite_base.specs.Laws.Calling.{agree_from_matches, keeping_from, keeping_matches, kin_matches}
+use Rattle.std.proofs.Common.{ap, sym, ◌∙◌}
 use Rattle.lite_consume.specs.Agreeing.{FoldSteadyLaws, SameDecision}
 use Rattle.lite_consume.specs.All.{alls}
 use Rattle.lite_consume.specs.Any.{anys}

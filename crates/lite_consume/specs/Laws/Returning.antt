@@ -1,8 +1,12 @@
 -- Why a poll that consumes items returns.
 use Rattle.std.specs.Prelude.{◌≡◌, ℕ, ◌+◌, [], ⊤, Result, Ok, Err}
 use Rattle.std.proofs.Common.{◌<◌}
-use Rattle.lite_consume.specs.Uses.{arith, MutBor, Answer, Terminates-count, Terminates-map, Lent, OkCounting, OkRun, ok_counting_ends, Counting, Ranks}
-use Rattle.lite_consume.specs.Uses.{counting_ends, Runs}
+use Rattle.lite_consume.specs.Uses.{arith, MutBor, Answer, Terminates-map, Lent, Runs}
+use Rattle.lite_base.specs.Laws.Ends.{Terminates-count}
+use Rattle.lite_base.specs.Laws.OkRanks.{ok_counting_ends}
+use Rattle.lite_base.specs.Laws.Ranks.{counting_ends}
+use Rattle.lite_base.specs.OkRanks.{OkCounting, OkRun}
+use Rattle.lite_base.specs.Ranks.{Counting, Ranks}
 use Rattle.lite_consume.specs.Consuming.{Fold, TakesIn, fold_of}
 use Rattle.lite_consume.specs.PollSteps.{Returns, TakesItem}
 

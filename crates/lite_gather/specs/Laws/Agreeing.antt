@@ -1,7 +1,11 @@
 -- Laws of collections: they gather the same of items that are the same, if no allocation failed.
 use Rattle.std.specs.Prelude.{Result, Ok, Err, Bool, true, false, map, IfSome, IsSome, ◌≡◌, List, [], ◌∷◌, ◌++◌, Option, Some, None}
-use Rattle.lite_gather.specs.Uses.{subst, sym, map-append, AllZip-push, OptionBy, SameErr, SameItem, SameOk, Sameness, AgreeFrom, option_by, Question}
-use Rattle.lite_gather.specs.Uses.{FoldSteadyLaws, SameAsked, matched}
+use Rattle.lite_gather.specs.Uses.{subst, sym, OptionBy, SameErr, SameItem, SameOk, Sameness, AgreeFrom, Question}
+use Rattle.lite_base.specs.Laws.Alike.{option_by}
+use Rattle.lite_consume.specs.Agreeing.{FoldSteadyLaws}
+use Rattle.lite_consume.specs.Laws.Matching.{SameAsked, matched}
+use Rattle.std.proofs.lemmas.List.{map-append}
+use Rattle.std.proofs.lemmas.List.Elements.{AllZip-push}
 use Rattle.lite_gather.specs.Agreeing.{HoldsParts, HoldsSame, HoldsSameBoth, HoldsSameParts, SameCollected}
 use Rattle.lite_gather.specs.Agreeing.{TrySameCollected, Unmixed}
 use Rattle.lite_gather.specs.Collect.{collects}

@@ -1,8 +1,9 @@
 -- Laws about journals.
 use Rattle.std.specs.Prelude.{◌≡◌, ◌≤◌, ℕ, length, Result, List, [], ◌∷◌, ◌++◌, Option, Some, None, map}
-use Rattle.lite_halves.specs.Uses.{◌∙◌, refl, sym, ap, append_assoc, append-nil, arith, inl, inr, length-append, map-append, flat_map-append, Error, IoSliceMut}
-use Rattle.lite_halves.specs.Uses.{Poll, ErrorKind, OutOfMemory, Part, PartRuns, PartsInOrder, steps_follow, ReadMark, read_marks, MarkLaws, StandsFirst}
-use Rattle.lite_halves.specs.Uses.{room_in, Steps, WriteMark, done_marks, write_marks, Runs}
+use Rattle.lite_halves.specs.Uses.{◌∙◌, refl, sym, ap, append_assoc, append-nil, arith, inl, inr, length-append, map-append, flat_map-append, Error}
+use Rattle.lite_halves.specs.Uses.{IoSliceMut, Poll, ErrorKind, OutOfMemory, Part, PartRuns, PartsInOrder, ReadMark, read_marks, MarkLaws}
+use Rattle.lite_halves.specs.Uses.{StandsFirst, room_in, Steps, WriteMark, done_marks, write_marks, Runs}
+use Rattle.lite_io_base.specs.Laws.Steps.{steps_follow}
 use Rattle.lite_halves.specs.Entry.{Note, close_note, flush_note, part_of, parts_in, read_note, write_note}
 use Rattle.lite_halves.specs.Journal.{Adds, AddsAll, AddsOrStays, AddsRead, AddsWrite, Chronicle, ClonesEqual, IsSound}
 use Rattle.lite_halves.specs.Journal.{JournalReads, JournalWrites, Journals, Replays, Stage, Story, Thins}

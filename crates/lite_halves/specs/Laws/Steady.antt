@@ -1,8 +1,11 @@
 -- Laws about the steadiness and calmness of journals: these follow their stream, both in reading and in writing.
 use Rattle.std.specs.Prelude.{◌≡◌, ℕ, List, [], ◌∷◌, map}
-use Rattle.lite_halves.specs.Uses.{◌∙◌, ap, inl, inr, subst, ErrorKind, Interrupted, OutOfMemory, no_wait_both, no_wait_parts, never_waits_both}
-use Rattle.lite_halves.specs.Uses.{never_waits_parts, ReadMark, Part, PartsInOrder, MarkLaws, CalmReadLaws, NoPendingRead, SteadyReadLaws, CalmWriteLaws}
-use Rattle.lite_halves.specs.Uses.{NoError, NoPendingWrite, SteadyWriteLaws, WriteMark, Runs}
+use Rattle.lite_halves.specs.Uses.{◌∙◌, ap, inl, inr, subst, ErrorKind, OutOfMemory, ReadMark, Part, PartsInOrder, MarkLaws, WriteMark, Runs}
+use Rattle.lite_io_base.specs.Laws.Steady.{no_wait_both, no_wait_parts}
+use Rattle.lite_io_base.specs.Laws.SteadyWrite.{never_waits_both, never_waits_parts}
+use Rattle.lite_io_base.specs.Steady.{CalmReadLaws, NoPendingRead, SteadyReadLaws}
+use Rattle.lite_io_base.specs.SteadyWrite.{CalmWriteLaws, NoError, NoPendingWrite, SteadyWriteLaws}
+use Rattle.std.specs.declared.io.ErrorKind.TheVariants.{Interrupted}
 use Rattle.lite_halves.specs.Journal.{Chronicle, JournalReads, JournalWrites, Thins, all_in_order}
 use Rattle.lite_halves.specs.Laws.Journal.{journals_laws}
 use Rattle.lite_halves.specs.Steady.{ReadsAmply}

@@ -1,6 +1,7 @@
 -- Laws of tales without their `Pending`s.
 use Rattle.std.specs.Prelude.{⊤, List, [], ◌∷◌, ◌≡◌, ℕ, ◌++◌, refl}
-use Rattle.lite_io_base.specs.Uses.{ap, sym, Comparable, MutBor, Lent, lent_takes_none, Runs}
+use Rattle.lite_io_base.specs.Uses.{ap, sym, Comparable, MutBor, Lent, Runs}
+use Rattle.lite_base.specs.Laws.Steady.{lent_takes_none}
 use Rattle.lite_io_base.specs.Marks.{ReadMark, bytes, moved}
 use Rattle.lite_io_base.specs.Steady.{CalmReadLaws, NoPendingRead, SteadyReadLaws, strip_marks, OneTale}
 use Rattle.lite_io_base.specs.Laws.Told.{told_laws}

@@ -1,7 +1,8 @@
 -- Laws about `cycle`.
 use Rattle.std.specs.Prelude.{IfSome, Result, Ok, Err, ◌≡◌, List, [], ◌∷◌, ◌++◌, Option, Some, None}
-use Rattle.lite_merge.specs.Uses.{◌∙◌, refl, append_assoc, Ready, Pending, Answer, Endless, end, CalmLaws, NoPending, calm_both, no_pending_front}
-use Rattle.lite_merge.specs.Uses.{no_pending_join, same_hint, all_ok, StreamLaws, endless_join, Hints, NoHint, Runs}
+use Rattle.lite_merge.specs.Uses.{◌∙◌, refl, append_assoc, Ready, Pending, Answer, Endless, end, CalmLaws, NoPending, calm_both, no_pending_join}
+use Rattle.lite_merge.specs.Uses.{same_hint, all_ok, StreamLaws, endless_join, Hints, NoHint, Runs}
+use Rattle.lite_base.specs.Laws.Calm.{no_pending_front}
 use Rattle.lite_merge.specs.Cycle.{AllCopies, Cycles, Lap, LapOver, Laps, Renews}
 
 module _ {A : Type 0} (E : Type 0) where

@@ -1,7 +1,10 @@
 -- Laws about `race`.
 use Rattle.std.specs.Prelude.{◌≡◌, List, [], ◌∷◌, ◌++◌, None}
-use Rattle.lite_merge.specs.Uses.{refl, inl, append-nil, map-append, Stream, next_u32, Answer, items, CalmLaws, NoPending, folds_follow, calm_both, same_hint}
-use Rattle.lite_merge.specs.Uses.{Lowers, Counting, PollsOn, Ranks, StreamLaws, Hints, NoHint, Runs}
+use Rattle.lite_merge.specs.Uses.{refl, inl, map-append, Stream, Answer, items, CalmLaws, NoPending, calm_both, same_hint, Lowers, Counting, PollsOn}
+use Rattle.lite_merge.specs.Uses.{Ranks, StreamLaws, Hints, NoHint, Runs}
+use Rattle.lite_base.specs.Laws.Calls.{folds_follow}
+use Rattle.rand_core.specs.Stream.{next_u32}
+use Rattle.std.proofs.Common.{append-nil}
 use Rattle.lite_merge.specs.Laws.Merge.{merges_calm, merges_follow, merges_keep, merges_lower, merges_sized}
 use Rattle.lite_merge.specs.Race.{RacesOn, race_ranks}
 use Rattle.lite_merge.specs.declared.race.Race.{Race}

@@ -1,7 +1,9 @@
 -- The steadiness of two streams whose items are paired.
 use Rattle.std.specs.Prelude.{◌≡◌, ℕ, zero, suc, List, [], ◌∷◌, Option, Some, None}
-use Rattle.lite_merge.specs.Uses.{refl, Poll, Pairwise, SameAnswer, SameHeld, SameItem, Sameness, Answer, ComparableBy, strip, both_items, comparable_nil}
-use Rattle.lite_merge.specs.Uses.{ends_same, held_same, item_same, pairs_same, same_answer, SteadyLawsBy, Runs}
+use Rattle.lite_merge.specs.Uses.{refl, Poll, Pairwise, SameHeld, Sameness, Answer, SteadyLawsBy, Runs}
+use Rattle.lite_base.specs.Alike.{SameAnswer, SameItem}
+use Rattle.lite_base.specs.Answers.{ComparableBy, strip}
+use Rattle.lite_base.specs.Laws.Alike.{both_items, comparable_nil, ends_same, held_same, item_same, pairs_same, same_answer}
 use Rattle.lite_merge.specs.Laws.Zip.{pairing_by, zip_runs}
 use Rattle.lite_merge.specs.Zip.{Pairing, Zips, pair_with, pendings}
 use Rattle.lite_merge.specs.declared.zip.Zip.{Zip}

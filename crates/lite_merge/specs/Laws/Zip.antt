@@ -1,9 +1,16 @@
 -- Laws about two streams whose items are paired.
 use Rattle.std.specs.Prelude.{◌≡◌, ℕ, zero, suc, ◌+◌, List, [], ◌∷◌, ◌++◌, Option, Some, None}
-use Rattle.std.proofs.Common.{◌≤◌}
-use Rattle.lite_merge.specs.Uses.{◌∙◌, inl, inr, refl, ap, arith, AllByRecursion, Poll, Ready, Pending, Answer, end, item, items, CalmLaws, waits}
-use Rattle.lite_merge.specs.Uses.{Lowers-at_most, Lowers-below, same_hint, IsItem, items_each, AtMost, Lowers, Counting, Ranks, count_held, held_rank, RunLaws}
-use Rattle.lite_merge.specs.Uses.{StreamLaws, laws_of, runs_of, Hints, NoHint, Runs, calm_two, held_falls, held_first, held_less, held_level, held_sized}
+use Rattle.std.proofs.Common.{◌≤◌, inr}
+use Rattle.lite_merge.specs.Uses.{◌∙◌, inl, refl, ap, arith, Poll, Ready, Pending, Answer, end, item, items, CalmLaws, waits, Lowers-at_most}
+use Rattle.lite_merge.specs.Uses.{same_hint, AtMost, Lowers, Counting, Ranks, held_rank, StreamLaws, Hints, NoHint, Runs}
+use Rattle.lite_base.specs.Laws.Falling.{Lowers-below}
+use Rattle.lite_base.specs.Laws.Items.{IsItem, items_each}
+use Rattle.lite_base.specs.Laws.StreamLaws.{laws_of, runs_of}
+use Rattle.lite_base.specs.Ranks.{count_held}
+use Rattle.lite_base.specs.StreamLaws.{RunLaws}
+use Rattle.lite_stream.specs.Laws.Calming.{calm_two}
+use Rattle.lite_stream.specs.Laws.Held.{held_falls, held_first, held_less, held_level, held_sized}
+use Rattle.std.specs.List.{AllByRecursion}
 use Rattle.lite_merge.specs.Zip.{Pairing, Pairs, WithHeld, Zips, pair_with, pendings, zip_ranks}
 
 module _ {C : Type 0} where

@@ -1,8 +1,13 @@
 -- Laws of `bytes`.
 use Rattle.std.specs.Prelude.{⊤, ◌≡◌, ℕ, ◌+◌, List, [], ◌∷◌, ◌++◌, length, Some, None, Result}
-use Rattle.lite_read.specs.Uses.{suc, refl, ap, subst, add-one, Error, Ready, Pending, Answer, items, Lowers-below, same_hint, Below, Lowers, Counting, Ranks}
-use Rattle.lite_read.specs.Uses.{ranks_of, RunLaws, StreamLaws, laws_of, NoHint, Runs, ReadCounting, Falls, calm_part, counting_part, AllGiven, ReadMark, given}
-use Rattle.lite_read.specs.Uses.{MarkLaws, CalmReadLaws, SteadyReadLaws}
+use Rattle.lite_read.specs.Uses.{suc, refl, ap, subst, add-one, Error, Ready, Pending, Answer, items, Below, Lowers, Ranks, ranks_of, RunLaws}
+use Rattle.lite_read.specs.Uses.{StreamLaws, laws_of, NoHint, Runs, ReadCounting, Falls, ReadMark, given, MarkLaws, CalmReadLaws, SteadyReadLaws}
+use Rattle.lite_base.specs.Laws.Calm.{calm_part}
+use Rattle.lite_base.specs.Laws.Falling.{Lowers-below}
+use Rattle.lite_base.specs.Laws.Hint.{same_hint}
+use Rattle.lite_base.specs.Ranks.{Counting}
+use Rattle.lite_io_base.specs.Laws.Lent.{counting_part}
+use Rattle.lite_io_base.specs.Marks.{AllGiven}
 use Rattle.lite_read.specs.Bytes.{TellsBytes, TellsEach}
 use Rattle.lite_read.specs.Laws.PollSteps.{idle_join}
 use Rattle.lite_read.specs.declared.bytes.Bytes.{Bytes}

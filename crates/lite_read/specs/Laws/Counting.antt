@@ -1,7 +1,10 @@
 -- How a stream over a reader lowers a rank, as `split` and `lines` do.
 use Rattle.std.specs.Prelude.{◌≡◌, ◌<◌, ◌+◌, ℕ, List, [], ◌∷◌, ◌++◌, length, Option, Some, None, Result, Ok}
-use Rattle.lite_read.specs.Uses.{◌∙◌, zero, suc, ap, sym, arith, length-append, FoldsTo, Error, Ready, Pending, Answer, items, OkCounting, all_ok, Below}
-use Rattle.lite_read.specs.Uses.{Lowers, Ranks, Runs, ReadCounting, Falls, falls_held, given-append, given-bytes, ReadMark, bytes, given, MarkLaws}
+use Rattle.lite_read.specs.Uses.{◌∙◌, zero, suc, ap, sym, arith, length-append, FoldsTo, Error, Ready, Pending, Answer, items, Below, Lowers, Ranks}
+use Rattle.lite_read.specs.Uses.{Runs, ReadCounting, Falls, ReadMark, bytes, given, MarkLaws}
+use Rattle.lite_base.specs.OkRanks.{OkCounting, all_ok}
+use Rattle.lite_io_base.specs.Laws.Falls.{falls_held}
+use Rattle.lite_io_base.specs.Laws.Marks.{given-append, given-bytes}
 use Rattle.lite_read.specs.Pieces.{Cut, CutsPiece, Itemised, pieces}
 use Rattle.lite_read.specs.Laws.Segments.{flow_keeps}
 use Rattle.lite_read.specs.ReadFold.{AnswerMarks, ReadFold}

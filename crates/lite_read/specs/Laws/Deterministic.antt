@@ -1,8 +1,11 @@
 -- The values that a deterministic fold makes of a tale do not depend on its `Pending`s.
 use Rattle.std.specs.Prelude.{◌≡◌, ℕ, List, [], ◌∷◌, ◌++◌}
-use Rattle.lite_read.specs.Uses.{refl, subst, append_assoc, map-append, FoldsTo, Poll, Ready, Pending, Comparable, ComparableBy, strip, NoPending, Runs}
-use Rattle.lite_read.specs.Uses.{Segments, comparable_fronts, comparable_rest, comparable_swapped, no_wait_parts, strip_marks-append, strip_marks-bytes}
-use Rattle.lite_read.specs.Uses.{stripped_no_pending, ReadMark, bytes, CalmReadLaws, NoPendingRead, SteadyReadLaws, strip_marks, folds_follow, segment_front}
+use Rattle.lite_read.specs.Uses.{refl, subst, append_assoc, map-append, FoldsTo, Poll, Ready, Pending, Comparable, ComparableBy, strip, NoPending}
+use Rattle.lite_read.specs.Uses.{Runs, Segments, ReadMark, bytes, CalmReadLaws, NoPendingRead, SteadyReadLaws, strip_marks}
+use Rattle.lite_base.specs.Laws.Calls.{folds_follow}
+use Rattle.lite_base.specs.Laws.Segments.{segment_front}
+use Rattle.lite_io_base.specs.Laws.Steady.{comparable_fronts, comparable_rest, comparable_swapped, no_wait_parts, strip_marks-append}
+use Rattle.lite_io_base.specs.Laws.Steady.{strip_marks-bytes, stripped_no_pending}
 use Rattle.lite_read.specs.ReadFold.{AnswerMarks, ReadFold, Segmented}
 use Rattle.lite_read.specs.Deterministic.{IsDeterministic, TaleValues}
 

@@ -1,7 +1,8 @@
 -- The results of `split`, `lines` and `read_until` do not depend on when their reader was pending, if no allocation
 -- failed.
 use Rattle.std.specs.Prelude.{◌≡◌, ℕ, List, [], ◌∷◌, ◌++◌, Ok, Err, length, string_bytes}
-use Rattle.lite_read.specs.Uses.{◌∙◌, Global, ap, sym, IsUtf8-string_bytes, String, Vec, Sameness, FutureSteadyLawsBy, Runs, ReadMark, SteadyReadLaws}
+use Rattle.lite_read.specs.Uses.{◌∙◌, Global, ap, sym, String, Vec, Sameness, FutureSteadyLawsBy, Runs, ReadMark, SteadyReadLaws}
+use Rattle.std.proofs.lemmas.Str.{IsUtf8-string_bytes}
 use Rattle.lite_read.specs.Laws.Gathers.{gathers_alike}
 use Rattle.lite_read.specs.Deterministic.{IsDeterministic, SameByKind}
 use Rattle.lite_read.specs.Laws.ReadUntil.{until_runs}

@@ -1,6 +1,8 @@
 -- Laws of the steps within a poll, and of what polls keep.
 use Rattle.std.specs.Prelude.{◌≡◌, ◌<◌, ℕ, List, [], ◌∷◌, ◌++◌, length}
-use Rattle.lite_read.specs.Uses.{◌∙◌, refl, arith, OnPending, Poll, Ready, Pending, Reaches, Reaches-back, Runs, GivenRun, bytes_given, ReadMark, bytes}
+use Rattle.lite_read.specs.Uses.{◌∙◌, refl, arith, OnPending, Poll, Ready, Pending, Reaches, Runs, GivenRun, ReadMark, bytes}
+use Rattle.lite_base.specs.Laws.Chain.{Reaches-back}
+use Rattle.lite_io_base.specs.Laws.Marks.{bytes_given}
 use Rattle.lite_read.specs.ReadFold.{ReadFold}
 use Rattle.lite_read.specs.PollSteps.{TakesBytes}
 

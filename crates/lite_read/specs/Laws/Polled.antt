@@ -1,6 +1,9 @@
 -- Laws of futures each poll of which is one call.
 use Rattle.std.specs.Prelude.{◌≤◌, List, [], ◌∷◌, ◌++◌, length}
-use Rattle.lite_read.specs.Uses.{refl, arith, Poll, Ready, Pending, Waiting, strip, CalmLaws, NoPending, FutureLaws, FutureRunLaws, WaitsOn, future_laws_of, Runs, CalmRuns}
+use Rattle.lite_read.specs.Uses.{refl, arith, Poll, Ready, Pending, Waiting, strip, CalmLaws, NoPending, FutureLaws, FutureRunLaws, future_laws_of}
+use Rattle.lite_read.specs.Uses.{Runs}
+use Rattle.lite_base.specs.Calm.{CalmRuns}
+use Rattle.lite_base.specs.FutureLaws.{WaitsOn}
 use Rattle.lite_read.specs.Polled.{PolledByCalls}
 
 module _ {F A : Type 0} (call : F → Poll A → F → Type 0) where

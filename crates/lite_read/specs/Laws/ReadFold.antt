@@ -1,6 +1,7 @@
 -- Laws of folds over the marks of a reader.
 use Rattle.std.specs.Prelude.{ℕ, List, ◌∷◌, ◌++◌}
-use Rattle.lite_read.specs.Uses.{FoldsTo, Poll, segment_before, segments_before, Segments, ReadMark, bytes}
+use Rattle.lite_read.specs.Uses.{FoldsTo, Poll, Segments, ReadMark, bytes}
+use Rattle.lite_base.specs.Laws.Segments.{segment_before, segments_before}
 use Rattle.lite_read.specs.ReadFold.{AnswerMarks, ReadFold}
 
 module _ {M R : Type 0} (fold : ReadFold M R) where

@@ -1,7 +1,9 @@
 -- Laws of `read_to_end`.
 use Rattle.std.specs.Prelude.{⊤, ◌≤◌, ◌+◌, ◌-◌, ℕ, List, [], ◌∷◌, ◌++◌, length, Result}
-use Rattle.lite_read.specs.Uses.{◌∙◌, refl, ap, sym, arith, length-append, append-nil, append_assoc, length-take-le, FoldsTo, Error, Poll, Terminates}
-use Rattle.lite_read.specs.Uses.{Terminates-map, FutureLaws, FutureRunLaws, Ranks, Runs, ReadCounting, GivenRun, ReadMark, MarkLaws, future_laws_of, lent_still}
+use Rattle.lite_read.specs.Uses.{◌∙◌, refl, ap, sym, arith, length-append, append-nil, append_assoc, length-take-le, FoldsTo, Error, Poll}
+use Rattle.lite_read.specs.Uses.{Terminates-map, FutureLaws, FutureRunLaws, Ranks, Runs, ReadCounting, GivenRun, ReadMark, MarkLaws, future_laws_of}
+use Rattle.lite_read.specs.Uses.{lent_still}
+use Rattle.lite_base.specs.Ends.{Terminates}
 use Rattle.lite_read.specs.Laws.Gathers.{KeepLaws, gathers_before, gathers_runs}
 use Rattle.lite_read.specs.Appending.{CanAppend, ToEndStays, VectorGrows}
 use Rattle.lite_read.specs.Laws.ByRoom.{RoomLaws, room_runs}

@@ -1,7 +1,8 @@
 -- `bytes` is steady over a steady reader: its results do not depend on when the reader was pending.
 use Rattle.std.specs.Prelude.{◌≡◌, ◌⊎◌, ℕ, List, [], ◌∷◌, Option, Some, None, Result, Ok, Err}
-use Rattle.lite_read.specs.Uses.{◌∙◌, inl, inr, refl, sym, subst, error_kind, Error, ErrorKind, Interrupted, Ready, Pending, OptionBy, Sameness, Answer}
-use Rattle.lite_read.specs.Uses.{Comparable, ComparableBy, strip, comparable_nil, SteadyLawsBy, runs_of, Runs, ReadMark, SteadyReadLaws, strip_marks}
+use Rattle.lite_read.specs.Uses.{◌∙◌, inl, inr, refl, sym, subst, error_kind, Error, ErrorKind, Interrupted, Ready, Pending, OptionBy, Sameness}
+use Rattle.lite_read.specs.Uses.{Answer, Comparable, ComparableBy, strip, SteadyLawsBy, runs_of, Runs, ReadMark, SteadyReadLaws, strip_marks}
+use Rattle.lite_base.specs.Laws.Alike.{comparable_nil}
 use Rattle.lite_read.specs.Bytes.{TellsBytes, TellsEach}
 use Rattle.lite_read.specs.Laws.Bytes.{bytes_runs}
 use Rattle.lite_read.specs.Deterministic.{SameByKind}

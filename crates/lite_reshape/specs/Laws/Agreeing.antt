@@ -1,9 +1,11 @@
 -- Laws about adapters that leave items out: their results, `Pending`s aside, do not depend on when the source was
 -- pending.
 use Rattle.std.specs.Prelude.{◌≡◌, List, ◌∷◌, Option, Some, None, Bool, true, false}
-use Rattle.lite_reshape.specs.Uses.{refl, arith, OptionBy, SameAnswer, SameItem, Sameness, strip, Accepts, AgreeFrom, AgreeKeeping, Keeping, both_items}
-use Rattle.lite_reshape.specs.Uses.{ends_same, item_answers, same_answer, MatchesFrom, accepts_matches, agree_from_matches, keeping_matches, Question}
-use Rattle.lite_reshape.specs.Uses.{AgreeingOver, AlikeInPlace, Placed, placed_agreeing, Entails}
+use Rattle.lite_reshape.specs.Uses.{refl, arith, OptionBy, SameAnswer, SameItem, Sameness, strip, Accepts, AgreeFrom, AgreeKeeping, Keeping}
+use Rattle.lite_reshape.specs.Uses.{both_items, ends_same, same_answer, MatchesFrom, agree_from_matches, Question, AgreeingOver, Entails}
+use Rattle.lite_base.specs.Laws.Alike.{item_answers}
+use Rattle.lite_base.specs.Laws.Calling.{accepts_matches, keeping_matches}
+use Rattle.lite_stream.specs.Laws.Placed.{AlikeInPlace, Placed, placed_agreeing}
 use Rattle.lite_reshape.specs.Laws.Leaving.{leaves_steps}
 use Rattle.lite_reshape.specs.Leaving.{LeavesOut}
 use Rattle.lite_reshape.specs.Skip.{Skips}

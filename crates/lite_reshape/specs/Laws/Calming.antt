@@ -1,9 +1,11 @@
 -- Laws about adapters with a value that they hold or a second stream, over sources that are never pending.
 use Rattle.std.specs.Prelude.{IfSome, ◌+◌, List, [], ◌∷◌, Option, None}
 use Rattle.std.proofs.Common.{◌≤◌}
-use Rattle.lite_reshape.specs.Uses.{AllByRecursion, arith, inl, inr, refl, Answer, end, CalmLaws, NoPending, waits, calm_both, no_pending_front}
-use Rattle.lite_reshape.specs.Uses.{no_pending_join, no_pending_none, waits_join, OfItem, Hints, Question, Runs, Calming, calm_two, cuts_calming, StreamLaws}
-use Rattle.lite_reshape.specs.Uses.{Entails, AdapterParts, Adapts, Relates}
+use Rattle.lite_reshape.specs.Uses.{AllByRecursion, arith, inl, inr, refl, Answer, end, CalmLaws, NoPending, waits, calm_both, no_pending_join}
+use Rattle.lite_reshape.specs.Uses.{OfItem, Hints, Question, Runs, Calming, StreamLaws, Entails, AdapterParts, Adapts, Relates}
+use Rattle.lite_base.specs.Laws.Calm.{no_pending_front, no_pending_none, waits_join}
+use Rattle.lite_stream.specs.Laws.Calming.{calm_two}
+use Rattle.lite_stream.specs.Laws.Cutting.{cuts_calming}
 use Rattle.lite_reshape.specs.Chain.{Chains, Joins, is_done, second_after}
 use Rattle.lite_reshape.specs.Flatten.{Flattening}
 use Rattle.lite_reshape.specs.Inner.{EachInner}

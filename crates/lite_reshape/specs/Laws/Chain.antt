@@ -1,9 +1,12 @@
 -- Laws about two streams that are chained.
 use Rattle.std.specs.Prelude.{◌≡◌, ℕ, ◌+◌, List, [], ◌∷◌, ◌++◌, length, Some, None}
-use Rattle.lite_reshape.specs.Uses.{length-replicate, ◌∙◌, inl, inr, refl, ap, sym, subst, arith, length-append, append_assoc, append-nil, Ready, Pending}
-use Rattle.lite_reshape.specs.Uses.{Answer, Endless, items, AtMost-both, AtMost-length, Below-after, Below-first, Lowers-at_most, endless_join, same_hint}
-use Rattle.lite_reshape.specs.Uses.{AtMost, Below, Lowers, Counting, Ranks, RunLaws, StreamLaws, laws_of, runs_of, Hints, NoHint, Runs, Cuts, cuts_relating}
-use Rattle.lite_reshape.specs.Uses.{cuts_steps, at_most_below, lowers_after}
+use Rattle.lite_reshape.specs.Uses.{length-replicate, ◌∙◌, inl, inr, refl, ap, sym, subst, arith, length-append, append_assoc, append-nil, Ready}
+use Rattle.lite_reshape.specs.Uses.{Pending, Answer, Endless, items, AtMost-both, Below-after, Below-first, Lowers-at_most, endless_join, same_hint}
+use Rattle.lite_reshape.specs.Uses.{AtMost, Below, Lowers, Counting, Ranks, RunLaws, StreamLaws, runs_of, Hints, NoHint, Runs, Cuts, at_most_below}
+use Rattle.lite_reshape.specs.Uses.{lowers_after}
+use Rattle.lite_base.specs.Laws.Falling.{AtMost-length}
+use Rattle.lite_base.specs.Laws.StreamLaws.{laws_of}
+use Rattle.lite_stream.specs.Laws.Cutting.{cuts_relating, cuts_steps}
 use Rattle.lite_reshape.specs.Chain.{Chains, CrossesOver, Joins, is_done, second_after, chain_rank, chain_ranks, second_rank, zeros}
 use Rattle.lite_reshape.specs.Laws.Before.{items_after, not_empty, own_lowers}
 use Rattle.lite_reshape.specs.Laws.Zeros.{zeros_least}

@@ -1,9 +1,11 @@
 -- Laws about references that are replaced by clones.
 use Rattle.std.specs.Prelude.{⊤, Result, Ok, ◌≡◌, List, [], ◌∷◌, ◌++◌, Option, Some, None}
-use Rattle.lite_reshape.specs.Uses.{AllByRecursion, ◌∙◌, refl, ap, sym, append_assoc, Ready, Pending, Bor, OptionBy, SameAnswer, Sameness, Answer, Gives}
-use Rattle.lite_reshape.specs.Uses.{Waiting, item, items, NoPending, all_any, all_append, all_split, no_pending_join, OkCounting, all_ok, ok_counting, Counting}
-use Rattle.lite_reshape.specs.Uses.{Ranks, SteadinessBy, SteadyLawsBy, TakesNone, StreamLaws, Hints, NoHint, Runs, through_alike, Calming, laws_following, through_on}
-use Rattle.lite_reshape.specs.Uses.{through_runs}
+use Rattle.lite_reshape.specs.Uses.{AllByRecursion, ◌∙◌, refl, ap, sym, append_assoc, Ready, Pending, Bor, OptionBy, SameAnswer, Sameness, Answer}
+use Rattle.lite_reshape.specs.Uses.{Gives, Waiting, item, items, NoPending, all_any, all_split, no_pending_join, ok_counting, Counting, Ranks}
+use Rattle.lite_reshape.specs.Uses.{SteadinessBy, SteadyLawsBy, TakesNone, StreamLaws, Hints, NoHint, Runs, through_alike, Calming, laws_following}
+use Rattle.lite_reshape.specs.Uses.{through_on, through_runs}
+use Rattle.lite_base.specs.Laws.All.{all_append}
+use Rattle.lite_base.specs.OkRanks.{OkCounting, all_ok}
 use Rattle.lite_reshape.specs.Cloned.{AlikeCloned, ClonedFrom, Clones, ClonesAll, ClonesUnrefused, EqualClones}
 use Rattle.lite_reshape.specs.Cloned.{IsCloneRefusal, NoCloneRefused, NotCloneRefused, Refers, Refuses, cloned_parts}
 use Rattle.lite_reshape.specs.Laws.Before.{not_empty}

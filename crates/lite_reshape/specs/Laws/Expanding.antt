@@ -1,10 +1,13 @@
 -- Laws about adapters that replace each item by a list of results.
 use Rattle.std.specs.Prelude.{◌≡◌, ℕ, ◌+◌, List, [], ◌∷◌, ◌++◌, Option, Some, None}
 use Rattle.std.proofs.Common.{◌≤◌}
-use Rattle.lite_reshape.specs.Uses.{◌∙◌, inl, inr, refl, ap, sym, arith, append_assoc, AllByRecursion, Ready, Pending, Answer, Gives, Waiting, before_end, end}
-use Rattle.lite_reshape.specs.Uses.{item, items, all_split, Lowers-at_most, Lowers-below, waiting_lowers, IsItem, items_each, Below, Lowers, Counting, Ranks}
-use Rattle.lite_reshape.specs.Uses.{count_held, held_rank, StreamLaws, Hints, Question, Runs, held_falls, held_first, held_less, held_level, held_sized}
-use Rattle.lite_reshape.specs.Uses.{AlsoBefore, Entails, Following, AdapterParts, Adapts, Through}
+use Rattle.lite_reshape.specs.Uses.{◌∙◌, inl, inr, refl, ap, sym, arith, append_assoc, AllByRecursion, Ready, Pending, Answer, Gives, Waiting}
+use Rattle.lite_reshape.specs.Uses.{before_end, end, item, items, all_split, Lowers-at_most, Lowers-below, IsItem, items_each, Below, Lowers}
+use Rattle.lite_reshape.specs.Uses.{Counting, Ranks, count_held, StreamLaws, Hints, Question, Runs, AlsoBefore, Entails, Following, AdapterParts}
+use Rattle.lite_reshape.specs.Uses.{Adapts, Through}
+use Rattle.lite_base.specs.Laws.Falling.{waiting_lowers}
+use Rattle.lite_base.specs.Ranks.{held_rank}
+use Rattle.lite_stream.specs.Laws.Held.{held_falls, held_first, held_less, held_level, held_sized}
 use Rattle.lite_reshape.specs.Expanding.{Expanding, Expands}
 
 -- What the lists made of an item have to meet for runs of the adapter to follow one another.

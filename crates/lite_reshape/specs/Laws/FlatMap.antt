@@ -1,10 +1,16 @@
 -- Laws about `flat_map`, whose function makes streams.
 use Rattle.std.specs.Prelude.{◌≡◌, List, ◌∷◌, Option, Some, None}
-use Rattle.lite_reshape.specs.Uses.{Mut, AllByRecursion, refl, subst, Ready, OptionBy, SameItem, Sameness, Answer, CalmLaws, calm_both, Terminates, ItemRun}
-use Rattle.lite_reshape.specs.Uses.{Counting, Ranks, ranks_of, counting_ends, SteadyLawsBy, StreamLaws, runs_of, AgreeFrom, Always, Calls, MakesAlways}
-use Rattle.lite_reshape.specs.Uses.{all_split, OfItem, agree_from_matches, makes_on, Hints, NoHint, Runs, through_alike, through_steady_over, through_calm}
-use Rattle.lite_reshape.specs.Uses.{exchanges_steps, replaces_calming, replaces_agreeing, replaces_answering, replaces_relating, laws_following, laws_hinted}
-use Rattle.lite_reshape.specs.Uses.{MayCallEach, PollsOn, asks_always, exchanges_on, through_counting, Maps, map_parts, Replaces, Map}
+use Rattle.lite_reshape.specs.Uses.{Mut, AllByRecursion, refl, subst, Ready, OptionBy, SameItem, Sameness, Answer, CalmLaws, calm_both, Terminates}
+use Rattle.lite_reshape.specs.Uses.{ItemRun, Counting, Ranks, ranks_of, SteadyLawsBy, StreamLaws, runs_of, AgreeFrom, Calls, MakesAlways, all_split}
+use Rattle.lite_reshape.specs.Uses.{OfItem, agree_from_matches, makes_on, Hints, NoHint, Runs, through_alike, through_steady_over, through_calm}
+use Rattle.lite_reshape.specs.Uses.{laws_following, MayCallEach, PollsOn, through_counting, Maps, Map}
+use Rattle.lite_base.specs.Calling.{Always}
+use Rattle.lite_base.specs.Laws.Ranks.{counting_ends}
+use Rattle.lite_stream.specs.Laws.Pointwise.{asks_always, exchanges_on, exchanges_steps, replaces_agreeing, replaces_answering, replaces_calming}
+use Rattle.lite_stream.specs.Laws.Pointwise.{replaces_relating}
+use Rattle.lite_stream.specs.Laws.Through.{laws_hinted}
+use Rattle.lite_stream.specs.Map.{map_parts}
+use Rattle.lite_stream.specs.Pointwise.{Replaces}
 use Rattle.lite_reshape.specs.FlatMap.{CanFlatMap, EachMade, FlatMaps, flat_map_parts, flat_map_ranks}
 use Rattle.lite_reshape.specs.Inner.{EachInner}
 use Rattle.lite_reshape.specs.Laws.Calming.{flattening_calm}

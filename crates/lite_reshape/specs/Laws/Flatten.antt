@@ -1,10 +1,13 @@
 -- Laws about a stream of streams that is flattened.
 use Rattle.std.specs.Prelude.{IfSome, replicate, ◌≡◌, ℕ, List, [], ◌∷◌, ◌++◌, length, Option, Some, None}
-use Rattle.lite_reshape.specs.Uses.{◌∙◌, inl, inr, refl, ap, sym, arith, length-append, append_assoc, length-replicate, AllByRecursion, Ready, Pending, Answer}
-use Rattle.lite_reshape.specs.Uses.{Endless, end, item, items, NextStep, Reaches, all_split, Reaches-back, Terminates, Terminates-map, ItemRun, AtMost-both}
-use Rattle.lite_reshape.specs.Uses.{Below-after, Below-first, Below-then, Lowers-at_most, Lowers-below, endless_join, IsItem, OfItem, each_items, each_of}
-use Rattle.lite_reshape.specs.Uses.{items_each, Below, Lowers, Counting, Ranks, RunLaws, StreamLaws, Hints, Runs, at_most_below, lowers_after, lowers_at_most}
-use Rattle.lite_reshape.specs.Uses.{Entails, Following, AdapterParts, Adapts, PollsOn, Through}
+use Rattle.lite_reshape.specs.Uses.{◌∙◌, inl, inr, refl, ap, sym, arith, length-append, append_assoc, length-replicate, AllByRecursion, Ready}
+use Rattle.lite_reshape.specs.Uses.{Pending, Answer, Endless, end, item, items, NextStep, Reaches, all_split, Reaches-back, Terminates}
+use Rattle.lite_reshape.specs.Uses.{Terminates-map, ItemRun, AtMost-both, Below-after, Below-first, Lowers-at_most, Lowers-below, endless_join}
+use Rattle.lite_reshape.specs.Uses.{IsItem, OfItem, items_each, Below, Lowers, Counting, Ranks, RunLaws, StreamLaws, Hints, Runs, at_most_below}
+use Rattle.lite_reshape.specs.Uses.{lowers_after, Entails, Following, AdapterParts, Adapts, PollsOn, Through}
+use Rattle.lite_base.specs.Laws.Falling.{Below-then}
+use Rattle.lite_base.specs.Laws.Items.{each_items, each_of}
+use Rattle.lite_stream.specs.Laws.Lower.{lowers_at_most}
 use Rattle.lite_reshape.specs.Flatten.{Flat, Flattening}
 use Rattle.lite_reshape.specs.Inner.{CanStepFlat, EachInner, FlatStep, FlatSteps, GivesOne, TakesNext, flattening_ranks, inner_rank}
 use Rattle.lite_reshape.specs.Laws.Before.{not_empty, own_lowers}

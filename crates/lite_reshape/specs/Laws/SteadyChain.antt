@@ -1,8 +1,9 @@
 -- The steadiness of `chain`, from that of its two streams.
 use Rattle.std.specs.Prelude.{◌≡◌, List, [], ◌∷◌, ◌++◌, Option, Some, None, ⊤}
-use Rattle.lite_reshape.specs.Uses.{inl, inr, refl, append-nil, Ready, Pending, Either, OptionBy, SameAnswer, Sameness, Answer, ComparableBy, Endless, strip}
-use Rattle.lite_reshape.specs.Uses.{SteadyLawsBy, both_items, comparable_nil, either_first, either_second, ends_same, Runs, CutsStripped, cut_same}
-use Rattle.lite_reshape.specs.Uses.{cuts_stripped}
+use Rattle.lite_reshape.specs.Uses.{inl, inr, refl, append-nil, Ready, Pending, Either, OptionBy, SameAnswer, Sameness, Answer, ComparableBy, Endless}
+use Rattle.lite_reshape.specs.Uses.{strip, SteadyLawsBy, both_items, comparable_nil, ends_same, Runs}
+use Rattle.lite_base.specs.Laws.Alike.{either_first, either_second}
+use Rattle.lite_stream.specs.Laws.Cutting.{CutsStripped, cut_same, cuts_stripped}
 use Rattle.lite_reshape.specs.Chain.{Chains, Joins, is_done, second_after}
 use Rattle.lite_reshape.specs.declared.chain.Part.{Part}
 use Rattle.lite_reshape.specs.declared.chain.Part.TheVariants.{First, Second, Done}

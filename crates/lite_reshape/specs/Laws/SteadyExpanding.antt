@@ -1,8 +1,10 @@
 -- The steadiness of adapters that replace each item by a list with exactly one item.
 use Rattle.std.specs.Prelude.{◌≡◌, ◌⊎◌, List, [], ◌∷◌, ◌++◌, Option, Some, None}
-use Rattle.lite_reshape.specs.Uses.{AllByRecursion, ◌∙◌, inl, inr, refl, ap, OptionBy, SameAnswer, SameItem, Sameness, Answer, ComparableBy, strip, strip_join}
-use Rattle.lite_reshape.specs.Uses.{waiting_strip, comparable_as, gives_strip, same_answer, all_any, all_split, PlacedFrom, placed_from_same, answer_items}
+use Rattle.lite_reshape.specs.Uses.{AllByRecursion, ◌∙◌, inl, inr, refl, ap, OptionBy, SameAnswer, SameItem, Sameness, Answer, ComparableBy, strip}
+use Rattle.lite_reshape.specs.Uses.{strip_join, comparable_as, same_answer, all_any, all_split, PlacedFrom, placed_from_same, answer_items}
 use Rattle.lite_reshape.specs.Uses.{MatchesFrom, Question, AgreeingOver, Entails}
+use Rattle.lite_base.specs.Laws.Alike.{gives_strip}
+use Rattle.lite_base.specs.Laws.Answers.{waiting_strip}
 use Rattle.lite_reshape.specs.Laws.Expanding.{GivingOne, expanding_by}
 use Rattle.lite_reshape.specs.Expanding.{Expanding}
 

@@ -1,13 +1,13 @@
 -- Laws about `step_by`. Its count of items to leave out says which number comes next.
 use Rattle.std.specs.Prelude.{◌≡◌, ℕ, ◌+◌, ◌%◌, ◌<◌, ◌-◌, List, [], ◌∷◌, ◌++◌, Option, Some, None}
 use Rattle.std.proofs.Common.{◌≤◌}
-use Rattle.lite_reshape.specs.Uses.{◌∙◌, refl, ap, subst, sym, append-nil, arith, add-mod-mod, mod_self, mod-add-mod, mod-eq_of_lt, OptionBy, Sameness, Answer}
-use Rattle.lite_reshape.specs.Uses.{before_end, Lowers, comparable_nil, MatchesFrom, Runs, AgreeingOver, Calming, Relating, Through}
+use Rattle.lite_reshape.specs.Uses.{◌∙◌, refl, ap, subst, sym, append-nil, arith, OptionBy, Sameness, Answer, before_end, Lowers, comparable_nil}
+use Rattle.lite_reshape.specs.Uses.{MatchesFrom, Runs, AgreeingOver, Calming, Relating, Through, Hints, PollsOn, StreamLaws}
+use Rattle.std.proofs.Math.Nat.{add-mod-mod, mod-add-mod, mod-eq_of_lt, mod_self}
 use Rattle.lite_reshape.specs.Laws.Agreeing.{leaves_showing}
 use Rattle.lite_reshape.specs.Laws.Leaving.{leaves_as, leaves_calming, leaves_relating}
 use Rattle.lite_reshape.specs.Leaving.{LeavesOut}
 use Rattle.lite_reshape.specs.StepBy.{CanStep, IsAt, Numbered, StepsBy, StepsOn}
-use Rattle.lite_reshape.specs.Uses.{Hints, PollsOn, StreamLaws}
 
 -- One item, by the step and the count of items that are still to be left out.
 abbrev pub Countdown : {A : Type 0} → ℕ × ℕ → A → Option A → ℕ × ℕ → Type 0

@@ -1,15 +1,21 @@
 -- Laws about `then`, whose items are replaced by the results of futures.
 use Rattle.std.specs.Prelude.{IfSome, cond, nat_lt, ◌≡◌, ℕ, ◌+◌, ◌-◌, ◌^◌, List, [], ◌∷◌, ◌++◌, Option, Some, None, Bool, true, false}
-use Rattle.std.proofs.Common.{◌≤◌}
-use Rattle.lite_reshape.specs.Uses.{Mut, map, refl, arith, Poll, Ready, Pending, count_held, OptionBy, SameItem, Sameness, Answer, Gives, item, CalmLaws}
-use Rattle.lite_reshape.specs.Uses.{NoPending, handed, FutureRunLaws, alike_agrees, no_pending_join, handed_no_pending, handed_waiting, shown_gives, spends_follow}
-use Rattle.lite_reshape.specs.Uses.{spends_found, spends_rest, spends_stay, same_hint, FutureSteadyLawsBy, SteadyLawsBy, makes_on, AgreeFrom, Calls}
-use Rattle.lite_reshape.specs.Uses.{agree_from_matches, Hints, Question, through_steady_by, bounded_by, laws_bounded}
+use Rattle.std.proofs.Common.{◌≤◌, map}
+use Rattle.lite_reshape.specs.Uses.{Mut, refl, arith, Poll, Ready, Pending, count_held, OptionBy, SameItem, Sameness, Answer, Gives, item, CalmLaws}
+use Rattle.lite_reshape.specs.Uses.{NoPending, handed, no_pending_join, same_hint, SteadyLawsBy, makes_on, AgreeFrom, Calls, agree_from_matches}
+use Rattle.lite_reshape.specs.Uses.{Hints, Question, FoldsTo, PollsOn, Runs, StreamLaws, ap, each_along, items_in, subst}
+use Rattle.lite_base.specs.FutureLaws.{FutureLaws, FutureRunLaws}
+use Rattle.lite_base.specs.Laws.Alike.{alike_agrees}
+use Rattle.lite_base.specs.Laws.Future.Handed.{handed_no_pending, handed_waiting}
+use Rattle.lite_base.specs.Laws.Future.Spent.{shown_gives, spends_follow, spends_found, spends_rest, spends_stay}
+use Rattle.lite_base.specs.Laws.FutureLaws.{future_runs_of}
+use Rattle.lite_base.specs.Steady.{FutureSteadyLawsBy}
+use Rattle.lite_stream.specs.Laws.Agreeing.{through_steady_by}
+use Rattle.lite_stream.specs.Laws.Through.{bounded_by, laws_bounded}
 use Rattle.lite_reshape.specs.FlatMap.{EachMade}
 use Rattle.lite_reshape.specs.Laws.Calming.{expanding_calm, through_calm_by}
 use Rattle.lite_reshape.specs.Laws.Expanding.{FollowLaws, GivingOne, expanding_bounded, expanding_by, expanding_following}
 use Rattle.lite_reshape.specs.Expanding.{Expanding}
-use Rattle.lite_reshape.specs.Uses.{FoldsTo, FutureLaws, PollsOn, Runs, StreamLaws, ap, each_along, future_runs_of, items_in, subst}
 use Rattle.lite_reshape.specs.Laws.SteadyExpanding.{OneMade, expanding_agreeing, expanding_found}
 use Rattle.lite_reshape.specs.Then.{CanThen, HandsOut, MakesEach, Thens, one_more_at_most, then_hint, then_parts}
 use Rattle.lite_reshape.specs.declared.then.Then.{Then}

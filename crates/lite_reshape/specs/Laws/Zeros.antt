@@ -1,6 +1,7 @@
 -- No list of the same length is below a list of zeros.
 use Rattle.std.specs.Prelude.{replicate, ◌≡◌, ℕ, List, [], ◌∷◌, length}
-use Rattle.lite_reshape.specs.Uses.{◌∙◌, zero, suc, inl, inr, refl, ap, arith, length-replicate, AtMost}
+use Rattle.lite_reshape.specs.Uses.{◌∙◌, inl, inr, refl, ap, arith, length-replicate, AtMost}
+use Rattle.std.proofs.Common.{suc, zero}
 
 pub zeros_least : (n : ℕ) (ys : List ℕ) → length ys ≡ n → AtMost (replicate n 0) ys
 zeros_least zero [] e = inl refl

@@ -1,9 +1,10 @@
 -- Laws about sources that make one call for each poll.
 use Rattle.std.specs.Prelude.{⊤, ◌≡◌, List, [], ◌∷◌, ◌++◌, Option, None}
-use Rattle.lite_source.specs.Uses.{ℕ, refl, sym, FoldsTo, Ready, Pending, Alike, Answer, Comparable, strip, CalmLaws, NoPending, calm_both, folds_follow}
-use Rattle.lite_source.specs.Uses.{AlwaysObeys, CallAnswers, Mut, Poll, Poller, always_mut, mut_next, subst}
+use Rattle.lite_source.specs.Uses.{ℕ, refl, sym, FoldsTo, Ready, Pending, Alike, Answer, Comparable, strip, CalmLaws, NoPending, calm_both}
+use Rattle.lite_source.specs.Uses.{folds_follow, AlwaysObeys, CallAnswers, Mut, Poll, Poller, always_mut, mut_next, subst, same_hint, SteadyLaws}
+use Rattle.lite_source.specs.Uses.{steady_always, StreamLaws}
+use Rattle.lite_base.specs.StreamLaws.{PollsOn}
 use Rattle.lite_source.specs.RepeatWith.{Call}
-use Rattle.lite_source.specs.Uses.{same_hint, PollsOn, SteadyLaws, steady_always, StreamLaws}
 
 -- `part` of the source is what changes at each poll, and it is all that the source holds. `next` says how.
 module _ {S P A : Type 0} (part : S → P) (next : P → Answer A → P → Type 0)

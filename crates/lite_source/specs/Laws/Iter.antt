@@ -1,7 +1,10 @@
 -- Laws about `iter`.
 use Rattle.std.specs.Prelude.{IfSome, ◌≤◌, List, [], ◌∷◌, ◌++◌, Option, Some, None}
-use Rattle.lite_source.specs.Uses.{sym, ℕ, refl, ap, arith, inl, Count, IsFinite, MakesProgress, UpTo, size, Ready, Pending, Answer, before_end, items}
-use Rattle.lite_source.specs.Uses.{Below-one, Lowers-at_most, at_most_one, folds_follow, Below, Lowers, Counting, StreamLaws}
+use Rattle.lite_source.specs.Uses.{sym, ℕ, refl, ap, arith, inl, Count, IsFinite, MakesProgress, UpTo, size, Ready, Pending, Answer, before_end}
+use Rattle.lite_source.specs.Uses.{Below-one, Lowers-at_most, folds_follow, Lowers, Counting, StreamLaws}
+use Rattle.lite_base.specs.Answers.{items}
+use Rattle.lite_base.specs.Laws.Falling.{at_most_one}
+use Rattle.lite_base.specs.Rank.{Below}
 use Rattle.lite_source.specs.Iter.{AlwaysNext, IterHints, Iterates, NeverRaised, Nexts, iter_ranks}
 use Rattle.lite_source.specs.declared.iter.Iter.{Iter}
 

@@ -2,8 +2,16 @@
 -- streams that are alike.
 use Rattle.std.specs.Prelude.{◌≡◌, List, ◌∷◌, Option, Some, None, length, MatchOption}
 use Rattle.std.proofs.Common.{◌<◌}
-use Rattle.lite_source.specs.Uses.{ℕ, ◌∙◌, refl, ap, sym, arith, array_into_iter_items, array_steps, Count, copied_source, copied_steps, option_copied}
-use Rattle.lite_source.specs.Uses.{range_steps, iter_rest, iter_steps, into_iter_items, into_iter_len, into_iter_steps, Copied, Range, IntoIter, Alike}
+use Rattle.lite_source.specs.Uses.{ℕ, ◌∙◌, refl, ap, sym, arith, Count, Alike}
+use Rattle.std.specs.Array.Iter.{array_into_iter_items, array_steps}
+use Rattle.std.specs.Iterator.Adapters.{copied_source, copied_steps}
+use Rattle.std.specs.Option.{option_copied}
+use Rattle.std.specs.Range.{range_steps}
+use Rattle.std.specs.Slice.Iter.{iter_rest, iter_steps}
+use Rattle.std.specs.Vec.Iter.{into_iter_items, into_iter_len, into_iter_steps}
+use Rattle.std.specs.declared.iter.Copied.{Copied}
+use Rattle.std.specs.declared.ops.Range.{Range}
+use Rattle.std.specs.declared.vec.IntoIter.{IntoIter}
 use Rattle.std.specs.declared.array.IntoIter.{IntoIter as ArrayIter}
 use Rattle.std.specs.declared.slice.Iter.{Iter as SliceIter}
 use Rattle.lite_source.specs.Iter.{Iterates}

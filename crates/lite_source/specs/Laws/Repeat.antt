@@ -1,7 +1,8 @@
 -- Laws about `repeat`.
 use Rattle.std.specs.Prelude.{⊤, Result, Ok, Err, ◌≡◌, List, [], ◌∷◌, Some, None}
-use Rattle.lite_source.specs.Uses.{ℕ, ap, AllByRecursion, Ready, Pending, Answer, Comparable, strip, CalmLaws, NoPending, calm_both, SteadyLaws, StreamLaws}
-use Rattle.lite_source.specs.Uses.{runs_of}
+use Rattle.lite_source.specs.Uses.{ℕ, ap, AllByRecursion, Ready, Pending, Answer, Comparable, strip, CalmLaws, NoPending, calm_both, SteadyLaws}
+use Rattle.lite_source.specs.Uses.{StreamLaws}
+use Rattle.lite_base.specs.Laws.StreamLaws.{runs_of}
 use Rattle.lite_source.specs.Repeat.{IsCloned, Repeats, SameClones}
 use Rattle.lite_source.specs.Laws.Always.{always_laws}
 

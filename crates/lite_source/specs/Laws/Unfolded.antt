@@ -1,10 +1,14 @@
 -- The results of `unfold` and `try_unfold`, `Pending`s aside: the same for futures that are alike.
 use Rattle.std.specs.Prelude.{⊤, ◌≡◌, ◌⊎◌, List, [], ◌∷◌, ◌++◌, map, flat_map, Option, Some, None}
-use Rattle.lite_source.specs.Uses.{inl, inr, ◌∙◌, refl, ap, sym, append-nil, Mut, AllByRecursion, FoldsTo, Poll, OptionBy, SameAnswer, SameItem, Sameness}
-use Rattle.lite_source.specs.Uses.{Answer, ComparableBy, Waiting, end, strip, CalmLaws, NoPending, AgreeFrom, Calls, MakesAlways, Finishes, handed, FutureRunLaws}
-use Rattle.lite_source.specs.Uses.{alike_agrees, equal_options, strip_join, agree_from_matches, calm_both, no_pending_join, finishes_found, finishes_later}
-use Rattle.lite_source.specs.Uses.{handed_gives, handed_no_pending, handed_waits, FutureSteadyLawsBy, SteadinessBy, SteadyLawsBy, TakesNone, RunLaws}
-use Rattle.lite_source.specs.Uses.{Question, Runs, makes_on}
+use Rattle.lite_source.specs.Uses.{inl, inr, ◌∙◌, refl, ap, sym, append-nil, Mut, AllByRecursion, FoldsTo, Poll, OptionBy, SameAnswer, SameItem}
+use Rattle.lite_source.specs.Uses.{Sameness, Answer, ComparableBy, Waiting, end, strip, CalmLaws, NoPending, AgreeFrom, Calls, MakesAlways, Finishes}
+use Rattle.lite_source.specs.Uses.{handed, FutureRunLaws, alike_agrees, calm_both, no_pending_join, handed_gives, handed_no_pending, handed_waits}
+use Rattle.lite_source.specs.Uses.{FutureSteadyLawsBy, SteadinessBy, SteadyLawsBy, RunLaws, Question, Runs, makes_on}
+use Rattle.lite_base.specs.Laws.Alike.{equal_options}
+use Rattle.lite_base.specs.Laws.Answers.{strip_join}
+use Rattle.lite_base.specs.Laws.Calling.{agree_from_matches}
+use Rattle.lite_base.specs.Laws.Future.Finishes.{finishes_found, finishes_later}
+use Rattle.lite_base.specs.Steady.{TakesNone}
 use Rattle.lite_source.specs.Laws.Always.{answers_no_pending}
 use Rattle.lite_source.specs.Unfolding.{BothHave, Holding, HoldingsBy, IfHeldFuture, IsCurrent, Leads, PartOf}
 use Rattle.lite_source.specs.Unfolding.{UnfoldAlike, UnfoldPart, Unfolds, comes}

@@ -1,7 +1,8 @@
 -- Laws about what `unfold` and `try_unfold` share.
 use Rattle.std.specs.Prelude.{◌≡◌, List, [], ◌∷◌, ◌++◌, Option, Some, None}
-use Rattle.lite_source.specs.Uses.{inl, inr, refl, sym, flat_map-append, Mut, FoldsTo, Poll, Ready, Pending, Answer, end, folds_follow, same_hint, StreamLaws}
+use Rattle.lite_source.specs.Uses.{inl, inr, refl, sym, Mut, FoldsTo, Poll, Ready, Pending, Answer, end, folds_follow, same_hint, StreamLaws}
 use Rattle.lite_source.specs.Uses.{MakesAlways, FutureLaws, NoHint, RunLaws, Runs, always_mut, laws_of, makes_on, mut_next, subst}
+use Rattle.std.proofs.lemmas.Grind.{flat_map-append}
 use Rattle.std.specs.List.{flat_map}
 use Rattle.lite_source.specs.Unfolding.{Holding, IfHeldFuture, IsCurrent, Leads, UnfoldPart, UnfoldStep, Unfolds, comes}
 

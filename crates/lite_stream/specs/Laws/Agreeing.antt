@@ -1,6 +1,8 @@
 -- Laws about adapters over one source whose results, `Pending`s aside, do not depend on when the source was pending.
 use Rattle.std.specs.Prelude.{List, Option}
-use Rattle.lite_stream.specs.Uses.{AlikeBy, SameAnswer, Sameness, Answer, ComparableBy, strip, SteadyLawsBy, Runs}
+use Rattle.lite_stream.specs.Uses.{SameAnswer, Sameness, Answer, ComparableBy, strip, Runs}
+use Rattle.lite_base.specs.Alike.{AlikeBy}
+use Rattle.lite_base.specs.Steady.{SteadyLawsBy}
 use Rattle.lite_stream.specs.Laws.Through.{Entails, Following, through_runs}
 use Rattle.lite_stream.specs.Through.{AdapterParts, Adapts}
 use Rattle.lite_stream.specs.Relates.{Relates}

@@ -1,7 +1,9 @@
 -- Adapters over one source that return `Pending` no more often than the source does.
 use Rattle.std.specs.Prelude.{◌+◌, List}
 use Rattle.std.proofs.Common.{◌≤◌}
-use Rattle.lite_stream.specs.Uses.{arith, Answer, CalmLaws, waits, calm_both, none_no_pending, no_pending_none, Runs}
+use Rattle.lite_stream.specs.Uses.{arith, Answer, waits, Runs}
+use Rattle.lite_base.specs.Calm.{CalmLaws}
+use Rattle.lite_base.specs.Laws.Calm.{calm_both, no_pending_none, none_no_pending}
 use Rattle.lite_stream.specs.Laws.Through.{Entails}
 use Rattle.lite_stream.specs.Through.{AdapterParts, Adapts}
 use Rattle.lite_stream.specs.Relates.{Relates}

@@ -1,7 +1,10 @@
 -- Ranks of adapters that hold a value: the source's rank, followed by one number that counts the value held.
 use Rattle.std.specs.Prelude.{◌≡◌, ℕ, ◌+◌, List, [], ◌∷◌, Option, Some, None}
-use Rattle.lite_stream.specs.Uses.{◌∙◌, length, inl, refl, ap, arith, length-append, AllByRecursion, Answer, items, AtMost-both, Below-after, Below-first}
-use Rattle.lite_stream.specs.Uses.{IsItem, each_items, AtMost, Below, count_held, held_rank}
+use Rattle.lite_stream.specs.Uses.{◌∙◌, inl, refl, ap, arith, AllByRecursion, Answer, items, AtMost-both, Below-after, IsItem, AtMost, Below}
+use Rattle.lite_base.specs.Laws.Falling.{Below-first}
+use Rattle.lite_base.specs.Laws.Items.{each_items}
+use Rattle.lite_base.specs.Ranks.{count_held, held_rank}
+use Rattle.std.proofs.Common.{length, length-append}
 use Rattle.lite_stream.specs.Laws.Lower.{at_most_below}
 
 module _ {V : Type 0} where

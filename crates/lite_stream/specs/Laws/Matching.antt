@@ -1,6 +1,7 @@
 -- Laws about calls on items that are the same, for adapters that yield no result of a closure.
 use Rattle.std.specs.Prelude.{⊤, ◌≡◌}
-use Rattle.lite_stream.specs.Uses.{◌∙◌, sym, Bor, Pairwise, SameItem, Sameness, made_same, pairs_same, MatchesFrom, Question}
+use Rattle.lite_stream.specs.Uses.{◌∙◌, sym, Bor, Pairwise, SameItem, Sameness, MatchesFrom, Question}
+use Rattle.lite_base.specs.Laws.Alike.{made_same, pairs_same}
 use Rattle.lite_stream.specs.Copied.{CopiesItem, Referred}
 use Rattle.lite_stream.specs.Enumerate.{Numbers}
 use Rattle.lite_stream.specs.Inspect.{ShowsItem}

@@ -1,8 +1,8 @@
 -- Adapters that replace each item by a list of results. Alike states and sources lead to the same results, `Pending`s
 -- aside.
 use Rattle.std.specs.Prelude.{◌≡◌, List, [], ◌∷◌, Option, Some, None}
-use Rattle.lite_stream.specs.Uses.{OptionBy, SameAnswer, SameItem, Sameness, ComparableBy, strip, answer_items, comparable_as, comparable_nil, ends_same}
-use Rattle.lite_stream.specs.Uses.{MatchesFrom, Question}
+use Rattle.lite_stream.specs.Uses.{OptionBy, SameAnswer, SameItem, Sameness, ComparableBy, strip, ends_same, MatchesFrom, Question}
+use Rattle.lite_base.specs.Laws.Alike.{answer_items, comparable_as, comparable_nil}
 use Rattle.lite_stream.specs.Laws.Agreeing.{AgreeingOver}
 use Rattle.lite_stream.specs.Laws.Through.{Entails}
 use Rattle.lite_stream.specs.Relates.{Relates}

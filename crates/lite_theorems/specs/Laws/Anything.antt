@@ -1,6 +1,8 @@
 -- Laws of types of your own of which nothing is known.
 use Rattle.std.specs.Prelude.{⊤}
-use Rattle.lite_theorems.specs.Uses.{FutureLaws, StreamLaws, NoHint, Anything, MarkLaws, anything_laws, ReadMark, WriteMark}
+use Rattle.lite_theorems.specs.Uses.{FutureLaws, StreamLaws, NoHint, MarkLaws, ReadMark, WriteMark}
+use Rattle.lite_io_base.specs.Laws.Runs.{anything_laws}
+use Rattle.lite_io_base.specs.Runs.{Anything}
 use Rattle.lite_theorems.specs.Futures.{future_by_steps}
 use Rattle.lite_theorems.specs.Laws.Streams.{stream_by_steps}
 use Rattle.lite_theorems.specs.Anything.{AnyAnswers, AnyValue}

@@ -1,7 +1,8 @@
 -- Laws of a chain: up to its end of file it produces what its two readers produce up to theirs.
 use Rattle.std.specs.Prelude.{◌≡◌, ℕ, Bool, true, false, List, [], ◌∷◌, ◌++◌}
-use Rattle.lite_theorems.specs.Uses.{◌∙◌, refl, ap, sym, subst, ChainsReaders, EndlessMarks, JoinsReaders, ReadsAcross, first_of, has_ended, second_of, Chain}
-use Rattle.lite_theorems.specs.Uses.{ReadMark, MarkLaws, BytesAlone, bytes_told, told_both, Runs}
+use Rattle.lite_theorems.specs.Uses.{◌∙◌, refl, ap, sym, subst, ChainsReaders, first_of, has_ended, second_of, Chain, ReadMark, MarkLaws, BytesAlone}
+use Rattle.lite_theorems.specs.Uses.{bytes_told, told_both, Runs}
+use Rattle.lite_buffered.specs.Chain.{EndlessMarks, JoinsReaders, ReadsAcross}
 use Rattle.lite_theorems.specs.Chained.{TellsBoth, TellsRest, TellsWhole}
 
 goes_parts : (l m : List ReadMark) → BytesAlone (l ++ m) → BytesAlone l × BytesAlone m

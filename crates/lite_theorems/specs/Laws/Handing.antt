@@ -1,7 +1,12 @@
 -- Laws of a reader over another reader, which changes the bytes and passes on everything else.
 use Rattle.std.specs.Prelude.{◌≡◌, ◌≤◌, ℕ, List, [], ◌∷◌, ◌++◌, length, map}
-use Rattle.lite_theorems.specs.Uses.{◌∙◌, take, drop, refl, ap, sym, subst, arith, length-append, length-drop, length-take-le, take-append_seam, length-map}
-use Rattle.lite_theorems.specs.Uses.{map-append, Ranks, ranks_of, Runs, ReadCounting, Falls, AllGiven, ReadMark, bytes, given, moved, MarkLaws}
+use Rattle.lite_theorems.specs.Uses.{◌∙◌, take, drop, refl, ap, sym, subst, arith, length-append, length-take-le, map-append, Ranks, Runs}
+use Rattle.lite_theorems.specs.Uses.{ReadCounting, Falls, ReadMark, bytes, given, moved, MarkLaws}
+use Rattle.lite_base.specs.Ranks.{ranks_of}
+use Rattle.lite_io_base.specs.Marks.{AllGiven}
+use Rattle.std.proofs.Common.{length-drop}
+use Rattle.std.proofs.Math.Seq.{take-append_seam}
+use Rattle.std.proofs.lemmas.List.{length-map}
 use Rattle.lite_theorems.specs.Handing.{HandsOn, each_byte}
 
 module _ {M R : Type 0} {part : M → R} {f : ℕ → ℕ} {reads : Runs ReadMark R} where

@@ -1,6 +1,7 @@
 -- Laws of `collect` of `or`: if it returns `Ok`, the collection holds all items of the two streams.
 use Rattle.std.specs.Prelude.{◌≡◌, List, [], Result}
-use Rattle.lite_theorems.specs.Uses.{AtEachOk, subst, Poll, Answer, Runs, Folds, fold_of, Consume, collects, Collect, Refused, Ors, Or}
+use Rattle.lite_theorems.specs.Uses.{AtEachOk, subst, Poll, Answer, Runs, Folds, fold_of, Consume, collects, Collect, Refused, Or}
+use Rattle.lite_merge.specs.Or.{Ors}
 use Rattle.lite_theorems.specs.Interleaving.{OrHolds, items_given}
 use Rattle.lite_theorems.specs.Laws.Collected.{Has, collected}
 use Rattle.lite_theorems.specs.Laws.Rows.{merged_whole}

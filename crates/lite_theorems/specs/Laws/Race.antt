@@ -1,7 +1,9 @@
 -- Laws of `collect` of `race`: if it returns `Ok`, the collection holds all items of the two streams, whatever the
 -- random words were.
 use Rattle.std.specs.Prelude.{◌≡◌, List, [], ◌∷◌, ◌++◌, Result}
-use Rattle.lite_theorems.specs.Uses.{AtEachOk, Stream, Poll, Answer, end, Runs, Folds, fold_of, Consume, collects, Collect, Refused, Races, RacesOn, Race}
+use Rattle.lite_theorems.specs.Uses.{AtEachOk, Poll, Answer, end, Runs, Folds, fold_of, Consume, collects, Collect, Refused, Race}
+use Rattle.lite_merge.specs.Race.{Races, RacesOn}
+use Rattle.rand_core.specs.Stream.{Stream}
 use Rattle.lite_theorems.specs.Interleaving.{RaceHolds, items_given}
 use Rattle.lite_theorems.specs.Laws.Collected.{Has, collected}
 use Rattle.lite_theorems.specs.Laws.Rows.{merged_whole}

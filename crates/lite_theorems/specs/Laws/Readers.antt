@@ -1,8 +1,9 @@
 -- Laws of a reader that is specified by a step.
 use Rattle.std.specs.Prelude.{◌<◌, ◌≤◌, ℕ, List, [], ◌∷◌}
 use Rattle.std.proofs.Common.{◌+◌}
-use Rattle.lite_theorems.specs.Uses.{arith, Below-one, at_most_one, number_ranks, ReadCounting, number_counting, Falls, falls_at_most, falls_of_below}
-use Rattle.lite_theorems.specs.Uses.{steps_laws, ReadMark, given, MarkLaws, Steps}
+use Rattle.lite_theorems.specs.Uses.{arith, Below-one, at_most_one, number_ranks, ReadCounting, Falls, steps_laws, ReadMark, given, MarkLaws, Steps}
+use Rattle.lite_io_base.specs.Laws.Counting.{number_counting}
+use Rattle.lite_io_base.specs.Laws.Falls.{falls_at_most, falls_of_below}
 use Rattle.lite_theorems.specs.Readers.{MarksLower}
 
 -- `step` says which value one mark may leave.

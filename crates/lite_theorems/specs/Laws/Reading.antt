@@ -1,7 +1,8 @@
 -- Laws of a reader that is specified by a step and reads many bytes at once.
 use Rattle.std.specs.Prelude.{◌≡◌, ◌<◌, ◌≤◌, ℕ, zero, suc, List, [], ◌∷◌, ◌++◌, length}
-use Rattle.lite_theorems.specs.Uses.{◌∙◌, min, take, drop, refl, sym, ap, subst, arith, length-take-le, slice_set, take-append-drop, common_steps, ReadMark}
-use Rattle.lite_theorems.specs.Uses.{bytes, moved, Steps}
+use Rattle.lite_theorems.specs.Uses.{◌∙◌, take, drop, refl, sym, ap, subst, arith, length-take-le, take-append-drop, ReadMark, bytes, moved, Steps}
+use Rattle.std.proofs.Common.{min, slice_set}
+use Rattle.std.proofs.lemmas.Grind.{common_steps}
 use Rattle.lite_theorems.specs.Readers.{MarksLower}
 use Rattle.lite_theorems.specs.Reading.{FrontLaws, FrontStep, ReadsLeft}
 

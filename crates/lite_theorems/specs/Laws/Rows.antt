@@ -1,7 +1,9 @@
 -- Laws of two streams that are merged: the items yielded are an interleaving of those of the two lists.
 use Rattle.std.specs.Prelude.{◌⊎◌, ⊤, true, false, Some, None, ◌≡◌, Bool, List, [], ◌∷◌, ◌++◌, map}
-use Rattle.lite_theorems.specs.Uses.{◌∙◌, inl, inr, refl, ap, sym, subst, Ready, Pending, Answer, end, strip, until_end, Runs, MergeRow, MergeRows, Merges}
-use Rattle.lite_theorems.specs.Uses.{beside_pending, AllEnds, FusesOn, Fuse}
+use Rattle.lite_theorems.specs.Uses.{◌∙◌, inl, inr, refl, ap, sym, subst, Ready, Pending, Answer, end, strip, Runs, Fuse}
+use Rattle.lite_base.specs.Answers.{until_end}
+use Rattle.lite_merge.specs.Merge.{MergeRow, MergeRows, Merges, beside_pending}
+use Rattle.lite_stream.specs.Fuse.{AllEnds, FusesOn}
 use Rattle.lite_theorems.specs.Interleaving.{EndsWith, GivesRest, Interleaves, items_given}
 
 module _ {A : Type 0} where

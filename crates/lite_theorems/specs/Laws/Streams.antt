@@ -1,7 +1,14 @@
 -- Laws of a stream that is specified by a step.
 use Rattle.std.specs.Prelude.{⊤, ◌≤◌, ℕ, List, [], ◌∷◌, Some, None}
-use Rattle.lite_theorems.specs.Uses.{FoldsTo, ap, arith, inl, inr, refl, subst, sym, Ready, Pending, Answer, before_end, Below-one, Lowers-at_most, at_most_one}
-use Rattle.lite_theorems.specs.Uses.{folds_follow, same_hint, AtMost, Lowers, Counting, PollsOn, Ranks, number_ranks, RunLaws, StreamLaws, items, laws_of, NoHint}
+use Rattle.lite_theorems.specs.Uses.{FoldsTo, ap, arith, inl, inr, refl, subst, sym, Ready, Pending, Answer, Below-one, at_most_one, folds_follow}
+use Rattle.lite_theorems.specs.Uses.{Lowers, Ranks, number_ranks, StreamLaws, NoHint}
+use Rattle.lite_base.specs.Answers.{before_end, items}
+use Rattle.lite_base.specs.Laws.Falling.{Lowers-at_most}
+use Rattle.lite_base.specs.Laws.Hint.{same_hint}
+use Rattle.lite_base.specs.Laws.StreamLaws.{laws_of}
+use Rattle.lite_base.specs.Rank.{AtMost}
+use Rattle.lite_base.specs.Ranks.{Counting}
+use Rattle.lite_base.specs.StreamLaws.{PollsOn, RunLaws}
 use Rattle.lite_base.specs.Laws.Ranks.{number_counting}
 use Rattle.lite_stream.specs.Laws.Lower.{at_most_below, lowers_at_most}
 use Rattle.lite_theorems.specs.Streams.{HintsAt, ItemsLower, RankLowers}

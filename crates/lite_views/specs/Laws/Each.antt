@@ -1,8 +1,10 @@
 -- Each item that an adapter yields has a fact, if each item of its source has one: a lemma for each family of adapters.
 use Rattle.std.specs.Prelude.{◌≡◌, ℕ, List, [], ◌∷◌, ◌++◌, map, refl, ⊤, Bool, true, false, Option, Some, None}
-use Rattle.lite_views.specs.Uses.{zero, suc, inl, inr, CalledAt, Mut, Bor, Poll, Ready, Pending, Answer, Gives, Waiting, end, item, Accepts, Always, Finishes}
-use Rattle.lite_views.specs.Uses.{handed, Question, Runs, Cuts, AllEnds, FusesOn, Exchanges, Replaces, leaves_steps, LeavesOut, Joins, is_done, second_after}
-use Rattle.lite_views.specs.Uses.{Flat, Expands, HandsOut, Part, First, Second, Done, MergeRow, MergeRows, Pairs, pendings}
+use Rattle.lite_views.specs.Uses.{zero, suc, inl, inr, Mut, Bor, Poll, Ready, Pending, Answer, Gives, Waiting, end, item, Accepts, Always, Finishes}
+use Rattle.lite_views.specs.Uses.{handed, Question, Runs, Cuts, AllEnds, FusesOn, Exchanges, Replaces, leaves_steps, LeavesOut, Joins, is_done}
+use Rattle.lite_views.specs.Uses.{second_after, Flat, Expands, HandsOut, Part, First, Second, MergeRow, MergeRows, Pairs, pendings}
+use Rattle.lite_reshape.specs.declared.chain.Part.TheVariants.{Done}
+use Rattle.std.specs.Fn.{CalledAt}
 use Rattle.lite_views.specs.Each.{EachItem}
 
 module _ {A : Type 0} (P : A → Type 0) where

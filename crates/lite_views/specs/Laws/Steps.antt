@@ -1,7 +1,7 @@
 -- What streams and futures yield that are specified by a step.
 use Rattle.std.specs.Prelude.{◌≡◌, List, [], ◌∷◌, Some, None, refl, Ok, Err}
-use Rattle.lite_views.specs.Uses.{ap, subst, sym, FoldsTo, Poll, Ready, Pending, Answer, Gives, UpToValue, end, item}
-use Rattle.lite_views.specs.Uses.{Runs, Hints, StreamLaws}
+use Rattle.lite_views.specs.Uses.{ap, subst, sym, FoldsTo, Poll, Ready, Pending, Answer, Gives, end, item, Runs, Hints, StreamLaws}
+use Rattle.lite_base.specs.Answers.{UpToValue}
 use Rattle.lite_views.specs.Views.{Fits, ItemsAfter, Lists, ListsAs, Seen, ValueHolds, Waited}
 
 -- A future: `P` of the future and its value holds at the result with the value, and before each `Pending`.

@@ -1,5 +1,6 @@
 -- The futures of one write, one flush and one close are calm over a calm writer.
-use Rattle.lite_write.specs.Uses.{CalmLaws, Runs, CalmWriteLaws, WriteMark, calls_calm, PolledByCalls}
+use Rattle.lite_write.specs.Uses.{CalmLaws, Runs, CalmWriteLaws, WriteMark, PolledByCalls}
+use Rattle.lite_read.specs.Laws.Polled.{calls_calm}
 use Rattle.lite_write.specs.Close.{Closes}
 use Rattle.lite_write.specs.Flush.{Flushes}
 use Rattle.lite_write.specs.Write.{Writes}

@@ -1,8 +1,21 @@
 -- Laws of `copy`.
 use Rattle.std.specs.Prelude.{◌≡◌, ◌<◌, ◌+◌, ◌%◌, ◌^◌, ℕ, Bool, List, [], ◌∷◌, ◌++◌, length, Result, Ok}
-use Rattle.lite_write.specs.Uses.{◌∙◌, refl, ap, arith, append-nil, append_assoc, length-append, mod-add-mod, flat_map-append, filter-append, filter, Error}
-use Rattle.lite_write.specs.Uses.{Poll, Waiting, strip, Reaches, Reaches-back, FutureLaws, FutureRunLaws, Ranks, ReadCounting, future_laws_of, strip_join, up_to_once, waiting_strip, waiting_up_to, waits_join}
-use Rattle.lite_write.specs.Uses.{Runs, ThroughBuffer, GivenRun, ReadMark, MarkLaws, WriteMark, bytes_taken, taken_both, given_of, idle_join}
+use Rattle.lite_write.specs.Uses.{◌∙◌, refl, ap, arith, append-nil, length-append, filter, Error, Poll, strip, FutureLaws, FutureRunLaws}
+use Rattle.lite_write.specs.Uses.{future_laws_of, up_to_once, Runs, ThroughBuffer, ReadMark, MarkLaws, WriteMark, bytes_taken, idle_join}
+use Rattle.lite_base.specs.Answers.{Waiting}
+use Rattle.lite_base.specs.Chain.{Reaches}
+use Rattle.lite_base.specs.Laws.Answers.{strip_join, waiting_strip, waiting_up_to}
+use Rattle.lite_base.specs.Laws.Calm.{waits_join}
+use Rattle.lite_base.specs.Laws.Chain.{Reaches-back}
+use Rattle.lite_base.specs.Ranks.{Ranks}
+use Rattle.lite_io_base.specs.Counting.{ReadCounting}
+use Rattle.lite_io_base.specs.Laws.Falls.{GivenRun}
+use Rattle.lite_io_base.specs.Laws.Takings.{taken_both}
+use Rattle.lite_read.specs.Laws.PollSteps.{given_of}
+use Rattle.std.proofs.Common.{append_assoc}
+use Rattle.std.proofs.Math.Nat.{mod-add-mod}
+use Rattle.std.proofs.lemmas.Grind.{flat_map-append}
+use Rattle.std.proofs.lemmas.List.Elements.{filter-append}
 use Rattle.lite_write.specs.Copy.{Copied, CopyRuns, CopyValue, Moves, CopiesSome}
 use Rattle.lite_write.specs.MarkLists.{BytesAlone, TakesSome, TakesUpTo, TellsUpTo, byte_in, bytes_told, is_taken_wait}
 use Rattle.lite_write.specs.MarkLists.{is_told_wait}

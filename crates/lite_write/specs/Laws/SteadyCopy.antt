@@ -1,10 +1,15 @@
 -- The value of `copy` does not depend on when its reader and its writer were pending, if no write fails. It is pending
 -- only when one of them is.
 use Rattle.std.specs.Prelude.{⊤, IsOk, ◌≡◌, ◌+◌, ◌%◌, ◌^◌, ℕ, List, [], ◌∷◌, ◌++◌, Ok, Err, length}
-use Rattle.lite_write.specs.Uses.{◌∙◌, refl, ap, sym, arith, append-nil, length-append, error_kind, Error, Poll, Comparable, ComparableBy, strip, CalmLaws}
-use Rattle.lite_write.specs.Uses.{Finishes, gives_strip, none_no_pending, Sameness, FutureSteadyLawsBy, Runs, comparable_behind, strip_marks-append, ReadMark}
-use Rattle.lite_write.specs.Uses.{bytes, MarkLaws, TakesNone, CalmReadLaws, NoPendingRead, SteadyReadLaws, strip_marks, CalmWriteLaws, NoPendingWrite}
-use Rattle.lite_write.specs.Uses.{WriteMark, bytes_taken, SameByKind}
+use Rattle.lite_write.specs.Uses.{◌∙◌, refl, ap, sym, arith, append-nil, length-append, error_kind, Error, Poll, ComparableBy, strip, CalmLaws}
+use Rattle.lite_write.specs.Uses.{Sameness, Runs, ReadMark, bytes, MarkLaws, CalmWriteLaws, NoPendingWrite, WriteMark, bytes_taken, SameByKind}
+use Rattle.lite_base.specs.Answers.{Comparable}
+use Rattle.lite_base.specs.Future.Finishes.{Finishes}
+use Rattle.lite_base.specs.Laws.Alike.{gives_strip}
+use Rattle.lite_base.specs.Laws.Calm.{none_no_pending}
+use Rattle.lite_base.specs.Steady.{FutureSteadyLawsBy, TakesNone}
+use Rattle.lite_io_base.specs.Laws.Steady.{comparable_behind, strip_marks-append}
+use Rattle.lite_io_base.specs.Steady.{CalmReadLaws, NoPendingRead, SteadyReadLaws, strip_marks}
 use Rattle.lite_write.specs.Laws.SteadyWriteAll.{without_failure_laws, no_failure_both, no_failure_last}
 use Rattle.lite_write.specs.SteadyWriteAll.{NoFailure, NoneFails, WithoutFailure}
 use Rattle.lite_write.specs.Copy.{CopyRuns, CopyValue, Moves}

@@ -1,6 +1,7 @@
 -- `flush` and `close` return `Ok` if their writer does not fail.
 use Rattle.std.specs.Prelude.{◌≡◌, List, [], ◌∷◌, Ok, Err, ⊤}
-use Rattle.lite_write.specs.Uses.{refl, Poll, Ready, Pending, strip, FutureSteadyLaws, Runs, WriteMark, done_marks, polled_runs, PolledByCalls}
+use Rattle.lite_write.specs.Uses.{refl, Poll, Ready, Pending, strip, FutureSteadyLaws, Runs, WriteMark, done_marks, PolledByCalls}
+use Rattle.lite_read.specs.Laws.Polled.{polled_runs}
 use Rattle.lite_write.specs.Close.{Closes}
 use Rattle.lite_write.specs.Flush.{Flushes}
 use Rattle.lite_write.specs.Laws.SteadyWriteAll.{AllOk, all_ok_same}

@@ -1,7 +1,11 @@
 -- `write_all` returns `Ok` in the end if no write fails, and is pending only when its writer is.
 use Rattle.std.specs.Prelude.{◌≡◌, ℕ, List, [], ◌∷◌, ◌++◌, Ok, ⊤}
-use Rattle.lite_write.specs.Uses.{map, refl, subst, Poll, Ready, Pending, ComparableBy, strip, CalmLaws, NoPending, to_value_last, FutureSteadyLaws, Runs}
-use Rattle.lite_write.specs.Uses.{MarkLaws, never_waits_parts, CalmWriteLaws, NoPendingWrite, WriteMark}
+use Rattle.lite_write.specs.Uses.{refl, subst, Poll, Ready, Pending, ComparableBy, strip, CalmLaws, FutureSteadyLaws, Runs, MarkLaws, CalmWriteLaws}
+use Rattle.lite_write.specs.Uses.{NoPendingWrite, WriteMark}
+use Rattle.lite_base.specs.Calm.{NoPending}
+use Rattle.lite_base.specs.Laws.Segments.{to_value_last}
+use Rattle.lite_io_base.specs.Laws.SteadyWrite.{never_waits_parts}
+use Rattle.std.proofs.Common.{map}
 use Rattle.lite_write.specs.Laws.WriteAll.{WriteAllResult, all_runs}
 use Rattle.lite_write.specs.SteadyWriteAll.{NoFailure, NoneFails, WithoutFailure}
 use Rattle.lite_write.specs.WriteAll.{Ended, HandsMarks, HandsOver, WritesAll}

@@ -1,7 +1,9 @@
 -- Laws of `write_all`.
 use Rattle.std.specs.Prelude.{⊤, ◌<◌, [], ◌∷◌, ◌++◌, length, Result}
-use Rattle.lite_write.specs.Uses.{◌∙◌, refl, ap, arith, length-append, Error, Poll, FutureLaws, FutureRunLaws, future_laws_of, up_to_once, segment_before, segments_before, to_value_join}
-use Rattle.lite_write.specs.Uses.{Runs, MarkLaws, WriteMark, lent_still, idle_join}
+use Rattle.lite_write.specs.Uses.{◌∙◌, refl, ap, arith, length-append, Error, Poll, FutureLaws, FutureRunLaws, future_laws_of, up_to_once, Runs}
+use Rattle.lite_write.specs.Uses.{MarkLaws, WriteMark, idle_join}
+use Rattle.lite_base.specs.Laws.Segments.{segment_before, segments_before, to_value_join}
+use Rattle.lite_io_base.specs.Laws.Lent.{lent_still}
 use Rattle.lite_write.specs.PollSteps.{WritesSome}
 use Rattle.lite_write.specs.WriteAll.{HandsMarks, WritesAll}
 use Rattle.lite_write.specs.declared.write_all.WriteAllFuture.{WriteAllFuture}

@@ -1,4 +1,4 @@
-use Rattle.futures_lite.specs.Uses.{or_at_once, or_picked}
+use Rattle.lite_views.proofs.Picking.{or_at_once, or_picked}
 use Rattle.futures_lite.proofs.future.or.Goals as goal
 
 pub returns-clause-at_once : goal.returns-clause-at_once

@@ -1,4 +1,4 @@
-use Rattle.futures_lite.specs.Uses.{polled_at_once, polled_returned}
+use Rattle.lite_views.proofs.Picking.{polled_at_once, polled_returned}
 use Rattle.futures_lite.proofs.future.poll_fn.Goals as goal
 
 pub returns-clause-returned : goal.returns-clause-returned

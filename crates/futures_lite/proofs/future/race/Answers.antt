@@ -1,4 +1,4 @@
-use Rattle.futures_lite.specs.Uses.{race_picked}
+use Rattle.lite_views.proofs.Picking.{race_picked}
 use Rattle.futures_lite.proofs.future.race.Goals as goal
 
 pub returns-clause-picked : goal.returns-clause-picked

@@ -1,4 +1,4 @@
-use Rattle.futures_lite.specs.Uses.{try_at_once, try_both, try_fails_at_once, try_first_fails, try_second_fails}
+use Rattle.lite_views.proofs.Picking.{try_at_once, try_both, try_fails_at_once, try_first_fails, try_second_fails}
 use Rattle.futures_lite.proofs.future.try_zip.Goals as goal
 
 pub returns-clause-at_once : goal.returns-clause-at_once

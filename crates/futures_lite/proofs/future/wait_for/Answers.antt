@@ -1,4 +1,7 @@
-use Rattle.futures_lite.specs.Uses.{arith, rules, common_steps, LeftAs, left_seen}
+use Rattle.futures_lite.specs.Uses.{LeftAs}
+use Rattle.lite_views.proofs.Waiting.{left_seen}
+use Rattle.std.proofs.Common.{arith, rules}
+use Rattle.std.proofs.lemmas.Grind.{common_steps}
 use Rattle.futures_lite.proofs.future.wait_for.Goals as goal
 
 pub returns-clause-left : goal.returns-clause-left

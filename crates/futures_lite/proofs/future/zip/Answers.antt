@@ -1,4 +1,4 @@
-use Rattle.futures_lite.specs.Uses.{zip_both}
+use Rattle.lite_views.proofs.Picking.{zip_both}
 use Rattle.futures_lite.proofs.future.zip.Goals as goal
 
 pub returns-clause-both : goal.returns-clause-both

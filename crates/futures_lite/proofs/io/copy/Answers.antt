@@ -1,4 +1,4 @@
-use Rattle.futures_lite.specs.Uses.{copy_left, on_each}
+use Rattle.lite_views.proofs.Copy.{copy_left, on_each}
 use Rattle.futures_lite.proofs.io.copy.Goals as goal
 
 pub returns-clause-all : goal.returns-clause-all

@@ -1,4 +1,4 @@
-use Rattle.futures_lite.specs.Uses.{empty_lists}
+use Rattle.lite_views.proofs.Empty.{empty_lists}
 use Rattle.futures_lite.proofs.stream.empty.Goals as goal
 
 pub returns-clause-lists : goal.returns-clause-lists

@@ -1,5 +1,7 @@
 use Rattle.std.specs.Prelude.{length}
-use Rattle.futures_lite.specs.Uses.{subst, array_into_iter_items, array_steps, at_most, GivesAll, array_gives}
+use Rattle.futures_lite.specs.Uses.{subst, at_most, GivesAll}
+use Rattle.lite_views.proofs.Iter.{array_gives}
+use Rattle.std.specs.Array.Iter.{array_into_iter_items, array_steps}
 use Rattle.futures_lite.proofs.stream.iter_array.Goals as goal
 
 pub returns : goal.returns

@@ -1,5 +1,6 @@
 use Rattle.std.specs.Prelude.{◌≡◌, ◌-◌}
-use Rattle.futures_lite.specs.Uses.{refl, range_gives}
+use Rattle.futures_lite.specs.Uses.{refl}
+use Rattle.lite_views.proofs.Iter.{range_gives}
 use Rattle.futures_lite.proofs.stream.iter_range.Goals as goal
 
 pub returns-clause-lists : goal.returns-clause-lists

@@ -1,5 +1,8 @@
 use Rattle.std.specs.Prelude.{length}
-use Rattle.futures_lite.specs.Uses.{◌∙◌, ap, subst, at_most, copied_source, copied_steps, iter_rest, iter_steps, GivesAll, slice_gives}
+use Rattle.futures_lite.specs.Uses.{◌∙◌, ap, subst, at_most, GivesAll}
+use Rattle.lite_views.proofs.Iter.{slice_gives}
+use Rattle.std.specs.Iterator.Adapters.{copied_source, copied_steps}
+use Rattle.std.specs.Slice.Iter.{iter_rest, iter_steps}
 use Rattle.futures_lite.proofs.stream.iter_slice.Goals as goal
 
 pub returns : goal.returns

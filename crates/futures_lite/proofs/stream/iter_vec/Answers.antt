@@ -1,5 +1,8 @@
 use Rattle.std.specs.Prelude.{length}
-use Rattle.futures_lite.specs.Uses.{◌∙◌, ap, subst, sym, into_iter_steps, into_iter_len, at_most, GivesAll, vec_gives}
+use Rattle.futures_lite.specs.Uses.{◌∙◌, ap, subst, at_most, GivesAll}
+use Rattle.lite_views.proofs.Iter.{vec_gives}
+use Rattle.std.proofs.Common.{sym}
+use Rattle.std.specs.Vec.Iter.{into_iter_len, into_iter_steps}
 use Rattle.futures_lite.proofs.stream.iter_vec.Goals as goal
 
 pub returns : goal.returns

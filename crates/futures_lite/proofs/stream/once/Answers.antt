@@ -1,4 +1,4 @@
-use Rattle.futures_lite.specs.Uses.{once_at_once, once_fronts, once_lists}
+use Rattle.lite_views.proofs.Once.{once_at_once, once_fronts, once_lists}
 use Rattle.futures_lite.proofs.stream.once.Goals as goal
 
 pub returns-clause-lists : goal.returns-clause-lists

@@ -1,4 +1,5 @@
-use Rattle.futures_lite.specs.Uses.{once_future_lists, refl}
+use Rattle.futures_lite.specs.Uses.{refl}
+use Rattle.lite_views.proofs.OnceFuture.{once_future_lists}
 use Rattle.futures_lite.proofs.stream.once_future.Goals as goal
 
 pub returns-clause-lists : goal.returns-clause-lists

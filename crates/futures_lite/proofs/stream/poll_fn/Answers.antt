@@ -1,4 +1,4 @@
-use Rattle.futures_lite.specs.Uses.{polled_on}
+use Rattle.lite_views.proofs.PollFn.{polled_on}
 use Rattle.futures_lite.proofs.stream.poll_fn.Goals as goal
 
 pub returns-clause-on : goal.returns-clause-on

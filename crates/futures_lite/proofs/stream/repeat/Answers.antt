@@ -1,4 +1,4 @@
-use Rattle.futures_lite.specs.Uses.{repeated_on}
+use Rattle.lite_views.proofs.Repeat.{repeated_on}
 use Rattle.futures_lite.proofs.stream.repeat.Goals as goal
 
 pub returns-clause-on : goal.returns-clause-on

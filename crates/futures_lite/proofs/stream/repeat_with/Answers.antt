@@ -1,4 +1,4 @@
-use Rattle.futures_lite.specs.Uses.{called_on}
+use Rattle.lite_views.proofs.RepeatWith.{called_on}
 use Rattle.futures_lite.proofs.stream.repeat_with.Goals as goal
 
 pub returns-clause-on : goal.returns-clause-on

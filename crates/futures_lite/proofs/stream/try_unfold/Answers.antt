@@ -1,6 +1,7 @@
 use Rattle.std.specs.Prelude.{[], ◌∷◌}
 use Rattle.futures_lite.specs.Futures.{future_runs_of}
-use Rattle.futures_lite.specs.Uses.{refl, try_unfolded_lists}
+use Rattle.futures_lite.specs.Uses.{refl}
+use Rattle.lite_views.proofs.Unfold.{try_unfolded_lists}
 use Rattle.futures_lite.proofs.stream.try_unfold.Goals as goal
 
 pub returns-clause-lists : goal.returns-clause-lists

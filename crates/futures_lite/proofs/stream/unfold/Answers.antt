@@ -1,6 +1,7 @@
 use Rattle.std.specs.Prelude.{[], ◌∷◌}
 use Rattle.futures_lite.specs.Futures.{future_runs_of}
-use Rattle.futures_lite.specs.Uses.{refl, unfolded_lists}
+use Rattle.futures_lite.specs.Uses.{refl}
+use Rattle.lite_views.proofs.Unfold.{unfolded_lists}
 use Rattle.futures_lite.proofs.stream.unfold.Goals as goal
 
 pub returns-clause-lists : goal.returns-clause-lists

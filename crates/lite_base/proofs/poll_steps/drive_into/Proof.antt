@@ -1,8 +1,18 @@
 -- The walk of `drive_into` by hand: its loop ends by the order of the steps, which is no number. Each step lends the
 -- three references to `step_into`.
 use Rattle.std.specs.Prelude.{None, Some, Option, Bool, true, false, IsSome, IfSome, MatchOption, ◌≡◌, ℕ, List, [], ◌∷◌, refl}
-use Rattle.lite_base.specs.Uses.{ap, subst, proved, leaves, Keeps, mem, bounded, param, RattleType, mut_vals, mut_Tells, plain, heard, nothing, only, calls_at}
-use Rattle.lite_base.specs.Uses.{Clauses, Ended, triple_of, Contract, Triple, Stays, stay_ref, walk_of, Goes-ref}
+use Rattle.lite_base.specs.Uses.{ap, subst, Keeps, RattleType}
+use Rattle.std.proofs.raw_atomic.Walks.{leaves, proved}
+use denote.Memory.{mem}
+use denote.Param.{bounded, param}
+use denote.Ref.{mut_Tells, mut_vals}
+use denote.Signature.{plain}
+use denote.Steps.{heard, nothing, only}
+use denote.Triple.Call.{calls_at}
+use denote.Triple.Clauses.{Clauses, Ended}
+use denote.Triple.Spec.{triple_of}
+use denote.Triple.Statement.{Contract, Triple}
+use denote.Triple.Walked.{Goes-ref, Stays, stay_ref, walk_of}
 use Rattle.futures.specs.contracts.task.Poll as PollRow
 use Rattle.futures.specs.contracts.task.context.Context as ContextRow
 use Rattle.std.specs.contracts.option.Option as OptionRow

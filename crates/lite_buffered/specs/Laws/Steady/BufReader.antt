@@ -1,7 +1,8 @@
 -- A `BufReader` with some capacity is steady over a steady reader, and calm over a calm one.
 use Rattle.std.specs.Prelude.{◌≡◌, ◌<◌, ℕ, zero, suc, List, ◌++◌}
-use Rattle.lite_buffered.specs.Uses.{Comparable, Runs, comparable_behind, comparable_fronts, no_wait_both, no_wait_bytes, no_wait_parts, strip_marks-append}
-use Rattle.lite_buffered.specs.Uses.{ReadMark, bytes, CalmReadLaws, NoPendingRead, SteadyReadLaws, strip_marks}
+use Rattle.lite_buffered.specs.Uses.{Comparable, Runs, comparable_behind, no_wait_both, strip_marks-append, ReadMark, bytes, CalmReadLaws}
+use Rattle.lite_buffered.specs.Uses.{NoPendingRead, SteadyReadLaws, strip_marks}
+use Rattle.lite_io_base.specs.Laws.Steady.{comparable_fronts, no_wait_bytes, no_wait_parts}
 use Rattle.lite_buffered.specs.declared.buf_reader.BufReader.{BufReader}
 use Rattle.lite_buffered.specs.BufReader.{Padded, PassesBuffer, ThroughBuffer, ahead, reader_capacity}
 use Rattle.lite_buffered.specs.Laws.BufReader.{passes_some, through_laws}

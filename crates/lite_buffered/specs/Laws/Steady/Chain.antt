@@ -1,7 +1,8 @@
 -- `chain` is steady over steady readers, and calm over calm ones.
 use Rattle.std.specs.Prelude.{◌≡◌, Bool, true, false, List, [], ◌∷◌, ◌++◌}
-use Rattle.lite_buffered.specs.Uses.{refl, sym, Comparable, Runs, comparable_behind, comparable_none, comparable_swapped, no_wait_both, strip_marks-append}
-use Rattle.lite_buffered.specs.Uses.{ReadMark, CalmReadLaws, NoPendingRead, SteadyReadLaws, strip_marks}
+use Rattle.lite_buffered.specs.Uses.{refl, sym, Comparable, Runs, comparable_behind, comparable_none, no_wait_both, strip_marks-append, ReadMark}
+use Rattle.lite_buffered.specs.Uses.{CalmReadLaws, NoPendingRead, SteadyReadLaws, strip_marks}
+use Rattle.lite_io_base.specs.Laws.Steady.{comparable_swapped}
 use Rattle.lite_buffered.specs.declared.chain.Chain.{Chain}
 use Rattle.lite_buffered.specs.Chain.{ChainsReaders, EndlessMarks, JoinsReaders, ReadsAcross}
 use Rattle.lite_buffered.specs.Laws.Chain.{chains_keep, chains_laws}

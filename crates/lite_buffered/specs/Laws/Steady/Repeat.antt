@@ -1,6 +1,7 @@
 -- `repeat` is steady and calm.
 use Rattle.std.specs.Prelude.{◌≡◌, List, [], ◌∷◌, ⊤}
-use Rattle.lite_buffered.specs.Uses.{◌∙◌, ap, sym, Comparable, comparable_stripped, steady_read_always, ReadMark, CalmReadLaws, NoPendingRead, SteadyReadLaws}
+use Rattle.lite_buffered.specs.Uses.{◌∙◌, ap, sym, Comparable, ReadMark, CalmReadLaws, NoPendingRead, SteadyReadLaws}
+use Rattle.lite_io_base.specs.Laws.Steady.{comparable_stripped, steady_read_always}
 use Rattle.lite_buffered.specs.declared.repeat.Repeat.{Repeat}
 use Rattle.lite_buffered.specs.Laws.Repeat.{repeats_laws}
 use Rattle.lite_buffered.specs.Repeat.{RepeatsByte}

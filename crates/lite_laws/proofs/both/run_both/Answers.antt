@@ -1,5 +1,7 @@
 use Rattle.std.specs.Prelude.{IfOk, IfErr, Result, []}
-use Rattle.lite_laws.specs.Uses.{rules, Ok, Err, inl, inr, refl, IfErr-at_err, on_err_weaker}
+use Rattle.lite_laws.specs.Uses.{rules}
+use Rattle.std.proofs.Common.{Err, Ok, inl, inr, refl}
+use Rattle.std.proofs.lemmas.Result.{IfErr-at_err, on_err_weaker}
 use Rattle.lite_laws.specs.Waits.{HoldsEach}
 use Rattle.lite_laws.proofs.Waits.{waits_on}
 use Rattle.lite_laws.proofs.both.run_both.Goals as goal

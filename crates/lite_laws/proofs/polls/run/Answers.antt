@@ -1,5 +1,7 @@
 use Rattle.std.specs.Prelude.{◌+◌, [], ◌∷◌, ◌++◌}
-use Rattle.lite_laws.specs.Uses.{rules, arith, ◌∙◌, ap, append_assoc, length-append, common_steps}
+use Rattle.lite_laws.specs.Uses.{rules}
+use Rattle.std.proofs.Common.{ap, append_assoc, arith, length-append, ◌∙◌}
+use Rattle.std.proofs.lemmas.Grind.{common_steps}
 use Rattle.lite_laws.proofs.Waits.{waits_last}
 use Rattle.lite_laws.proofs.polls.run.Goals as goal
 

@@ -1,7 +1,6 @@
 use Rattle.std.specs.Prelude.{◌≡◌, ◌==◌, ◌≤◌, ℕ, drop, length}
-use Rattle.lite_read.specs.Uses.{◌∙◌, ap, arith, cond, leb, sym, and_parts, le-leb, length-drop, zip2_splat, zip2_splat_left, length-chunk, is_ascii}
-use Rattle.lite_read.specs.Uses.{prefix_len}
-use Rattle.std.proofs.lemmas.Bool.{eqb-true}
+use Rattle.lite_read.specs.Uses.{◌∙◌, ap, arith, cond, leb, sym, le-leb, length-drop, zip2_splat, zip2_splat_left, length-chunk, is_ascii, prefix_len}
+use Rattle.std.proofs.lemmas.Bool.{eqb-true, and_parts}
 use lib.Lanes.{chunk}
 use Rattle.lite_read.proofs.FirstLine.{all_below}
 use Rattle.lite_read.proofs.Lanes.{below_128, none_of}

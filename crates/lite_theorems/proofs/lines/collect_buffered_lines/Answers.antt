@@ -1,9 +1,14 @@
 use Rattle.std.specs.Prelude.{⊤, ◌≡◌, ◌<◌, ℕ, List, [], ◌++◌}
-use Rattle.lite_theorems.specs.Uses.{◌∙◌, ap, subst, sym, Global, Folds, fold_of, Consume, LacksRoom, tries_collect, TryCollect, PassesBuffer, ThroughBuffer}
-use Rattle.lite_theorems.specs.Uses.{ahead, reader_capacity, TakesMarks, WithinLimit, limit_of, take_inner, BufReader, Take, ReadMark, bytes, GivesLines}
-use Rattle.lite_theorems.specs.Uses.{lining, PieceSegments, Lines, passes_some, Runs}
+use Rattle.lite_theorems.specs.Uses.{◌∙◌, ap, subst, sym, Global, Folds, fold_of, Consume, LacksRoom, tries_collect, ahead, reader_capacity}
+use Rattle.lite_theorems.specs.Uses.{TakesMarks, WithinLimit, take_inner, Take, ReadMark, bytes, lining, PieceSegments, Runs}
+use Rattle.lite_buffered.specs.Laws.BufReader.{passes_some}
+use Rattle.lite_buffered.specs.Take.{limit_of}
+use Rattle.lite_buffered.specs.declared.buf_reader.BufReader.{BufReader}
+use Rattle.lite_gather.specs.declared.try_collect.TryCollect.{TryCollect}
+use Rattle.lite_read.specs.Lines.{GivesLines}
+use Rattle.lite_read.specs.declared.lines.Lines.{Lines}
 use Rattle.std.proofs.Common.{String}
-use Rattle.lite_buffered.specs.BufReader.{reader_inner as buffered_of}
+use Rattle.lite_buffered.specs.BufReader.{reader_inner as buffered_of, PassesBuffer, ThroughBuffer}
 use Rattle.lite_theorems.specs.Lines.{AtEachValue, CollectsLines, limited, lines_told}
 use Rattle.lite_theorems.proofs.Collecting.{collects_so, says}
 use Rattle.lite_theorems.specs.Laws.Collected.{Has, has}

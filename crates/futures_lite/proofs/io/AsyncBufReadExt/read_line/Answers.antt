@@ -1,5 +1,7 @@
 use Rattle.std.specs.Prelude.{⊤}
-use Rattle.futures_lite.specs.Uses.{ReadsLine, ReadsLineByRoom, line_room, text_any, line_over, when_less, text_left, read_text_line}
+use Rattle.futures_lite.specs.Uses.{ReadsLine, ReadsLineByRoom, text_any, line_over, when_less, text_left}
+use Rattle.lite_read.specs.Laws.Texts.{line_room}
+use Rattle.lite_views.proofs.Until.{read_text_line}
 use Rattle.futures_lite.proofs.io.AsyncBufReadExt.read_line.Goals as goal
 
 pub returns-clause-line : goal.returns-clause-line

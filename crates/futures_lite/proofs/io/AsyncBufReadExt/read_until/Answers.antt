@@ -1,5 +1,7 @@
 use Rattle.std.specs.Prelude.{⊤}
-use Rattle.futures_lite.specs.Uses.{ReadsUntil, ReadsUntilByRoom, refl, until_any, gathered_left, when_less, read_piece}
+use Rattle.futures_lite.specs.Uses.{ReadsUntil, ReadsUntilByRoom, refl, gathered_left, when_less}
+use Rattle.lite_read.specs.Laws.ReadUntil.{until_any}
+use Rattle.lite_views.proofs.Until.{read_piece}
 use Rattle.futures_lite.proofs.io.AsyncBufReadExt.read_until.Goals as goal
 
 pub returns-clause-piece : goal.returns-clause-piece

@@ -1,4 +1,4 @@
-use Rattle.futures_lite.specs.Uses.{bytes_lists}
+use Rattle.lite_views.proofs.Bytes.{bytes_lists}
 use Rattle.futures_lite.proofs.io.AsyncReadExt.bytes.Goals as goal
 
 pub returns-clause-lists : goal.returns-clause-lists

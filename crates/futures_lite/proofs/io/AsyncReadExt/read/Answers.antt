@@ -1,4 +1,4 @@
-use Rattle.futures_lite.specs.Uses.{read_left}
+use Rattle.lite_views.proofs.OneCall.{read_left}
 use Rattle.futures_lite.proofs.io.AsyncReadExt.read.Goals as goal
 
 pub returns-clause-once : goal.returns-clause-once

@@ -1,4 +1,5 @@
-use Rattle.futures_lite.specs.Uses.{refl, exactly_read, gathered_left, same_read, seen}
+use Rattle.futures_lite.specs.Uses.{refl, gathered_left, seen}
+use Rattle.lite_views.proofs.ReadExact.{exactly_read, same_read}
 use Rattle.futures_lite.proofs.io.AsyncReadExt.read_exact.Goals as goal
 
 pub returns-clause-first : goal.returns-clause-first

@@ -1,5 +1,8 @@
 use Rattle.std.specs.Prelude.{⊤}
-use Rattle.futures_lite.specs.Uses.{ReadsToEnd, ReadsToEndByRoom, refl, to_end_any, all_read, gathered_left, when_less}
+use Rattle.futures_lite.specs.Uses.{ReadsToEndByRoom, refl, gathered_left, when_less}
+use Rattle.lite_read.specs.Laws.ReadToEnd.{to_end_any}
+use Rattle.lite_read.specs.ReadToEnd.{ReadsToEnd}
+use Rattle.lite_views.proofs.Futures.{all_read}
 use Rattle.futures_lite.proofs.io.AsyncReadExt.read_to_end.Goals as goal
 
 pub returns-clause-all : goal.returns-clause-all

@@ -1,5 +1,7 @@
 use Rattle.std.specs.Prelude.{⊤}
-use Rattle.futures_lite.specs.Uses.{ReadsStringByRoom, ReadsToString, string_room, text_any, all_over, when_less, all_read_text, text_left}
+use Rattle.futures_lite.specs.Uses.{ReadsStringByRoom, ReadsToString, text_any, all_over, when_less, text_left}
+use Rattle.lite_read.specs.Laws.Texts.{string_room}
+use Rattle.lite_views.proofs.Texts.{all_read_text}
 use Rattle.futures_lite.proofs.io.AsyncReadExt.read_to_string.Goals as goal
 
 pub returns-clause-all : goal.returns-clause-all

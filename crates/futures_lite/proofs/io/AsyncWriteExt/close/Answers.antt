@@ -1,4 +1,4 @@
-use Rattle.futures_lite.specs.Uses.{closed_left}
+use Rattle.lite_views.proofs.OneCall.{closed_left}
 use Rattle.futures_lite.proofs.io.AsyncWriteExt.close.Goals as goal
 
 pub returns-clause-all : goal.returns-clause-all

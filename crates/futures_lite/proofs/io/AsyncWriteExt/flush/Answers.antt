@@ -1,4 +1,4 @@
-use Rattle.futures_lite.specs.Uses.{flushed_left}
+use Rattle.lite_views.proofs.OneCall.{flushed_left}
 use Rattle.futures_lite.proofs.io.AsyncWriteExt.flush.Goals as goal
 
 pub returns-clause-all : goal.returns-clause-all

@@ -1,4 +1,4 @@
-use Rattle.futures_lite.specs.Uses.{wrote_left}
+use Rattle.lite_views.proofs.OneCall.{wrote_left}
 use Rattle.futures_lite.proofs.io.AsyncWriteExt.write.Goals as goal
 
 pub returns-clause-once : goal.returns-clause-once

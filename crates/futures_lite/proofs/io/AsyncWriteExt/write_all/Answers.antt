@@ -1,4 +1,4 @@
-use Rattle.futures_lite.specs.Uses.{accepted_left, written_left}
+use Rattle.lite_views.proofs.WriteAll.{accepted_left, written_left}
 use Rattle.futures_lite.proofs.io.AsyncWriteExt.write_all.Goals as goal
 
 pub returns-clause-all : goal.returns-clause-all

@@ -1,4 +1,5 @@
-use Rattle.futures_lite.specs.Uses.{refl, Calls, any_made, only_made, lent_lists}
+use Rattle.futures_lite.specs.Uses.{refl, Calls, only_made, lent_lists}
+use Rattle.lite_views.proofs.Any.{any_made}
 use Rattle.futures_lite.proofs.stream.StreamExt.any.Goals as goal
 
 pub returns-clause-value : goal.returns-clause-value

@@ -1,4 +1,5 @@
-use Rattle.futures_lite.specs.Uses.{cloned_parts, cloned_fits, listed_through}
+use Rattle.futures_lite.specs.Uses.{cloned_parts, listed_through}
+use Rattle.lite_views.proofs.Holding.{cloned_fits}
 use Rattle.futures_lite.proofs.stream.StreamExt.cloned.Goals as goal
 
 pub returns-clause-lists : goal.returns-clause-lists

@@ -1,4 +1,5 @@
-use Rattle.futures_lite.specs.Uses.{LacksRoom, collect_made, value_made, seen}
+use Rattle.futures_lite.specs.Uses.{LacksRoom, value_made, seen}
+use Rattle.lite_views.proofs.Collect.{collect_made}
 use Rattle.futures_lite.proofs.stream.StreamExt.collect.Goals as goal
 
 pub returns-clause-value : goal.returns-clause-value

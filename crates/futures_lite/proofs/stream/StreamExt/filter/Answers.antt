@@ -1,4 +1,5 @@
-use Rattle.futures_lite.specs.Uses.{CalledAt, filter_parts, filter_fewer, filtered_fits, listed_through}
+use Rattle.futures_lite.specs.Uses.{CalledAt, filter_parts, listed_through}
+use Rattle.lite_views.proofs.Filter.{filter_fewer, filtered_fits}
 use Rattle.futures_lite.proofs.stream.StreamExt.filter.Goals as goal
 
 pub returns-clause-lists : goal.returns-clause-lists

@@ -1,4 +1,5 @@
-use Rattle.futures_lite.specs.Uses.{filter_map_parts, filter_map_fewer, filter_mapped_fits, listed_through}
+use Rattle.futures_lite.specs.Uses.{filter_map_parts, listed_through}
+use Rattle.lite_views.proofs.FilterMap.{filter_map_fewer, filter_mapped_fits}
 use Rattle.futures_lite.proofs.stream.StreamExt.filter_map.Goals as goal
 
 pub returns-clause-lists : goal.returns-clause-lists

@@ -1,4 +1,5 @@
-use Rattle.futures_lite.specs.Uses.{refl, CalledAt, find_made, find_left, only_made, seen, lent_lists}
+use Rattle.futures_lite.specs.Uses.{refl, CalledAt, only_made, seen, lent_lists}
+use Rattle.lite_views.proofs.Find.{find_left, find_made}
 use Rattle.futures_lite.proofs.stream.StreamExt.find.Goals as goal
 
 pub returns-clause-value : goal.returns-clause-value

@@ -1,4 +1,5 @@
-use Rattle.futures_lite.specs.Uses.{refl, Calls, find_map_made, only_made, lent_lists}
+use Rattle.futures_lite.specs.Uses.{refl, Calls, only_made, lent_lists}
+use Rattle.lite_views.proofs.FindMap.{find_map_made}
 use Rattle.futures_lite.proofs.stream.StreamExt.find_map.Goals as goal
 
 pub returns-clause-value : goal.returns-clause-value

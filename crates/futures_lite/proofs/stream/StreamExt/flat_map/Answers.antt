@@ -1,4 +1,5 @@
-use Rattle.futures_lite.specs.Uses.{refl, flat_mapped_lists}
+use Rattle.futures_lite.specs.Uses.{refl}
+use Rattle.lite_views.proofs.Holding.{flat_mapped_lists}
 use Rattle.futures_lite.proofs.stream.StreamExt.flat_map.Goals as goal
 
 pub returns-clause-lists : goal.returns-clause-lists

@@ -1,4 +1,5 @@
-use Rattle.futures_lite.specs.Uses.{flatten_parts, flattened_fits, listed_through}
+use Rattle.futures_lite.specs.Uses.{flatten_parts, listed_through}
+use Rattle.lite_views.proofs.Holding.{flattened_fits}
 use Rattle.futures_lite.proofs.stream.StreamExt.flatten.Goals as goal
 
 pub returns-clause-lists : goal.returns-clause-lists

@@ -1,4 +1,5 @@
-use Rattle.futures_lite.specs.Uses.{refl, CallsBoth, fold_made, only_made}
+use Rattle.futures_lite.specs.Uses.{refl, CallsBoth, only_made}
+use Rattle.lite_views.proofs.Fold.{fold_made}
 use Rattle.futures_lite.proofs.stream.StreamExt.fold.Goals as goal
 
 pub returns-clause-value : goal.returns-clause-value

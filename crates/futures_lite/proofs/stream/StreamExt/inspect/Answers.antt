@@ -1,4 +1,5 @@
-use Rattle.futures_lite.specs.Uses.{CalledAt, seen, shown_lists}
+use Rattle.futures_lite.specs.Uses.{CalledAt, seen}
+use Rattle.lite_views.proofs.Inspect.{shown_lists}
 use Rattle.futures_lite.proofs.stream.StreamExt.inspect.Goals as goal
 
 pub returns-clause-lists : goal.returns-clause-lists

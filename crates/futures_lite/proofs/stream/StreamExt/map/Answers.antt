@@ -1,4 +1,6 @@
-use Rattle.futures_lite.specs.Uses.{Calls, map_parts, mapped_fits, may_ask, listed_through, seen, Fronts}
+use Rattle.futures_lite.specs.Uses.{Calls, map_parts, listed_through, seen, Fronts}
+use Rattle.lite_views.proofs.Asking.{may_ask}
+use Rattle.lite_views.proofs.Map.{mapped_fits}
 use Rattle.futures_lite.proofs.stream.StreamExt.map.Goals as goal
 
 pub returns-clause-lists : goal.returns-clause-lists

@@ -1,4 +1,5 @@
-use Rattle.futures_lite.specs.Uses.{map_while_parts, map_while_fewer, mapped_while_fits, listed_through}
+use Rattle.futures_lite.specs.Uses.{map_while_parts, listed_through}
+use Rattle.lite_views.proofs.MapWhile.{map_while_fewer, mapped_while_fits}
 use Rattle.futures_lite.proofs.stream.StreamExt.map_while.Goals as goal
 
 pub returns-clause-lists : goal.returns-clause-lists

@@ -1,4 +1,5 @@
-use Rattle.futures_lite.specs.Uses.{next_left, seen}
+use Rattle.futures_lite.specs.Uses.{seen}
+use Rattle.lite_views.proofs.Next.{next_left}
 use Rattle.futures_lite.proofs.stream.StreamExt.next.Goals as goal
 
 pub returns-clause-left : goal.returns-clause-left

@@ -1,4 +1,5 @@
-use Rattle.futures_lite.specs.Uses.{nth_left, seen}
+use Rattle.futures_lite.specs.Uses.{seen}
+use Rattle.lite_views.proofs.Nth.{nth_left}
 use Rattle.futures_lite.proofs.stream.StreamExt.nth.Goals as goal
 
 pub returns-clause-left : goal.returns-clause-left

@@ -1,4 +1,5 @@
-use Rattle.futures_lite.specs.Uses.{refl, CalledAt, LacksRoom, accepted_made, others_made, value_made}
+use Rattle.futures_lite.specs.Uses.{refl, CalledAt, LacksRoom, value_made}
+use Rattle.lite_views.proofs.Partition.{accepted_made, others_made}
 use Rattle.futures_lite.proofs.stream.StreamExt.partition.Goals as goal
 
 pub returns-clause-accepted : goal.returns-clause-accepted

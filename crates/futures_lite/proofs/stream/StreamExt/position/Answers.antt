@@ -1,4 +1,5 @@
-use Rattle.futures_lite.specs.Uses.{refl, Calls, only_made, seen, position_made, position_left, lent_lists}
+use Rattle.futures_lite.specs.Uses.{refl, Calls, only_made, seen, lent_lists}
+use Rattle.lite_views.proofs.Position.{position_left, position_made}
 use Rattle.futures_lite.proofs.stream.StreamExt.position.Goals as goal
 
 pub returns-clause-value : goal.returns-clause-value

@@ -1,4 +1,5 @@
-use Rattle.futures_lite.specs.Uses.{scan_parts, scan_fewer, scanned_fits, listed_through}
+use Rattle.futures_lite.specs.Uses.{scan_parts, listed_through}
+use Rattle.lite_views.proofs.Scan.{scan_fewer, scanned_fits}
 use Rattle.futures_lite.proofs.stream.StreamExt.scan.Goals as goal
 
 pub returns-clause-lists : goal.returns-clause-lists

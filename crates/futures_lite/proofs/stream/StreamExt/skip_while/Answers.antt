@@ -1,4 +1,5 @@
-use Rattle.futures_lite.specs.Uses.{CalledAt, skip_while_parts, skipped_while_fits, listed_through}
+use Rattle.futures_lite.specs.Uses.{CalledAt, skip_while_parts, listed_through}
+use Rattle.lite_views.proofs.SkipWhile.{skipped_while_fits}
 use Rattle.futures_lite.proofs.stream.StreamExt.skip_while.Goals as goal
 
 pub returns-clause-lists : goal.returns-clause-lists

@@ -1,4 +1,5 @@
-use Rattle.futures_lite.specs.Uses.{CalledAt, take_while_parts, taken_while_fits, listed_through}
+use Rattle.futures_lite.specs.Uses.{CalledAt, take_while_parts, listed_through}
+use Rattle.lite_views.proofs.TakeWhile.{taken_while_fits}
 use Rattle.futures_lite.proofs.stream.StreamExt.take_while.Goals as goal
 
 pub returns-clause-lists : goal.returns-clause-lists

@@ -1,4 +1,5 @@
-use Rattle.futures_lite.specs.Uses.{then_parts, awaited_fits, listed_through}
+use Rattle.futures_lite.specs.Uses.{then_parts, listed_through}
+use Rattle.lite_views.proofs.Holding.{awaited_fits}
 use Rattle.futures_lite.proofs.stream.StreamExt.then.Goals as goal
 
 pub returns-clause-lists : goal.returns-clause-lists

@@ -1,4 +1,7 @@
-use Rattle.futures_lite.specs.Uses.{LacksRoom, all_collected, try_collect_made, value_made, ok_seen, seen}
+use Rattle.futures_lite.specs.Uses.{LacksRoom, value_made, seen}
+use Rattle.lite_views.proofs.Collecting.{all_collected}
+use Rattle.lite_views.proofs.OkLists.{ok_seen}
+use Rattle.lite_views.proofs.TryCollect.{try_collect_made}
 use Rattle.futures_lite.proofs.stream.StreamExt.try_collect.Goals as goal
 
 pub returns-clause-value : goal.returns-clause-value

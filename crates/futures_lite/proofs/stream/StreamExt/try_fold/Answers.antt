@@ -1,4 +1,5 @@
-use Rattle.futures_lite.specs.Uses.{refl, CallsBoth, only_made, try_fold_made, lent_lists}
+use Rattle.futures_lite.specs.Uses.{refl, CallsBoth, only_made, lent_lists}
+use Rattle.lite_views.proofs.TryFold.{try_fold_made}
 use Rattle.futures_lite.proofs.stream.StreamExt.try_fold.Goals as goal
 
 pub returns-clause-value : goal.returns-clause-value

@@ -1,4 +1,5 @@
-use Rattle.futures_lite.specs.Uses.{refl, Calls, try_for_each_made, only_made, lent_lists}
+use Rattle.futures_lite.specs.Uses.{refl, Calls, only_made, lent_lists}
+use Rattle.lite_views.proofs.TryForEach.{try_for_each_made}
 use Rattle.futures_lite.proofs.stream.StreamExt.try_for_each.Goals as goal
 
 pub returns-clause-value : goal.returns-clause-value

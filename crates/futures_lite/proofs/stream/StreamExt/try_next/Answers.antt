@@ -1,4 +1,5 @@
-use Rattle.futures_lite.specs.Uses.{try_next_left, seen}
+use Rattle.futures_lite.specs.Uses.{seen}
+use Rattle.lite_views.proofs.TryNext.{try_next_left}
 use Rattle.futures_lite.proofs.stream.StreamExt.try_next.Goals as goal
 
 pub returns-clause-left : goal.returns-clause-left

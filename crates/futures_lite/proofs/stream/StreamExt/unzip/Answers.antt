@@ -1,4 +1,5 @@
-use Rattle.futures_lite.specs.Uses.{LacksRoom, unzip_made, value_made, seen}
+use Rattle.futures_lite.specs.Uses.{LacksRoom, value_made, seen}
+use Rattle.lite_views.proofs.Unzip.{unzip_made}
 use Rattle.futures_lite.proofs.stream.StreamExt.unzip.Goals as goal
 
 pub returns-clause-value : goal.returns-clause-value

@@ -1,7 +1,9 @@
 -- A fill says more than the trait's: which reader it leaves.
 use base.Logic.{fst∗, mono_r, via}
 use contract.Monad.{fact}
-use Rattle.lite_bridge.specs.Uses.{param, afterwards_weaker, clauses_give, Afterwards}
+use Rattle.lite_io_base.proofs.Afterwards.{afterwards_weaker, clauses_give}
+use Rattle.lite_io_base.specs.Runs.{Afterwards}
+use denote.Param.{param}
 use types.Logic.{sem}
 use Rattle.lite_bridge.specs.contracts.block_on.BlockOn.{the_row}
 use Rattle.lite_bridge.proofs.block_on.BlockOnBufRead.TheImpl.Goals as goal

@@ -1,5 +1,6 @@
 use Rattle.std.specs.Prelude.{List, ℕ}
-use Rattle.lite_bridge.specs.Uses.{refl, sym, Bor}
+use Rattle.lite_bridge.specs.Uses.{refl, sym}
+use Rattle.std.specs.Borrow.{Bor}
 use Rattle.lite_bridge.proofs.Blocks.{fill_fails, fill_lends, filling_stays}
 use Rattle.lite_bridge.proofs.block_on.BlockOnBufRead.fill_buf.Goals as goal
 

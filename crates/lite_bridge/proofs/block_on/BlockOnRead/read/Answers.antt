@@ -1,4 +1,5 @@
-use Rattle.lite_bridge.specs.Uses.{◌∙◌, ap, rules, sym}
+use Rattle.lite_bridge.specs.Uses.{◌∙◌, ap, sym}
+use Rattle.std.proofs.Common.{rules}
 use Rattle.lite_bridge.proofs.Blocks.{buf_stays, read_blocks, read_in_room, reader_stays}
 use Rattle.lite_bridge.proofs.block_on.BlockOnRead.read.Goals as goal
 

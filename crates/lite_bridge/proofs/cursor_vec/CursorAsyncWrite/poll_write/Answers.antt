@@ -1,5 +1,6 @@
 use Rattle.std.specs.Prelude.{◌≡◌, ◌+◌, ℕ, List, [], ◌∷◌, Ok, length}
-use Rattle.lite_bridge.specs.Uses.{refl, subst, sym, arith, Ready, WriteMark, write_marks, take-length}
+use Rattle.lite_bridge.specs.Uses.{refl, subst, sym, arith, Ready, WriteMark, write_marks}
+use Rattle.std.proofs.Math.Seq.{take-length}
 use Rattle.lite_bridge.specs.declared.cursor.Cursor.{Cursor}
 use Rattle.lite_bridge.specs.Cursor.{CursorWrites}
 use Rattle.lite_bridge.proofs.cursor_vec.CursorAsyncWrite.poll_write.Goals as goal

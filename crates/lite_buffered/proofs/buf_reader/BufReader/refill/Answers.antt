@@ -1,5 +1,6 @@
 use Rattle.std.specs.Prelude.{◌≡◌, ◌≤◌, Ok, Err, length, take}
-use Rattle.lite_buffered.specs.Uses.{ap, refl, rules, subst, sym, arith, with_items, moved, common_steps, Pending, Ready}
+use Rattle.lite_buffered.specs.Uses.{ap, refl, rules, subst, sym, arith, moved, common_steps, Pending, Ready}
+use Rattle.std.specs.Vec.{with_items}
 use Rattle.lite_buffered.proofs.Reading.{through_fill, through_past}
 use Rattle.lite_buffered.proofs.buf_reader.BufReader.refill.Goals as goal
 

@@ -1,7 +1,9 @@
 -- A fill says more than the trait's: when the inner reader is asked.
 use base.Logic.{mono_l}
 use contract.Monad.{fact}
-use Rattle.lite_buffered.specs.Uses.{param, Keeps, afterwards_weaker, clauses_give}
+use Rattle.lite_buffered.specs.Uses.{Keeps}
+use Rattle.lite_io_base.proofs.Afterwards.{afterwards_weaker, clauses_give}
+use denote.Param.{param}
 use Rattle.lite_buffered.specs.contracts.buf_reader.BufReader.{the_row}
 use Rattle.lite_buffered.proofs.buf_reader.BufReaderAsyncBufRead.TheImpl.Goals as goal
 

@@ -1,5 +1,6 @@
 use Rattle.std.specs.Prelude.{◌≡◌, ℕ, zero, suc, length, replicate}
-use Rattle.lite_buffered.specs.Uses.{refl, take_all, le_refl, bytes, moved}
+use Rattle.lite_buffered.specs.Uses.{refl, take_all, bytes, moved}
+use Rattle.std.proofs.Common.{le_refl}
 use Rattle.lite_buffered.specs.declared.repeat.Repeat.{Repeat}
 use Rattle.lite_buffered.specs.Repeat.{RepeatsByte}
 use Rattle.lite_buffered.proofs.repeat.RepeatAsyncRead.poll_read.Goals as goal

@@ -1,4 +1,4 @@
-use Rattle.lite_buffered.specs.Uses.{reads_among}
+use Rattle.lite_io_base.specs.Laws.Runs.{reads_among}
 use Rattle.lite_buffered.specs.Take.{TakesMarks}
 use Rattle.lite_buffered.proofs.take.TakeAsyncRead.poll_read_vectored.Goals as goal
 

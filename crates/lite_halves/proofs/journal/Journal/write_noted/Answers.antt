@@ -1,5 +1,6 @@
 use Rattle.std.specs.Prelude.{◌-◌, vec_capacity, vec_len}
-use Rattle.lite_halves.specs.Uses.{ap, arith, refl, rules}
+use Rattle.lite_halves.specs.Uses.{ap, arith, refl}
+use Rattle.std.proofs.Common.{rules}
 use Rattle.lite_halves.specs.Entry.{Request, write_note}
 use Rattle.lite_halves.specs.Laws.Entry.{write_note_fits, write_note_part}
 use Rattle.lite_halves.proofs.Noted.{sound_push}

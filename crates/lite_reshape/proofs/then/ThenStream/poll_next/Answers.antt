@@ -1,5 +1,6 @@
 use Rattle.std.specs.Prelude.{◌≡◌, Some, None}
-use Rattle.lite_reshape.specs.Uses.{rules, Ready, Pending, item, Calls, each_asked, each_here}
+use Rattle.lite_reshape.specs.Uses.{Ready, Pending, item, Calls, each_asked, each_here}
+use Rattle.std.proofs.Common.{rules}
 use Rattle.lite_reshape.specs.Laws.Expanding.{held_answers, made_answers, none_answers}
 use Rattle.lite_reshape.specs.Laws.Then.{hands_pending, hands_value}
 use Rattle.lite_reshape.specs.Then.{HandsOut}

@@ -1,4 +1,5 @@
-use Rattle.lite_source.specs.Uses.{rules, makes_on}
+use Rattle.lite_source.specs.Uses.{makes_on}
+use Rattle.std.proofs.Common.{rules}
 use Rattle.lite_source.proofs.unfolding.Unfolding.make_future.Goals as goal
 use Rattle.lite_source.proofs.unfolding.Unfolding.make_future.Goals.{in-Some-1, in-None-1}
 

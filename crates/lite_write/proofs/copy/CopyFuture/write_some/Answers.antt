@@ -1,5 +1,6 @@
 use Rattle.std.specs.Prelude.{◌≡◌, ◌<◌, ◌≤◌, ◌+◌, ◌%◌, ◌^◌, Ok, length}
-use Rattle.lite_write.specs.Uses.{take, length-take-le, ap, sym, arith, rules, Ready, ahead, offered_marks}
+use Rattle.lite_write.specs.Uses.{ap, sym, arith, rules, Ready, ahead, offered_marks}
+use Rattle.std.proofs.Common.{length-take-le, take}
 use Rattle.lite_write.proofs.Copying.{writes_more}
 use Rattle.lite_write.proofs.copy.CopyFuture.write_some.Goals as goal
 
