@@ -129,7 +129,9 @@ class Declared:
         if self.contracts or not place:
             return
         of, place = place[-1].partition("+")[0], tuple(place[:-1])
-        for it in (block for module, block in blocks if block.name == of and module[: len(place)] == place):
+        # The impls of a struct may stand in any module.
+        anywhere = [module for module, it in blocks if it.is_struct and it.type == of] == [place]
+        for it in (block for module, block in blocks if block.name == of and (anywhere or module[: len(place)] == place)):
             self.ghosts |= it.ghosts
             own = it.functions.get(name)
             if it.trait and not (own and own.ensures | own.starred):

@@ -1,6 +1,6 @@
 -- What the commands do.
 use Rattle.std.specs.Prelude.{◌≡◌, ◌||◌, ◌==◌, ◌+◌, ℕ, ℤ, pos, Bool, true, false, List, [], ◌∷◌, ◌++◌}
-use Rattle.std.specs.Prelude.{Option, Some, None, Result, Ok, Err, codes, if◌then◌else◌, map, take}
+use Rattle.std.specs.Prelude.{Option, Some, None, Result, Ok, Err, codes, if◌then◌else◌, length, map, nat_lt, take}
 use Rattle.std.specs.Char.{to_ascii_lowercase}
 use Rattle.std.specs.Option.{is_some}
 use Rattle.std.specs.declared.alloc.AllocError.{AllocError}
@@ -85,7 +85,7 @@ wrong_count v = Said.wrong (codes "ERR wrong number of arguments for '" ++ verb_
 abbrev pub one_line : List ℕ → List ℕ
 one_line text = map (λ b. if b == 13 || b == 10 then 32 else b) text
 
--- What is said of a word that names no command. Its first bytes are shown, in one line.
+-- What is shown of a word that names no command: its first bytes, in one line.
 abbrev pub shown_name : List ℕ → List ℕ
 shown_name name = one_line (take 128 name)
 
@@ -93,22 +93,38 @@ shown_name name = one_line (take 128 name)
 abbrev pub unknown_said : List ℕ → Said
 unknown_said name = Said.wrong (codes "ERR unknown command '" ++ shown_name name ++ codes "'")
 
--- What a command does with the words behind it.
-abbrev pub answer : HeldValues → List ℕ → Verb → List (List ℕ) → Done
-answer h name Ping [] = (Said.simple (codes "PONG"), true, h)
-answer h name Ping (text ∷ []) = (Said.bulk text, true, h)
-answer h name Echo (text ∷ []) = (Said.bulk text, true, h)
-answer h name Set (key ∷ value ∷ []) = (Said.simple (codes "OK"), true, put h key value)
-answer h name Set (key ∷ value ∷ option ∷ options) = (Said.wrong (codes "ERR syntax error"), true, h)
-answer h name Get (key ∷ []) = (found (h.at key), true, h)
-answer h name Delete (key ∷ keys) = let done = delete_all h (key ∷ keys) in (Said.number (pos done.0), true, done.1)
-answer h name Size [] = (Said.number (pos h.size), true, h)
-answer h name Describe words = (Said.array 0, true, h)
-answer h name Quit words = (Said.simple (codes "OK"), false, h)
-answer h name Unknown words = (unknown_said name, true, h)
-answer h name v words = (wrong_count v, true, h)
+-- Whether a command takes this many words behind its name.
+abbrev pub takes : Verb → ℕ → Bool
+takes Ping n = nat_lt n 2
+takes Echo n = n == 1
+takes Set n = nat_lt 1 n
+takes Get n = n == 1
+takes Delete n = nat_lt 0 n
+takes Size n = n == 0
+takes Describe n = true
+takes Quit n = true
+takes Unknown n = true
 
--- What is done with the words of a request. Without words no_values is.
+-- What a command does with the words behind its name. If it does not take so many, this does not say what is done: see `answer`.
+abbrev pub does : HeldValues → List ℕ → Verb → List (List ℕ) → Done
+does h name Ping [] = (Said.simple (codes "PONG"), true, h)
+does h name Ping (text ∷ []) = (Said.bulk text, true, h)
+does h name Echo (text ∷ []) = (Said.bulk text, true, h)
+does h name Set (key ∷ value ∷ []) = (Said.simple (codes "OK"), true, put h key value)
+does h name Set (key ∷ value ∷ option ∷ options) = (Said.wrong (codes "ERR syntax error"), true, h)
+does h name Get (key ∷ []) = (found (h.at key), true, h)
+does h name Delete (key ∷ keys) = let done = delete_all h (key ∷ keys) in (Said.number (pos done.0), true, done.1)
+does h name Size [] = (Said.number (pos h.size), true, h)
+does h name Describe words = (Said.array 0, true, h)
+does h name Quit words = (Said.simple (codes "OK"), false, h)
+does h name Unknown words = (unknown_said name, true, h)
+does h name v words = (Said.silent, true, h)
+
+-- What is done for a command with the words behind its name. If it does not take so many, it does nothing, and that is what is said.
+abbrev pub answer : HeldValues → List ℕ → Verb → List (List ℕ) → Done
+answer h name v words = if takes v (length words) then does h name v words else (wrong_count v, true, h)
+
+-- What is done with the words of a request. Without words nothing is said.
 abbrev pub perform : HeldValues → List (List ℕ) → Done
 perform h [] = (Said.silent, true, h)
 perform h (name ∷ words) = answer h name (verb (map to_ascii_lowercase name)) words

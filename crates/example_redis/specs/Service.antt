@@ -33,7 +33,7 @@ last_said Cut = []
 last_said (Io e) = []
 last_said Memory = []
 
--- A text is what is said; no text says no_values.
+-- A text is what is said; no text, that nothing is said.
 abbrev pub Complains : List Said → List ℕ → Type 0
 Complains [] text = text ≡ []
 Complains (one ∷ more) text = (0 < length text) × (one ∷ more ≡ Said.wrong text ∷ [])

@@ -1,6 +1,6 @@
 //! What is done with a request.
-ghost use Rattle.std.specs.Prelude.{◌≡◌, ℕ, List, IfOk, true};
-ghost use Rattle.example_redis.specs.Commands.{IsDone, Said, answer, one_line, perform, said, texts, unknown_said, wrong_count};
+ghost use Rattle.std.specs.Prelude.{◌≡◌, ℕ, List, IfOk, length, true};
+ghost use Rattle.example_redis.specs.Commands.{IsDone, Said, answer, does, one_line, perform, said, takes, texts, unknown_said, wrong_count};
 ghost use Rattle.example_redis.specs.Replies.{IsEncodable};
 ghost use Rattle.example_redis.specs.Store.{HeldValues, held};
 ghost use Rattle.example_redis.specs.declared.verb.Verb.TheVariants.{Delete, Echo, Get, Ping, Set, Size};
@@ -42,9 +42,20 @@ impl Store {
         self.answer(name, verb, &words[1..])
     }
 
-    // Does what a command asks for, with the words behind it.
+    // Does what a command asks for, or replies that it does not take so many words.
     fn answer(&mut self, name: &[u8], verb: Verb, words: &[Vec<u8>]) -> Result<Outcome, AllocError>
         ensures { IsDone (held self.old) (answer (held self.old) name.now verb (texts words.now)) result (held self.new) }
+    {
+        if !verb.takes(words.len()) {
+            return wrong_count(self.alloc(), verb);
+        }
+        self.does(name, verb, words)
+    }
+
+    // Does what a command asks for, with a number of words that it takes.
+    fn does(&mut self, name: &[u8], verb: Verb, words: &[Vec<u8>]) -> Result<Outcome, AllocError>
+        requires { takes verb (length words.now) ≡ true }
+        ensures { IsDone (held self.old) (does (held self.old) name.now verb (texts words.now)) result (held self.new) }
     {
         match verb {
             Verb::Ping => ping(self.alloc(), words),
@@ -63,11 +74,9 @@ impl Store {
     }
 
     fn answer_set(&mut self, words: &[Vec<u8>]) -> Result<Outcome, AllocError>
-        ensures { (name : List ℕ) → IsDone (held self.old) (answer (held self.old) name Set (texts words.now)) result (held self.new) }
+        requires { takes Set (length words.now) ≡ true }
+        ensures { (name : List ℕ) → IsDone (held self.old) (does (held self.old) name Set (texts words.now)) result (held self.new) }
     {
-        if words.len() < 2 {
-            return wrong_count(self.alloc(), Verb::Set);
-        }
         if words.len() > 2 {
             return error(self.alloc(), b"ERR syntax error");
         }
@@ -76,11 +85,9 @@ impl Store {
     }
 
     fn answer_get(&self, words: &[Vec<u8>]) -> Result<Outcome, AllocError>
-        ensures { (name : List ℕ) → IsDone (held self.now) (answer (held self.now) name Get (texts words.now)) result (held self.now) }
+        requires { takes Get (length words.now) ≡ true }
+        ensures { (name : List ℕ) → IsDone (held self.now) (does (held self.now) name Get (texts words.now)) result (held self.now) }
     {
-        if words.len() != 1 {
-            return wrong_count(self.alloc(), Verb::Get);
-        }
         match self.get(&words[0]) {
             Some(value) => bulk(self.alloc(), value),
             None => Ok(reply(Reply::Null)),
@@ -88,11 +95,9 @@ impl Store {
     }
 
     fn answer_delete(&mut self, words: &[Vec<u8>]) -> Result<Outcome, AllocError>
-        ensures { (name : List ℕ) → IsDone (held self.old) (answer (held self.old) name Delete (texts words.now)) result (held self.new) }
+        requires { takes Delete (length words.now) ≡ true }
+        ensures { (name : List ℕ) → IsDone (held self.old) (does (held self.old) name Delete (texts words.now)) result (held self.new) }
     {
-        if words.is_empty() {
-            return wrong_count(self.alloc(), Verb::Delete);
-        }
         let mut count = 0usize;
         for key in words {
             count += usize::from(self.delete(key));
@@ -101,11 +106,9 @@ impl Store {
     }
 
     fn answer_size(&self, words: &[Vec<u8>]) -> Result<Outcome, AllocError>
-        ensures { (name : List ℕ) → IsDone (held self.now) (answer (held self.now) name Size (texts words.now)) result (held self.now) }
+        requires { takes Size (length words.now) ≡ true }
+        ensures { (name : List ℕ) → IsDone (held self.now) (does (held self.now) name Size (texts words.now)) result (held self.now) }
     {
-        if !words.is_empty() {
-            return wrong_count(self.alloc(), Verb::Size);
-        }
         Ok(reply(Reply::Integer(self.len() as i64)))
     }
 }
@@ -122,23 +125,19 @@ fn reply(reply: Reply) -> Outcome
 }
 
 fn ping(alloc: Global, words: &[Vec<u8>]) -> Result<Outcome, AllocError>
-    ensures { (h : HeldValues) (name : List ℕ) → IsDone h (answer h name Ping (texts words.now)) result h }
+    requires { takes Ping (length words.now) ≡ true }
+    ensures { (h : HeldValues) (name : List ℕ) → IsDone h (does h name Ping (texts words.now)) result h }
 {
     if words.is_empty() {
         return Ok(reply(Reply::Simple("PONG")));
-    }
-    if words.len() != 1 {
-        return wrong_count(alloc, Verb::Ping);
     }
     bulk(alloc, &words[0])
 }
 
 fn echo(alloc: Global, words: &[Vec<u8>]) -> Result<Outcome, AllocError>
-    ensures { (h : HeldValues) (name : List ℕ) → IsDone h (answer h name Echo (texts words.now)) result h }
+    requires { takes Echo (length words.now) ≡ true }
+    ensures { (h : HeldValues) (name : List ℕ) → IsDone h (does h name Echo (texts words.now)) result h }
 {
-    if words.len() != 1 {
-        return wrong_count(alloc, Verb::Echo);
-    }
     bulk(alloc, &words[0])
 }
 

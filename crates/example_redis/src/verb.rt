@@ -1,7 +1,7 @@
 //! The commands.
 ghost use Rattle.std.specs.Prelude.{◌≡◌, IfOk, map};
 ghost use Rattle.std.specs.Char.{to_ascii_lowercase};
-ghost use Rattle.example_redis.specs.Commands.{verb, verb_name};
+ghost use Rattle.example_redis.specs.Commands.{takes, verb, verb_name};
 
 use std::alloc::{AllocError, Global};
 
@@ -66,6 +66,23 @@ impl Verb {
             return Verb::Quit;
         }
         Verb::Unknown
+    }
+
+    /// Returns whether a command takes this many words behind its name.
+    pub fn takes(self, count: usize) -> bool
+        ensures { result ≡ takes self count }
+    {
+        match self {
+            Verb::Ping => count < 2,
+            Verb::Echo => count == 1,
+            Verb::Set => 1 < count,
+            Verb::Get => count == 1,
+            Verb::Delete => 0 < count,
+            Verb::Size => count == 0,
+            Verb::Describe => true,
+            Verb::Quit => true,
+            Verb::Unknown => true,
+        }
     }
 
     /// Returns the name of a command.

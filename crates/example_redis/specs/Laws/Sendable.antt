@@ -1,10 +1,10 @@
 -- What the commands say can be encoded.
 use Rattle.std.specs.Prelude.{◌≡◌, ◌≢◌, ◌≤◌, ◌||◌, ◌==◌, ℕ, zero, suc, Bool, true, false, List, []}
-use Rattle.std.specs.Prelude.{◌∷◌, ◌++◌, Option, Some, None, codes, if◌then◌else◌, map, take, ⊤}
+use Rattle.std.specs.Prelude.{◌∷◌, ◌++◌, Option, Some, None, codes, if◌then◌else◌, length, map, take, ⊤}
 use Rattle.std.specs.Char.{to_ascii_lowercase}
 use Rattle.std.proofs.Common.{◌∙◌, arith, refl, subst, sym}
 use Rattle.std.proofs.lemmas.Bool.{eq-eqb}
-use Rattle.example_redis.specs.Commands.{Said, answer, found, one_line, perform, said, shown_name, unknown_said, verb, verb_name, wrong_count}
+use Rattle.example_redis.specs.Commands.{Done, Said, answer, does, found, one_line, perform, said, shown_name, takes, unknown_said, verb, verb_name, wrong_count}
 use Rattle.example_redis.specs.Replies.{HaveLines, IsEncodable, IsOneLine, count, greatest_depth}
 use Rattle.example_redis.specs.Store.{HeldValues}
 use Rattle.example_redis.specs.declared.reply.Reply.{Reply, Row_of-Reply, end_of-Reply, more_of-Reply}
@@ -88,27 +88,34 @@ plain_wrong v = between (codes "ERR wrong number of arguments for '") (verb_name
 plain_unknown : (name : List ℕ) → IsPlainText (unknown_said name)
 plain_unknown name = between (codes "ERR unknown command '") (shown_name name) (codes "'") refl (one_line_is (take 128 name)) refl
 
+plain_does : (h : HeldValues) (name : List ℕ) (v : Verb) (ws : List (List ℕ)) → IsPlainText (does h name v ws).0
+plain_does h name Ping [] = line_by_test (codes "PONG") refl
+plain_does h name Ping (a ∷ []) = tt
+plain_does h name Ping (a ∷ b ∷ ws) = tt
+plain_does h name Echo [] = tt
+plain_does h name Echo (a ∷ []) = tt
+plain_does h name Echo (a ∷ b ∷ ws) = tt
+plain_does h name Set [] = tt
+plain_does h name Set (a ∷ []) = tt
+plain_does h name Set (a ∷ b ∷ []) = line_by_test (codes "OK") refl
+plain_does h name Set (a ∷ b ∷ d ∷ ws) = line_by_test (codes "ERR syntax error") refl
+plain_does h name Get [] = tt
+plain_does h name Get (a ∷ []) = plain_found (h.at a)
+plain_does h name Get (a ∷ b ∷ ws) = tt
+plain_does h name Delete [] = tt
+plain_does h name Delete (a ∷ ws) = tt
+plain_does h name Size [] = tt
+plain_does h name Size (a ∷ ws) = tt
+plain_does h name Describe ws = refl
+plain_does h name Quit ws = line_by_test (codes "OK") refl
+plain_does h name Unknown ws = plain_unknown name
+
+plain_if : (b : Bool) (one other : Done) → IsPlainText one.0 → IsPlainText other.0 → IsPlainText (if b then one else other).0
+plain_if true one other a d = a
+plain_if false one other a d = d
+
 plain_answer : (h : HeldValues) (name : List ℕ) (v : Verb) (ws : List (List ℕ)) → IsPlainText (answer h name v ws).0
-plain_answer h name Ping [] = line_by_test (codes "PONG") refl
-plain_answer h name Ping (a ∷ []) = tt
-plain_answer h name Ping (a ∷ b ∷ ws) = plain_wrong Ping
-plain_answer h name Echo [] = plain_wrong Echo
-plain_answer h name Echo (a ∷ []) = tt
-plain_answer h name Echo (a ∷ b ∷ ws) = plain_wrong Echo
-plain_answer h name Set [] = plain_wrong Set
-plain_answer h name Set (a ∷ []) = plain_wrong Set
-plain_answer h name Set (a ∷ b ∷ []) = line_by_test (codes "OK") refl
-plain_answer h name Set (a ∷ b ∷ d ∷ ws) = line_by_test (codes "ERR syntax error") refl
-plain_answer h name Get [] = plain_wrong Get
-plain_answer h name Get (a ∷ []) = plain_found (h.at a)
-plain_answer h name Get (a ∷ b ∷ ws) = plain_wrong Get
-plain_answer h name Delete [] = plain_wrong Delete
-plain_answer h name Delete (a ∷ ws) = tt
-plain_answer h name Size [] = tt
-plain_answer h name Size (a ∷ ws) = plain_wrong Size
-plain_answer h name Describe ws = refl
-plain_answer h name Quit ws = line_by_test (codes "OK") refl
-plain_answer h name Unknown ws = plain_unknown name
+plain_answer h name v ws = plain_if (takes v (length ws)) _ _ (plain_does h name v ws) (plain_wrong v)
 
 plain_done : (h : HeldValues) (words : List (List ℕ)) → IsPlainText (perform h words).0
 plain_done h [] = tt

@@ -1,15 +1,9 @@
 use Rattle.std.proofs.Common.{rules, ◌≡◌, arith, drop, length, pos}
 use Rattle.std.proofs.lemmas.List.{drop_all}
 use Rattle.example_redis.specs.Commands.{Said, said}
-use Rattle.example_redis.specs.Laws.Commands.{delete_right, delete_wrong}
+use Rattle.example_redis.specs.Laws.Commands.{delete_right}
 use Rattle.example_redis.specs.Store.{held}
 use Rattle.example_redis.proofs.store.Store.answer_delete.Goals as goal
-
-pub returns-then-is_empty : goal.returns-then-is_empty
-returns-then-is_empty c name =
-    let h = held c.args.self.now in
-    let none : length c.args.words.now ≡ 0 = search rules in
-    delete_wrong h h name c.wrong_count.result c.args.words.now none (c.wrong_count.ensures h)
 
 pub returns : goal.returns
 returns c name =

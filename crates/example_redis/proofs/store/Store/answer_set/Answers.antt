@@ -1,11 +1,6 @@
-use Rattle.example_redis.specs.Laws.Commands.{set_few, set_many}
+use Rattle.example_redis.specs.Laws.Commands.{set_many}
 use Rattle.example_redis.specs.Store.{held}
 use Rattle.example_redis.proofs.store.Store.answer_set.Goals as goal
-
-pub returns-then-words-lt2 : goal.returns-then-words-lt2
-returns-then-words-lt2 c name =
-    let h = held c.args.self.now in
-    set_few h h name c.wrong_count.result c.args.words.now c.if-words-lt2.true (c.wrong_count.ensures h)
 
 pub returns-then-words-gt2 : goal.returns-then-words-gt2
 returns-then-words-gt2 c name =
