@@ -34,9 +34,7 @@ impl Service for Store {
             FrameError::Malformed
             | FrameError::HasNewline(_)
             | FrameError::EndsInReturn
-            | FrameError::Io(_) => {
-                Ok(Vec::new(alloc))
-            }
+            | FrameError::Io(_) => { Ok(Vec::new(alloc)) }
         }
     }
 }
