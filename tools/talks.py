@@ -179,9 +179,13 @@ class Handed(Served):
 class Talk:
     """A connection of a client."""
 
-    def __init__(self, port):
-        self.socket = socket.create_connection((HOST, port), timeout=PATIENCE)
-        self.socket.setsockopt(socket.IPPROTO_TCP, socket.TCP_NODELAY, 1)
+    def __init__(self, port, options=()):
+        """Connects. Each option is a level, a name and a number."""
+        self.socket = socket.socket()
+        for option in (*options, (socket.IPPROTO_TCP, socket.TCP_NODELAY, 1)):
+            self.socket.setsockopt(*option)
+        self.socket.settimeout(PATIENCE)
+        self.socket.connect((HOST, port))
 
     def __enter__(self):
         return self

@@ -1,19 +1,29 @@
 //! One connection.
 use crate::session::Session;
+use crate::timed::Timed;
 use framed::{FrameError, FramedRead, LineDelimited, ServeError, serve};
 use futures_lite::AsyncReadExt;
 use futures_lite::future::BlockOn;
 use futures_lite::io::{AssertAsync, BufReader, BufWriter};
 use std::alloc::AllocGlobal;
 use std::io;
-use std::io::Write;
-use std::net::TcpStream;
+use std::io::{Read, Write};
+use std::net::{Shutdown, TcpStream};
 use std::random::RandomSource;
 use std::sync::Wait;
-use std::time::Duration;
+use std::time::Clock;
 
-/// How many seconds a read or a write may wait for the client.
-const PATIENCE: u64 = 3;
+/// For how many seconds requests are read.
+const LIFE: u64 = 10;
+
+/// How many seconds more their replies may take.
+const LAST: u64 = 2;
+
+/// For how many seconds what a client still sends is dropped.
+const LINGER: u64 = 2;
+
+/// How many reads that takes at most.
+const READS: usize = 1 << 12;
 
 /// How many bytes a line has at most.
 const LINE: usize = 1000;
@@ -28,19 +38,20 @@ pub fn serve_stream<R>(
     session: &mut Session<R>,
 ) -> Result<(), ServeError<FrameError, FrameError>>
 where
-    R: Wait + RandomSource + AllocGlobal,
+    R: Clock + Wait + RandomSource + AllocGlobal,
 {
-    if let Err(e) = set_options(stream) {
-        return Err(ServeError::Output(e));
-    }
+    let (input, output) = match timed(rt, stream) {
+        Ok(sides) => sides,
+        Err(e) => return Err(ServeError::Output(e)),
+    };
     let Ok(mut on) = BlockOn::new(rt) else {
         return Err(ServeError::Memory);
     };
-    let input = AssertAsync::new(stream).with_budget(BYTES);
+    let input = AssertAsync::new(input).with_budget(BYTES);
     let Ok(reader) = BufReader::new(rt.alloc(), input) else {
         return Err(ServeError::Memory);
     };
-    let Ok(mut writer) = BufWriter::new(rt.alloc(), AssertAsync::new(stream)) else {
+    let Ok(mut writer) = BufWriter::new(rt.alloc(), AssertAsync::new(output)) else {
         return Err(ServeError::Memory);
     };
     let mut lines = LineDelimited { max: LINE };
@@ -48,15 +59,31 @@ where
     serve(&mut on, rt, &mut requests, &mut writer, &mut lines, session)
 }
 
-/// Bounds how long a read or a write waits, and sends replies at once.
-fn set_options(stream: &TcpStream) -> io::Result<()> {
-    let patience = Some(Duration::from_secs(PATIENCE));
-    stream.set_read_timeout(patience)?;
-    stream.set_write_timeout(patience)?;
-    stream.set_nodelay(true)
+/// Returns both sides of a stream, each with its end. Replies are sent at once.
+fn timed<'a, R: Clock>(
+    rt: &'a R,
+    stream: &'a TcpStream,
+) -> io::Result<(Timed<'a, R>, Timed<'a, R>)> {
+    stream.set_nodelay(true)?;
+    let input = Timed::new(rt, stream, LIFE)?;
+    Ok((input, Timed::new(rt, stream, LIFE + LAST)?))
 }
 
 /// Tells a client that there is no seat. If that fails, nothing is lost.
 pub fn refuse(mut stream: &TcpStream) {
     let _ = stream.write_all(b"ERROR too many connections\n");
+}
+
+/// Ends what is sent, and drops what the client still sends. A stream that is dropped with unread input resets its
+/// connection, and then a client may lose the last line.
+pub fn linger<R: Clock>(rt: &R, stream: &TcpStream) -> io::Result<()> {
+    stream.shutdown(Shutdown::Write)?;
+    let mut rest = Timed::new(rt, stream, LINGER)?;
+    let mut dropped = [0u8; 1 << 12];
+    for _ in 0..READS {
+        if rest.read(&mut dropped)? == 0 {
+            break;
+        }
+    }
+    Ok(())
 }

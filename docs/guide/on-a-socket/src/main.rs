@@ -8,9 +8,10 @@ mod connection;
 mod seat;
 mod session;
 mod store;
+mod timed;
 
-use connection::{refuse, serve_stream};
-use seat::Seat;
+use connection::{linger, refuse, serve_stream};
+use seat::{EXITS, SEATS, Seat};
 use session::Session;
 use std::alloc::{Alloc, AllocGlobal};
 use std::io::ErrorKind;
@@ -20,8 +21,12 @@ use std::random::RandomSource;
 use std::sync::atomic::AtomicU64;
 use std::sync::{Arc, Mutex, Wait};
 use std::thread::Threads;
+use std::time::{Clock, Duration};
 use std::{env, io, thread};
 use store::Store;
+
+/// How many milliseconds pass after a connection that could not be accepted.
+const PAUSE: u64 = 50;
 
 fn main(rt: HostRuntime) -> ExitCode {
     match listen(&rt, rt) {
@@ -37,7 +42,7 @@ fn main(rt: HostRuntime) -> ExitCode {
 fn listen<R>(host: &HostRuntime, rt: R) -> io::Result<()>
 where
     R: Net<Listener = TcpListener, Stream = TcpStream> + Threads + Wait + RandomSource,
-    R: AllocGlobal + Copy + Send + 'static,
+    R: Clock + AllocGlobal + Copy + Send + 'static,
 {
     let Some(address) = env::args(host)?.nth(1) else {
         return Err(ErrorKind::InvalidInput.into());
@@ -46,27 +51,51 @@ where
     println!(host; "listening at {}", listener.local_addr()?)?;
     let store = Arc::new(rt.alloc(), Mutex::new(Store::new(rt.alloc())))?;
     let taken = Arc::new(rt.alloc(), AtomicU64::new(0))?;
+    let ending = Arc::new(rt.alloc(), AtomicU64::new(0))?;
     for accepted in listener.incoming() {
-        // A connection that is gone again ends nothing.
-        let Ok(stream) = accepted else { continue };
-        match Seat::take(&taken)? {
-            Some(seat) => start(rt, stream, seat, Arc::try_clone(&store)?),
-            None => refuse(&stream),
+        let Ok(stream) = accepted else {
+            // While the process has no descriptor left, each accept fails at once.
+            thread::sleep(&rt, Duration::from_millis(PAUSE));
+            continue;
+        };
+        match Seat::take(&taken, SEATS)? {
+            Some(seat) => {
+                let (store, ending) = (Arc::try_clone(&store)?, Arc::try_clone(&ending)?);
+                start(rt, stream, seat, store, ending);
+            }
+            None => turn_away(rt, stream, Seat::take(&ending, EXITS)?),
         }
     }
     Ok(())
 }
 
-/// Serves a connection in a new thread, which holds the seat until the connection ends.
-fn start<R>(rt: R, stream: TcpStream, seat: Seat, store: Arc<Mutex<Store>>)
+/// Serves a connection in a new thread, which holds the seat until the client has its last reply.
+fn start<R>(rt: R, stream: TcpStream, seat: Seat, store: Arc<Mutex<Store>>, ending: Arc<AtomicU64>)
 where
-    R: Threads + Wait + RandomSource + AllocGlobal + Copy + Send + 'static,
+    R: Clock + Threads + Wait + RandomSource + AllocGlobal + Copy + Send + 'static,
 {
     let connection = move || {
         // How it ended is the client's affair.
         let _ended = serve_stream(&rt, &stream, &mut Session::new(rt, store));
         drop(seat);
+        if let Ok(Some(_exit)) = Seat::take(&ending, EXITS) {
+            let _ended = linger(&rt, &stream);
+        }
     };
     // If no thread can be made, this closes the connection and gives the seat back.
+    let _running = thread::spawn(&rt, connection);
+}
+
+/// Tells a client that there is no seat. Without an exit, its connection is closed at once.
+fn turn_away<R>(rt: R, stream: TcpStream, exit: Option<Seat>)
+where
+    R: Clock + Threads + Copy + Send + 'static,
+{
+    refuse(&stream);
+    let Some(exit) = exit else { return };
+    let connection = move || {
+        let _ended = linger(&rt, &stream);
+        drop(exit);
+    };
     let _running = thread::spawn(&rt, connection);
 }

@@ -1,25 +1,28 @@
-//! How many connections are served at once.
+//! How many connections there are at once.
 use std::alloc::AllocError;
 use std::sync::Arc;
 use std::sync::atomic::{AtomicU64, Ordering};
 
 /// How many connections are served at once.
-const SEATS: u64 = 4;
+pub const SEATS: u64 = 4;
 
-/// A place among the connections that are served. It is given back when it is dropped.
+/// How many connections, served or refused, are ended at once.
+pub const EXITS: u64 = 16;
+
+/// A place among a number of connections. It is given back when it is dropped.
 pub struct Seat {
     taken: Arc<AtomicU64>,
 }
 
 impl Seat {
-    /// Takes a seat. `None` says that all are taken.
-    pub fn take(taken: &Arc<AtomicU64>) -> Result<Option<Seat>, AllocError> {
+    /// Takes one of `count` seats. `None` says that all are taken.
+    pub fn take(taken: &Arc<AtomicU64>, count: u64) -> Result<Option<Seat>, AllocError> {
         let seat = Seat {
             taken: Arc::try_clone(taken)?,
         };
         // If all are taken, the drop gives this one back.
         let before = taken.fetch_add(1, Ordering::SeqCst);
-        Ok(if before < SEATS { Some(seat) } else { None })
+        Ok(if before < count { Some(seat) } else { None })
     }
 }
 
