@@ -1,4 +1,6 @@
 //! What no clause says: bytes of real clients, and each public function once.
+mod sessions;
+
 use crate::commands::Outcome;
 use crate::error::{ReplyError, RequestError};
 use crate::limits::Limits;
