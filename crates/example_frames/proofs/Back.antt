@@ -15,6 +15,7 @@ use Rattle.framed.specs.ComingBack.{come_back}
 use Rattle.framed.specs.DelimitedBack.{AllowsAsMuch, Encoded, delimited_back}
 use Rattle.framed.specs.LengthDelimited.{gives_delimited}
 use Rattle.framed.specs.Sending.{SendsItems}
+use Rattle.framed.specs.Whole.{Collects}
 use Rattle.framed.specs.declared.frame_error.FrameError.{FrameError}
 use Rattle.framed.specs.declared.frame_error.FrameError.TheVariants.{Io}
 use Rattle.framed.specs.declared.length_delimited.LengthDelimited.{LengthDelimited}
@@ -59,11 +60,10 @@ all_known (x ∷ xs) zs ys h = h.1 ∙ ap (λ l. x ∷ l) (all_known xs h.0 ys h
 -- What was read of a reader whose bytes are known.
 pub read_known : {T : Type 0} (reads : Runs ReadMark T) (known : Known T) (x y : T) (c : LengthDelimited)
     (r : Result (Vec Filled Global) FrameError) → Knows reads known x
-    → IfOk r (λ all. (xs : List ℕ) × ToldStripped reads x (bytes xs ++ ReadMark.end ∷ []) y
-    × ReadsAll gives_delimited c xs (map Ok all.items))
+    → (m : List ReadMark) × ToldStripped reads x m y × Collects gives_delimited (λ cause e. e ≡ Io cause) c [] m r
     → IfOk r (λ all. ReadsAll gives_delimited c (known.left x) (map Ok all.items))
-read_known reads known x y c (Ok all) knows (xs, (l, came, is), read) =
+read_known reads known x y c (Ok all) knows (m, (l, came, is), (xs, m_is, read)) =
     let told = (known.tells x y l knows.0 (knows.1 l y came)).1 in
-    let left : known.left x ≡ xs = all_known xs _ _ (rw is at (strip_known _ l _ told)) in
+    let left : known.left x ≡ xs = all_known xs _ _ (rw (is ∙ m_is) at (strip_known _ l _ told)) in
     rw left read
 read_known reads known x y c (Err e) knows h = tt

@@ -1,13 +1,16 @@
 //! Frames that are written and read.
-ghost use Rattle.std.specs.Prelude.{◌≡◌, ◌<◌, ◌++◌, ◌∷◌, [], IfOk, List, Ok, map, ℕ};
+ghost use Rattle.std.specs.Prelude.{◌≡◌, ◌<◌, ◌++◌, IfOk, List, Ok, length, map, ℕ};
 ghost use Rattle.example_frames.specs.Framing.{ReadsBack};
-ghost use Rattle.futures_lite.specs.Marks.{ReadMark, bytes};
+ghost use Rattle.futures_lite.specs.Marks.{ReadMark};
 ghost use Rattle.futures_lite.specs.Readers.{Knows, ToldStripped};
 ghost use Rattle.futures_lite.specs.Writers.{Stores};
 ghost use Rattle.tokio_util.specs.Codec.Whole.{ReadsAll};
 ghost use Rattle.framed.specs.Frames.{reading};
-ghost use Rattle.framed.specs.LengthDelimited.{FrameOf, gives_delimited};
-ghost use Rattle.framed.specs.Sending.{HandsBytes};
+ghost use Rattle.framed.specs.DelimitedBack.{Encoded};
+ghost use Rattle.framed.specs.LengthDelimited.{RefusesPayload, gives_delimited};
+ghost use Rattle.framed.specs.Sending.{SendsOne};
+ghost use Rattle.framed.specs.Whole.{Collects};
+ghost use Rattle.framed.specs.declared.FrameError.TheVariants.{Io};
 
 use bytes::BytesMut;
 use framed::{FrameError, FramedRead, LengthDelimited, collect_frames, wait_send, wait_send_all};
@@ -16,7 +19,12 @@ use futures_lite::io::{AsyncBufRead, AsyncWrite, BufReader, CountedRead};
 use std::alloc::{AllocError, AllocGlobal};
 use std::sync::Wait;
 
-/// Writes the frame of a text. If it is `Ok`, the writer took the length of the text in four bytes, and then the text.
+/// Writes the frame of a text: its length in four bytes, and then the text.
+///
+/// # Errors
+///
+/// The text is above the limit, or memory was refused: then nothing was written. Or it is the writer's error, behind a
+/// front of the frame.
 pub fn write_frame<R, O>(
     on: &mut BlockOn,
     rt: &R,
@@ -27,14 +35,18 @@ pub fn write_frame<R, O>(
 where
     R: Wait + AllocGlobal,
     O: AsyncWrite,
-    ensures { IfOk result (λ u. (frame : List ℕ) × FrameOf codec.old text.now frame
-        × HandsBytes O.writes writer.old frame (Ok u) writer.new) }
+    ensures { SendsOne (Encoded (λ t. t.now)) (λ c t. RefusesPayload c (length t.now)) O.writes (λ cause e. e ≡ Io cause)
+        writer.old codec.old text.entry result writer.new codec.new }
 {
     let mut out = BytesMut::new(rt.alloc());
     wait_send(on, rt, writer, codec, text, &mut out)
 }
 
 /// Returns all frames of a reader. They are those that its bytes have, up to the end of file.
+///
+/// # Errors
+///
+/// Behind the frames before it, the decoder refused the bytes, the reader failed, or memory was refused.
 pub fn read_all<R, T>(
     on: &mut BlockOn,
     rt: &R,
@@ -45,9 +57,8 @@ where
     T: AsyncBufRead + CountedRead,
     requires counts { T.ranks.counts frames.old.reader }
     requires reading { frames.old.phase ≡ reading }
-    ensures { IfOk result (λ all. (xs : List ℕ)
-        × ToldStripped T.reads frames.old.reader (bytes xs ++ ReadMark.end ∷ []) frames.new.reader
-        × ReadsAll gives_delimited frames.old.decoder (frames.old.held ++ xs) (map Ok all.items)) }
+    ensures { (l : List ReadMark) × ToldStripped T.reads frames.old.reader l frames.new.reader
+        × Collects gives_delimited (λ cause e. e ≡ Io cause) frames.old.decoder frames.old.held l result }
 {
     collect_frames(on, rt, frames)
 }
