@@ -40,6 +40,7 @@ pub enum Delimiter {
 /// assert_eq!(rt; find_delimiter(b"12", b':', 3), Delimiter::Missing);
 /// assert_eq!(rt; find_delimiter(b"1234:", b':', 3), Delimiter::TooFar);
 /// ```
+#[inline(always)]
 pub fn find_delimiter(bytes: &[u8], delimiter: u8, max: usize) -> Delimiter
     ensures { FindsDelimiter delimiter max bytes.now result }
 {
@@ -53,6 +54,7 @@ pub fn find_delimiter(bytes: &[u8], delimiter: u8, max: usize) -> Delimiter
 }
 
 // Returns how many bytes are before the first such byte.
+#[inline(always)]
 pub(crate) fn first_at(bytes: &[u8], byte: u8) -> Option<usize>
     ensures { FirstAt byte bytes.now result }
 {

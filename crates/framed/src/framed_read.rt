@@ -215,6 +215,7 @@ impl<T: AsyncBufRead, D: PromptDecoder> FramedRead<T, D> {
     /// assert!(rt; matches!(frames.in_hand(), Poll::Ready(Some(Ok(_)))));
     /// assert!(rt; frames.in_hand().is_pending());
     /// ```
+    #[inline(always)]
     pub fn in_hand(&mut self) -> Poll<Option<Result<D::Item, D::Error>>>
         ensures { InHand D.gives D.Error.from_gives T.reads T.lent self.old result self.new }
     {
@@ -226,6 +227,7 @@ impl<T: AsyncBufRead, D: PromptDecoder> FramedRead<T, D> {
     }
 
     // Looks for a frame in the bytes held and in those that the reader shows.
+    #[inline(always)]
     fn look(&mut self) -> Poll<Option<Result<D::Item, D::Error>>>
         requires { self.old.phase ≡ reading }
         ensures { InHand D.gives D.Error.from_gives T.reads T.lent self.old result self.new }
@@ -306,6 +308,7 @@ impl<T: AsyncBufRead, D: PromptDecoder> FramedRead<T, D> {
 }
 
 // Puts what the reader shows behind the bytes held. If memory is refused, the buffer has the bytes held.
+#[inline(always)]
 fn append_shown(buffer: &mut BytesMut, stage: Stage, shown: &[u8]) -> Result<(), AllocError>
     requires { stage ≡ Stage.Fresh → (rest : List ℕ) × (shown.now ≡ buffer.old.items ++ rest) }
     ensures whole { OnOk result (buffer.new.items ≡ held_at stage buffer.old.items ++ shown.now) }

@@ -67,6 +67,7 @@ impl Decoder for LineDelimited {
 
     ghost end_is_partial = { pieces_end (λ c v. LineOf c v.items) IsLongLine SaysOutOfMemory (λ e. e ≡ CutOff) };
 
+    #[inline(always)]
     fn decode(&mut self, src: &mut BytesMut) -> Result<Option<BytesMut>, FrameError>
         ensures next { Decodes gives_line_delimited self.old src.old.items result self.new src.new.items }
         ensures kept { IfOk result (λ r. IfNone r ((src.new.items ≡ src.old.items) × (self.new ≡ self.old))) }
@@ -98,6 +99,7 @@ impl<T: AsSlice<u8> + Drop> Encoder<T> for LineDelimited {
 
     ghost refuses = { λ s item. RefusesText s (T.items item) };
 
+    #[inline(always)]
     fn encode(&mut self, item: T, dst: &mut BytesMut) -> Result<(), FrameError> {
         let line = item.as_slice();
         if line.len() > self.max {
@@ -131,6 +133,7 @@ impl<T: AsSlice<u8> + Drop> RoundTrip<T> for LineDelimited {
 }
 
 // Returns how many bytes a text has without the `\r` that may end it.
+#[inline(always)]
 fn line_length(text: &[u8]) -> usize
     ensures { take result text.now ≡ without_return text.now }
 {

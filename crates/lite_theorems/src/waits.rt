@@ -34,6 +34,7 @@ use std::sync::Wait;
 /// assert_eq!(rt; buf, *b"ab");
 /// assert_eq!(rt; wait_read(&mut on, &rt, &mut reader, &mut buf)??, 1);
 /// ```
+#[inline(always)]
 pub fn wait_read<R: Wait, T: AsyncRead>(
     on: &mut BlockOn,
     rt: &R,
@@ -72,6 +73,7 @@ pub fn wait_read<R: Wait, T: AsyncRead>(
 /// let short = wait_read_exact(&mut on, &rt, &mut reader, &mut buf)?;
 /// assert_eq!(rt; short.map_err(|e| e.kind()), Err(ErrorKind::UnexpectedEof));
 /// ```
+#[inline(always)]
 pub fn wait_read_exact<R: Wait, T: AsyncRead>(
     on: &mut BlockOn,
     rt: &R,
@@ -107,6 +109,7 @@ pub fn wait_read_exact<R: Wait, T: AsyncRead>(
 /// assert_eq!(rt; wait_read_until(&mut on, &rt, &mut reader, b'\n', &mut piece)??, 1);
 /// assert_eq!(rt; piece.as_slice(), b"ab\nc".as_slice());
 /// ```
+#[inline(always)]
 pub fn wait_read_until<R: Wait, T: AsyncBufRead + CountedRead>(
     on: &mut BlockOn,
     rt: &R,
@@ -166,6 +169,7 @@ pub(crate) fn read_until_by<R: Wait, T: AsyncBufRead + CountedRead>(
 /// assert_eq!(rt; line.as_slice(), b"long".as_slice());
 /// assert_eq!(rt; reader, b"er\n".as_slice());
 /// ```
+#[inline(always)]
 pub fn wait_read_until_limited<R: Wait, T: AsyncBufRead + CountedRead>(
     on: &mut BlockOn,
     rt: &R,
@@ -204,6 +208,7 @@ pub fn wait_read_until_limited<R: Wait, T: AsyncBufRead + CountedRead>(
 /// wait_write_all(&mut on, &rt, &mut written, b"c")??;
 /// assert_eq!(rt; written.as_slice(), b"abc".as_slice());
 /// ```
+#[inline(always)]
 pub fn wait_write_all<R: Wait, T: AsyncWrite>(
     on: &mut BlockOn,
     rt: &R,
@@ -252,6 +257,7 @@ pub(crate) fn write_all_by<R: Wait, T: AsyncWrite>(
 /// drop(writer);
 /// assert_eq!(rt; written.as_slice(), b"abc".as_slice());
 /// ```
+#[inline(always)]
 pub fn wait_flush<R: Wait, T: AsyncWrite>(
     on: &mut BlockOn,
     rt: &R,

@@ -125,6 +125,7 @@ impl BlockOn {
     /// assert_eq!(rt; on.wait_for(&rt, &mut fused)?, 7);
     /// assert_eq!(rt; on.block_on(&rt, future::poll_once(fused))?, None);
     /// ```
+    #[inline(always)]
     pub fn wait_for<R: Wait, F: Future>(
         &mut self,
         rt: &R,

@@ -65,6 +65,7 @@ impl<'a> Waits<'a> {
     /// assert_eq!(rt; waits.wait_for(&rt, &mut reader.read(&mut buf))?, 1);
     /// assert_eq!(rt; buf, *b"oell");
     /// ```
+    #[inline(always)]
     pub fn wait_for<R: Wait, F: Future>(&mut self, rt: &R, future: &mut F) -> F::Output
         requires { F.can_poll future.old }
         ensures { (ins : _) × Gives ins result × F.run future.old ins future.new }
@@ -99,6 +100,7 @@ impl<'a> Waits<'a> {
     }
 
     // Ends a poll that was pending.
+    #[inline(always)]
     fn park(&mut self) {
         if let Some(mut cx) = self.cx.take() {
             let _: Poll<()> = cx.register(self.source, self.slot);
