@@ -96,5 +96,5 @@ impl<T: AsSlice<u8> + Drop> RoundTrip<T> for Netstring {
 
     ghost means = { λ item string. string.items ≡ T.items item };
 
-    ghost back = { headed_back netstring T.items (λ c d. c.max ≤ d.max) same_longest says_more };
+    ghost back = { headed_back netstring T.items _ (λ c d. c.max ≤ d.max) (λ c x frame b is. is) same_longest says_more };
 }

@@ -1,5 +1,6 @@
 -- Delimiters and bodies at the front of some bytes.
-use Rattle.std.specs.Prelude.{◌≡◌, ◌≢◌, ◌≤◌, ◌<◌, ◌+◌, ◌-◌, ◌^◌, Bool, true, false, not, ℕ, zero, suc, List, ◌∷◌, ◌++◌, decimal, drop, length, slice_index, take, IsErr, IsErrAnd, Option, Some, None, Result, Ok, Err}
+use Rattle.std.specs.Prelude.{◌≡◌, ◌≢◌, ◌≤◌, ◌<◌, ◌+◌, ◌-◌, ◌^◌, Bool, true, false, not, ℕ, zero, suc, List, ◌∷◌, ◌++◌}
+use Rattle.std.specs.Prelude.{IsErr, IsErrAnd, Option, Some, None, Result, Ok, Err, decimal, drop, length, slice_index, take}
 use Rattle.std.specs.Result.{result_ok}
 use Rattle.std.specs.Str.{IsUtf8, bytes_eq}
 use Rattle.std.specs.Str.Parse.{AllDigits, IsNumeral, ParsesUnsigned, digits_value}
@@ -39,6 +40,9 @@ module _ (start n : ℕ) (tail xs : List ℕ) (there : start + n + length tail �
   abbrev other : List ℕ
   other = take (length tail) (drop (start + n) xs)
 
+  abbrev behind : List ℕ
+  behind = drop (start + n + length tail) xs
+
   front_length : length (take start xs) ≡ start
   front_length = length-take-le start xs (omega (arith, there))
 
@@ -48,7 +52,7 @@ module _ (start n : ℕ) (tail xs : List ℕ) (there : start + n + length tail �
   other_length : length other ≡ length tail
   other_length = length-take-le (length tail) (drop (start + n) xs) (omega (arith, there, length-drop (start + n) xs))
 
-  parts : xs ≡ take start xs ++ (body ++ (other ++ drop (start + n + length tail) xs))
+  parts : xs ≡ take start xs ++ (body ++ (other ++ behind))
   parts =
       sym (take-append-drop start xs)
       ∙ ap (λ l. take start xs ++ l) (sym (take-append-drop n (drop start xs))
@@ -78,13 +82,13 @@ module _ (start n : ℕ) (tail xs : List ℕ) (there : start + n + length tail �
         from_not false e = cc e
 
     pub other_there : differ ≡ true → TakesBody start n tail xs (Err Malformed) xs
-    other_there it_is = (refl, take start xs, body, other, drop (start + n + length tail) xs, front_length, body_length, other_length, parts, inl (differs it_is, refl))
+    other_there it_is = (refl, take start xs, body, other, behind, front_length, body_length, other_length, parts, inl (differs it_is, refl))
 
     pub body_refused : differ ≡ false → (r : Result (Option Filled) FrameError) → IsErr r → IsErrAnd r SaysOutOfMemory → (ys : List ℕ) → ys ≡ xs
         → TakesBody start n tail xs r ys
     body_refused none (Ok v) is lacks ys same = cc is
     body_refused none (Err e) is lacks ys same =
-        (same, take start xs, body, other, drop (start + n + length tail) xs, front_length, body_length, other_length, parts, inr (is_tail none, lacks))
+        (same, take start xs, body, other, behind, front_length, body_length, other_length, parts, inr (is_tail none, lacks))
 
     pub body_there : differ ≡ false → (v : List ℕ) → v ≡ drop start (take end (take size xs)) → (ys : List ℕ) → ys ≡ drop size xs
         → (length v ≡ n) × (front : List ℕ) × (length front ≡ start) × (xs ≡ front ++ (v ++ (tail ++ ys)))
@@ -94,8 +98,8 @@ module _ (start n : ℕ) (tail xs : List ℕ) (there : start + n + length tail �
           ap length body_is ∙ body_length,
           take start xs,
           front_length,
-          parts ∙ ap (λ l. take start xs ++ (l ++ (other ++ drop (start + n + length tail) xs))) (sym body_is)
-              ∙ ap (λ l. take start xs ++ (v ++ (l ++ drop (start + n + length tail) xs))) (is_tail none)
+          parts ∙ ap (λ l. take start xs ++ (l ++ (other ++ behind))) (sym body_is)
+              ∙ ap (λ l. take start xs ++ (v ++ (l ++ behind))) (is_tail none)
               ∙ ap (λ l. take start xs ++ (v ++ (tail ++ l))) (ap (λ m. drop m xs) (omega (arith, end_is, size_is)) ∙ sym ys_is),
         )
 

@@ -5,7 +5,7 @@ use Rattle.bytes.specs.Filled.{Filled}
 use Rattle.futures_lite.specs.Lines.{without_return}
 use Rattle.tokio_util.specs.Codec.Next.{Decodes}
 use Rattle.framed.specs.FrameErrors.{SaysOutOfMemory}
-use Rattle.framed.specs.Heads.{FindsDelimiter, text_lacks, text_length, with_delimiter}
+use Rattle.framed.specs.Heads.{FindsDelimiter, text_has_none, text_length, with_delimiter}
 use Rattle.framed.specs.LineDelimited.{LineOf, gives_line_delimited}
 use Rattle.framed.specs.declared.delimiter.Delimiter.TheVariants.{At}
 use Rattle.framed.specs.declared.frame_error.FrameError.{FrameError}
@@ -16,7 +16,7 @@ module _ (c : LineDelimited) (xs : List ℕ) where
     pub line_found : LineOf c (without_return (take at xs)) (take (at + 1) xs)
     line_found = (
       take at xs,
-      text_lacks 10 c.max xs at h,
+      text_has_none 10 c.max xs at h,
       omega (arith, text_length 10 c.max xs at h, h.0),
       refl,
       with_delimiter 10 c.max xs at h,

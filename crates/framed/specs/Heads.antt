@@ -1,12 +1,12 @@
 -- Frames with a head: a text up to a delimiter, which says how many bytes follow, then these bytes, and a tail.
-use Rattle.std.specs.Prelude.{◌≡◌, ◌≢◌, ◌⊎◌, ◌≤◌, ◌<◌, ◌+◌, ◌^◌, ℕ, List, [], ◌∷◌, ◌++◌, length, slice_index, take, Option, Some, None, Result, Ok, Err, decimal}
-use Rattle.std.specs.Int.{IsInRange}
+use Rattle.std.specs.Prelude.{◌≡◌, ◌≢◌, ◌⊎◌, ◌≤◌, ◌<◌, ◌+◌, ◌^◌, ℕ, List, [], ◌∷◌, ◌++◌}
+use Rattle.std.specs.Prelude.{Option, Some, None, Result, Ok, Err, decimal, length, slice_index, take}
+use Rattle.std.specs.Char.{digit_value}
 use Rattle.std.specs.List.{All, Contains}
 use Rattle.std.specs.Str.Parse.{AllDigits}
 use Rattle.std.proofs.Common.{ap, append_assoc, arith, inl, inr, length-append, refl, sym, ◌∙◌}
 use Rattle.std.proofs.lemmas.List.{take_at}
 use Rattle.std.proofs.lemmas.Fmt.{decimal_is_IsNumeral, length-decimal-le}
-use Rattle.std.proofs.lemmas.Str.Parse.{digit_from_value}
 use Rattle.std.proofs.lemmas.List.Elements.{All-cons, All-contains, All-nil, All-tail, Contains-append_right}
 use Rattle.bytes.specs.Filled.{Filled}
 use Rattle.tokio_util.specs.Codec.Next.{Decodes, EndIsPartial, Gives, IsStable, PartialHasNoFrame}
@@ -18,39 +18,40 @@ use Rattle.framed.specs.declared.delimiter.Delimiter.TheVariants.{At, Missing, T
 use Rattle.framed.specs.declared.frame_error.FrameError.{FrameError}
 use Rattle.framed.specs.declared.frame_error.FrameError.TheVariants.{CutOff, Malformed}
 
--- A text without the byte `delimiter`.
-abbrev pub Lacks : ℕ → List ℕ → Type 0
-Lacks delimiter text = All (λ b. b ≢ delimiter) text
+-- A text without the byte `other`.
+abbrev pub HasNo : ℕ → List ℕ → Type 0
+HasNo other text = All (λ b. b ≢ other) text
 
 -- The first `byte` has this index.
 abbrev pub FirstAt : ℕ → List ℕ → Option ℕ → Type 0
-FirstAt byte xs None = Lacks byte xs
-FirstAt byte xs (Some at) = (at < length xs) × (slice_index xs at ≡ byte) × Lacks byte (take at xs)
+FirstAt byte xs None = HasNo byte xs
+FirstAt byte xs (Some at) = (at < length xs) × (slice_index xs at ≡ byte) × HasNo byte (take at xs)
 
 -- Where the first delimiter is, behind at most `max` bytes.
 abbrev pub FindsDelimiter : ℕ → ℕ → List ℕ → Delimiter → Type 0
 FindsDelimiter delimiter max xs (At n) =
-    (n ≤ max) × (text rest : List ℕ) × (length text ≡ n) × Lacks delimiter text × (xs ≡ text ++ delimiter ∷ rest)
-FindsDelimiter delimiter max xs Missing = Lacks delimiter xs × (length xs ≤ max)
+    (n ≤ max) × (text rest : List ℕ) × (length text ≡ n) × HasNo delimiter text × (xs ≡ text ++ delimiter ∷ rest)
+FindsDelimiter delimiter max xs Missing = HasNo delimiter xs × (length xs ≤ max)
 FindsDelimiter delimiter max xs TooFar =
-    (text rest : List ℕ) × (length text ≡ max + 1) × Lacks delimiter text × (xs ≡ text ++ rest)
+    (text rest : List ℕ) × (length text ≡ max + 1) × HasNo delimiter text × (xs ≡ text ++ rest)
 
 -- The number that a text is, in digits, without a zero or a plus before them.
 abbrev pub ReadsDecimal : List ℕ → Option ℕ → Type 0
 ReadsDecimal text (Some n) = (n < 2 ^ 64) × (text ≡ decimal n)
 ReadsDecimal text None = (n : ℕ) → n < 2 ^ 64 → text ≢ decimal n
 
--- A number has at most 20 digits, and no other byte.
-pub digits_lack : (other n : ℕ) → (IsInRange 48 57 other → ⊥) → n < 2 ^ 64 → Lacks other (decimal n)
-digits_lack other n no_digit small = each (decimal n) (decimal_is_IsNumeral n small).0.1
-  where
-    each : (ds : List ℕ) → AllDigits 10 ds → Lacks other ds
-    each [] all = All-nil (λ b. b ≢ other)
-    each (d ∷ ds) all =
-        All-cons (λ b. b ≢ other) d ds (λ same. no_digit (rw (sym same) (digit_from_value d all.0))) (each ds all.1)
+-- A numeral has no other byte than digits.
+pub digits_have_none : (base other : ℕ) (text : List ℕ) → base ≤ digit_value other → AllDigits base text → HasNo other text
+digits_have_none base other [] no_digit all = All-nil (λ b. b ≢ other)
+digits_have_none base other (d ∷ ds) no_digit all =
+    All-cons (λ b. b ≢ other) d ds (λ same. omega (arith, no_digit, all.0, ap digit_value same)) (digits_have_none base other ds no_digit all.1)
 
+-- A decimal number has at most 20 digits, and no other byte.
 pub few_digits : (n : ℕ) → n < 2 ^ 64 → length (decimal n) ≤ 20
 few_digits n small = length-decimal-le 20 n (omega arith) (omega (arith, small)) small
+
+pub decimal_has_none : (other n : ℕ) → 10 ≤ digit_value other → n < 2 ^ 64 → HasNo other (decimal n)
+decimal_has_none other n no_digit small = digits_have_none 10 other (decimal n) no_digit (decimal_is_IsNumeral n small).0.1
 
 -- Behind `start` bytes stand a body of `n` bytes and a tail, or other bytes than the tail, or fewer bytes.
 abbrev pub TakesBody : ℕ → ℕ → List ℕ → List ℕ → Result (Option Filled) FrameError → List ℕ → Type 0
@@ -69,7 +70,7 @@ pub record HeadForm (C : Type 0) : Type 1 where
   pub longest : C → ℕ
   -- The text of a head says that so many bytes follow.
   pub says : C → List ℕ → ℕ → Type 0
-  -- The text is none of a head.
+  -- The text is no head, and the decoder stops with this error.
   pub denies : C → List ℕ → FrameError → Type 0
   -- What stands behind the bytes.
   pub tail : List ℕ
@@ -78,16 +79,16 @@ pub record HeadForm (C : Type 0) : Type 1 where
   pub sure : (c : C) (text : List ℕ) (n : ℕ) (e : FrameError) → says c text n → denies c text e → ⊥
 
 -- A list without a delimiter has it nowhere.
-pub lacks_none : (delimiter : ℕ) (xs text rest : List ℕ) → Lacks delimiter xs → xs ≡ text ++ delimiter ∷ rest → ⊥
-lacks_none delimiter xs text rest none is =
+pub none_within : (delimiter : ℕ) (xs text rest : List ℕ) → HasNo delimiter xs → xs ≡ text ++ delimiter ∷ rest → ⊥
+none_within delimiter xs text rest none is =
     let there : Contains (text ++ delimiter ∷ rest) delimiter = Contains-append_right text (delimiter ∷ rest) delimiter (0, omega arith, refl) in
     All-contains (λ b. b ≢ delimiter) xs delimiter none (rw is there) refl
 
 -- A text without a delimiter that is longer than that before the first one is not at the front.
-pub longer_text : (delimiter : ℕ) (a front p q : List ℕ) → Lacks delimiter front → length a < length front → a ++ delimiter ∷ p ≡ front ++ q → ⊥
+pub longer_text : (delimiter : ℕ) (a front p q : List ℕ) → HasNo delimiter front → length a < length front → a ++ delimiter ∷ p ≡ front ++ q → ⊥
 longer_text delimiter a [] p q h short e = omega (arith, short)
 longer_text delimiter [] (x ∷ front) p q h short e =
-    let first : x ≡ delimiter = cc e in lacks_none delimiter (x ∷ front) [] front h (ap (λ b. b ∷ front) first)
+    let first : x ≡ delimiter = cc e in none_within delimiter (x ∷ front) [] front h (ap (λ b. b ∷ front) first)
 longer_text delimiter (x ∷ a) (y ∷ front) p q h short e =
     let others : a ++ delimiter ∷ p ≡ front ++ q = cc e in
     longer_text delimiter a front p q (All-tail (λ b. b ≢ delimiter) y front h) (omega (arith, short)) others
@@ -97,8 +98,8 @@ module _ (delimiter max : ℕ) (xs : List ℕ) (at : ℕ) (found : FindsDelimite
   text_at : take at xs ≡ found.1
   text_at = ap (take at) found.5 ∙ take_at found.1 (delimiter ∷ found.2) at found.3
 
-  pub text_lacks : Lacks delimiter (take at xs)
-  text_lacks = rw text_at found.4
+  pub text_has_none : HasNo delimiter (take at xs)
+  text_has_none = rw text_at found.4
 
   pub text_length : length (take at xs) ≡ at
   text_length = ap length text_at ∙ found.3
@@ -114,7 +115,7 @@ module _ (delimiter max : ℕ) (xs : List ℕ) (at : ℕ) (found : FindsDelimite
 module _ {C : Type 0} (f : HeadForm C) where
   -- The text of a head.
   abbrev pub IsHead : C → List ℕ → Type 0
-  IsHead c text = (length text ≤ f.longest c) × Lacks f.delimiter text
+  IsHead c text = (length text ≤ f.longest c) × HasNo f.delimiter text
 
   -- A head, the bytes of which it says the number, and the tail.
   abbrev pub HeadedFrame : C → List ℕ → List ℕ → Type 0
@@ -123,7 +124,7 @@ module _ {C : Type 0} (f : HeadForm C) where
 
   -- A head that is too long.
   abbrev pub IsLongHead : C → List ℕ → FrameError → Type 0
-  IsLongHead c xs e = Lacks f.delimiter xs × (length xs ≡ f.longest c + 1) × (e ≡ Malformed)
+  IsLongHead c xs e = HasNo f.delimiter xs × (length xs ≡ f.longest c + 1) × (e ≡ Malformed)
 
   -- A head that is denied.
   abbrev pub IsDeniedHead : C → List ℕ → FrameError → Type 0
@@ -165,12 +166,12 @@ module _ {C : Type 0} (f : HeadForm C) where
     IsOpen = Undecided {V = Filled} (λ c v. HeadedFrame c v.items) RefusesHeaded SaysOutOfMemory (λ e. e ≡ CutOff) c
 
     -- Without a delimiter nothing is decided while there is room for a head.
-    open_head : (xs : List ℕ) → Lacks f.delimiter xs → length xs ≤ f.longest c → IsOpen xs
+    open_head : (xs : List ℕ) → HasNo f.delimiter xs → length xs ≤ f.longest c → IsOpen xs
     open_head xs none short front rest is = (λ v. no_frame v.items, not_refused)
       where
         has_none : (text behind : List ℕ) → front ≡ text ++ f.delimiter ∷ behind → ⊥
         has_none text behind same =
-            lacks_none f.delimiter xs text (behind ++ rest) none (is ∙ ap (λ l. l ++ rest) same ∙ append_assoc text (f.delimiter ∷ behind) rest)
+            none_within f.delimiter xs text (behind ++ rest) none (is ∙ ap (λ l. l ++ rest) same ∙ append_assoc text (f.delimiter ∷ behind) rest)
 
         no_frame : (body : List ℕ) → HeadedFrame c body front → ⊥
         no_frame body (text, _, _, same) = has_none text (body ++ f.tail) same
@@ -233,7 +234,7 @@ module _ {C : Type 0} (f : HeadForm C) where
       head_text = take at xs
 
       is_head : IsHead c head_text
-      is_head = (omega (arith, text_length f.delimiter (f.longest c) xs at found, found.0), text_lacks f.delimiter (f.longest c) xs at found)
+      is_head = (omega (arith, text_length f.delimiter (f.longest c) xs at found, found.0), text_has_none f.delimiter (f.longest c) xs at found)
 
       pub head_denied : (e : FrameError) → f.denies c (take at xs) e → Decodes gives_headed c xs (Err e) c xs
       head_denied e denied = (

@@ -10,14 +10,12 @@ use Rattle.framed.specs.RoundTrip.{RoundTripLaws}
 use Rattle.framed.specs.declared.frame_error.FrameError.{FrameError}
 use Rattle.framed.specs.declared.frame_error.FrameError.TheVariants.{CutOff, Io}
 
--- `body` has the bytes of an item, and `allows c d` says that a decoder `d` reads all heads that an encoder `c` writes.
-module _ {C X : Type 0} (f : HeadForm C) (body : X → List ℕ) (allows : C → C → Type 0)
+-- `body` has the bytes of an item, and what is written for an item is a frame with them. `allows c d` says that a decoder `d`
+-- reads all heads that an encoder `c` writes.
+module _ {C X : Type 0} (f : HeadForm C) (body : X → List ℕ) (encodes : C → X → List ℕ → C → Type 0) (allows : C → C → Type 0)
+    (frames : (c : C) (x : X) (frame : List ℕ) (b : C) → encodes c x frame b → HeadedFrame f c (body x) frame × (b ≡ c))
     (longer : (c d : C) → allows c d → f.longest c ≤ f.longest d)
     (reads : (c d : C) (text : List ℕ) (n : ℕ) → allows c d → f.says c text n → f.says d text n) where
-  -- What is written for an item `x`.
-  abbrev pub EncodedHeaded : C → X → List ℕ → C → Type 0
-  EncodedHeaded c x frame b = HeadedFrame f c (body x) frame × (b ≡ c)
-
   -- What the decoder `d` may read back.
   abbrev pub AllowsHeads : C → List X → C → Type 0
   AllowsHeads c xs d = allows c d
@@ -52,11 +50,12 @@ module _ {C X : Type 0} (f : HeadForm C) (body : X → List ℕ) (allows : C →
   none_refused d e (inr (inl (text, _, _, is))) = omega (arith, ap length is, length-append text (f.delimiter ∷ []))
   none_refused d e (inr (inr (text, b, other, _, _, _, _, _, is))) = omega (arith, ap length is, length-append text (f.delimiter ∷ (b ++ other)))
 
-  pub headed_back : RoundTripLaws EncodedHeaded (gives_headed f) (λ cause e. e ≡ Io cause) AllowsHeads (λ x v. v.items ≡ body x)
+  pub headed_back : RoundTripLaws encodes (gives_headed f) (λ cause e. e ≡ Io cause) AllowsHeads (λ x v. v.items ≡ body x)
   headed_back =
-      pieces_back {V = Filled} (λ c v. HeadedFrame f c v.items) (RefusesHeaded f) SaysOutOfMemory (λ e. e ≡ CutOff) EncodedHeaded
+      pieces_back {V = Filled} (λ c v. HeadedFrame f c v.items) (RefusesHeaded f) SaysOutOfMemory (λ e. e ≡ CutOff) encodes
       (λ cause e. e ≡ Io cause) AllowsHeads (λ x v. v.items ≡ body x) (record {
-        written = λ c x xs d frame b within (framed, same).
+        written = λ c x xs d frame b within is.
+            let (framed, same) = frames c x frame b is in
             record {
               whole = (record { items = body x; spare = 0 }, whole c d within (body x) frame framed);
               one = λ v front more rest h here. one c d within (body x) frame framed v.items front more rest h here;

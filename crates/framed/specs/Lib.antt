@@ -25,4 +25,5 @@ pub mod PiecesBack
 pub mod DelimitedBack
 pub mod LineBack
 pub mod HeadsBack
+pub mod Hexadecimal
 pub mod LinesBack

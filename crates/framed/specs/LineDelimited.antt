@@ -1,11 +1,11 @@
 -- Lines that end with a newline.
-use Rattle.std.specs.Prelude.{◌≡◌, ◌≢◌, ◌⊎◌, ◌≤◌, ◌<◌, ◌+◌, ℕ, List, [], ◌∷◌, ◌++◌, length, Option, Some}
+use Rattle.std.specs.Prelude.{◌≡◌, ◌≢◌, ◌⊎◌, ◌≤◌, ◌<◌, ◌+◌, ℕ, List, [], ◌∷◌, ◌++◌, length, Some}
 use Rattle.std.proofs.Common.{ap, arith, length-append}
 use Rattle.bytes.specs.Filled.{Filled}
 use Rattle.futures_lite.specs.Lines.{without_return}
 use Rattle.tokio_util.specs.Codec.Next.{Gives}
 use Rattle.framed.specs.FrameErrors.{SaysOutOfMemory}
-use Rattle.framed.specs.Heads.{FirstAt, Lacks}
+use Rattle.framed.specs.Heads.{FirstAt, HasNo}
 use Rattle.framed.specs.Pieces.{gives_pieces}
 use Rattle.framed.specs.declared.frame_error.FrameError.{FrameError}
 use Rattle.framed.specs.declared.frame_error.FrameError.TheVariants.{CutOff, EndsInReturn, HasNewline, TooLong}
@@ -13,7 +13,7 @@ use Rattle.framed.specs.declared.line_delimited.LineDelimited.{LineDelimited}
 
 -- A text without a newline.
 abbrev pub HasNoNewline : List ℕ → Type 0
-HasNoNewline text = Lacks 10 text
+HasNoNewline text = HasNo 10 text
 
 -- A text with a newline behind it.
 abbrev pub with_newline : List ℕ → List ℕ
@@ -31,16 +31,12 @@ IsLongLine c xs e = HasNoNewline xs × (length xs ≡ c.max + 1) × (e ≡ TooLo
 abbrev pub gives_line_delimited : Gives LineDelimited Filled FrameError
 gives_line_delimited = gives_pieces (λ c v. LineOf c v.items) IsLongLine SaysOutOfMemory (λ e. e ≡ CutOff)
 
--- The first newline has this index.
-abbrev pub FirstNewline : List ℕ → Option ℕ → Type 0
-FirstNewline xs at = FirstAt 10 xs at
-
 -- Why a line is not encoded into a buffer with room for `spare` more bytes: it is too long, has a newline or ends in `\r`, or
 -- memory was refused.
 abbrev pub RefusesText : LineDelimited → List ℕ → ℕ → FrameError → Type 0
 RefusesText c line spare e =
     ((c.max < length line) × (e ≡ TooLong (length line)))
-    ⊎ ((at : ℕ) × FirstNewline line (Some at) × (e ≡ HasNewline at))
+    ⊎ ((at : ℕ) × FirstAt 10 line (Some at) × (e ≡ HasNewline at))
     ⊎ ((without_return line ≢ line) × (e ≡ EndsInReturn))
     ⊎ (SaysOutOfMemory e × (spare < length line + 1))
 

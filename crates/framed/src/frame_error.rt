@@ -28,7 +28,8 @@ pub enum FrameError {
     TooLong(usize),
     /// The input ended within a frame or a line. The decoder took nothing of it.
     CutOff,
-    /// The bytes are no frame: its head is none, or other bytes than its tail are behind it. Nothing was taken of it.
+    /// The bytes begin no frame: their head is not a frame's, or other bytes than the tail stand behind the body. They
+    /// were not taken.
     Malformed,
     /// A line to be written has its first newline behind so many bytes, so it would be read as two. Nothing was written.
     HasNewline(usize),

@@ -1,5 +1,7 @@
 use bytes::BytesMut;
-use framed::{Delimiter, FrameError, find_delimiter, read_decimal, take_body};
+use framed::{
+    Delimiter, FrameError, Hexadecimal, find_delimiter, read_decimal, read_hexadecimal, take_body,
+};
 use std::alloc::AllocError;
 use std::test::Fail;
 
@@ -17,6 +19,37 @@ fn a_delimiter_is_found_up_to_the_limit_alone(rt: HostRuntime) {
         find_delimiter(b"abc", b':', usize::MAX),
         Delimiter::Missing
     );
+}
+
+#[test]
+fn a_hexadecimal_number_is_read_in_either_case(rt: HostRuntime) {
+    assert_eq!(rt; read_hexadecimal(b"ffffffffffffffff"), Some(usize::MAX));
+    assert_eq!(rt; read_hexadecimal(b"00FfFFFFFFFFFFFFFF"), Some(usize::MAX));
+    assert_eq!(rt; read_hexadecimal(b"0"), Some(0));
+    assert_eq!(rt; read_hexadecimal(b"aBc"), Some(0xabc));
+    for text in [
+        b"10000000000000000".as_slice(),
+        b"+1",
+        b"-1",
+        b"1 ",
+        b" 1",
+        b"g",
+        b"0x1",
+        b"\xff",
+    ] {
+        assert_eq!(rt; read_hexadecimal(text), None);
+    }
+}
+
+#[test]
+fn a_hexadecimal_number_that_is_written_is_read(rt: HostRuntime) {
+    assert_eq!(rt; Hexadecimal::new(0xfedc_ba98).as_bytes(), b"fedcba98".as_slice());
+    for shift in 0..64u32 {
+        for number in [1usize << shift, (1usize << shift) - 1, usize::MAX >> shift] {
+            let written = Hexadecimal::new(number);
+            assert_eq!(rt; read_hexadecimal(written.as_bytes()), Some(number));
+        }
+    }
 }
 
 #[test]

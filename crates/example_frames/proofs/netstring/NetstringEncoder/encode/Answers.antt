@@ -1,6 +1,6 @@
 use Rattle.std.specs.Prelude.{◌≡◌, ◌≤◌, ◌<◌, ◌^◌, [], ◌∷◌, ◌++◌, decimal, length, refl}
 use Rattle.std.proofs.Common.{◌∙◌, append_assoc, arith, rules}
-use Rattle.framed.specs.Heads.{digits_lack, few_digits}
+use Rattle.framed.specs.Heads.{decimal_has_none, few_digits}
 use Rattle.example_frames.proofs.netstring.NetstringEncoder.encode.Goals as goal
 
 pub returns-clause-ok : goal.returns-clause-ok
@@ -12,7 +12,7 @@ returns-clause-ok g c =
     let before = c.args.dst.now.items in
     let all : c.extend_reserved-4.new.self.items ≡ (((before ++ head) ++ 58 ∷ []) ++ string) ++ 44 ∷ [] = search rules in (
       _,
-      ((head, (few_digits (length string) small, digits_lack 58 (length string) (λ r. omega (arith, r.1)) small), (within, small, refl), refl), refl),
+      ((head, (few_digits (length string) small, decimal_has_none 58 (length string) (omega arith) small), (within, small, refl), refl), refl),
       all ∙ append_assoc ((before ++ head) ++ 58 ∷ []) string (44 ∷ []) ∙ append_assoc (before ++ head) (58 ∷ []) (string ++ 44 ∷ [])
           ∙ append_assoc before head (58 ∷ (string ++ 44 ∷ [])),
     )
