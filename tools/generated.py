@@ -5,6 +5,7 @@ import examples
 import markers
 import original_examples
 import originals
+import properties
 import speed
 import vocabulary
 from reference import Reference
@@ -22,7 +23,8 @@ def files():
     yield original_examples.PAGE, original_examples.page()
     for file, text in examples.proofs().items():
         yield f"crates/{file}", text
-    for page, parts in ((originals.PAGE, {**originals.tables(), **originals.added()}), (speed.PAGE, {"speed": speed.table()})):
+    tables = {**originals.tables(), **originals.added()}
+    for page, parts in ((originals.PAGE, tables), (speed.PAGE, {"speed": speed.table()}), (properties.PAGE, properties.tables())):
         yield page, markers.filled(read_text(f"{TOP}/{page}"), parts)
 
 

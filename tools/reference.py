@@ -4,13 +4,13 @@ import re
 import textwrap
 
 import pictures
+import properties
 from examples import CLAUSES, GHOST
 from legend import FIELDS, LEGEND, NAME, PHASES, WITH_MEANING, arguments, fields, legend, members, text_of, unexplained
 from repository import TOP, read_text
 from sources import MODULES, Sources, called, head_of_impl
 from vocabulary import PLAIN, WIDTH, bullet, cited, definitions, imported, libraries, table, wrapped
 
-ROW = re.compile(r"^\|( .*)\|$", re.M)
 LINKED = re.compile(r"\[`([^`]*)`\](?:\(([^)]*)\))?")
 # The sentence of a type's comment that says which calls return it.
 MAKERS = re.compile(r"(Returned|Made) by \[`[^.]*\.")
@@ -55,8 +55,6 @@ GROUPS = {
         "Laws as calls": ("lite_base", "lite_bridge", "lite_buffered", "lite_io_base"),
     },
 }
-# The tables of marks in docs/TABLES.md, by the trait that their types have.
-KINDS = ("AsyncRead", "AsyncWrite", "Stream", "Future")
 EXTENSIONS = ("StreamExt", "FutureExt", "AsyncReadExt", "AsyncBufReadExt", "AsyncWriteExt", "AsyncSeekExt")
 # What the comment over a definition begins with that says nothing to a reader of a contract.
 FOR_THE_PROVER = "Always true."
@@ -122,11 +120,6 @@ ABOUT_CONTRACTS = "\n".join(
         ),
     ]
 )
-
-
-def rows_in(table):
-    """Returns the cells of a table's rows, with its head."""
-    return [[cell.strip() for cell in re.split(r" \|", it)] for it in ROW.findall(table)]
 
 
 class Reference:
@@ -375,7 +368,7 @@ class Reference:
     def marks_of(self, item):
         """Returns the marks of a type, each for one of the traits that it has; an alias has those of its type."""
         item = self.based(item)
-        found = (mark for kind in KINDS for marks in self.tables[kind] if self.impls.get((kind, marks[0])) is item for mark in marks[1])
+        found = (mark for kind in properties.PROPERTIES for marks in self.tables[kind] if self.impls.get((kind, marks[0])) is item for mark in marks[1])
         return list(dict.fromkeys(found))
 
     def about_result(self, item, module):
@@ -533,8 +526,7 @@ class Reference:
 
 def tables_of_marks():
     """Returns the tables of marks, each with its head, as cells."""
-    told = read_text(f"{TOP}/docs/TABLES.md").partition("## Which marks a type carries")[2].partition("## Cases")[0]
-    return [rows_in(it) for it in told.split("\n### ")[1:]]
+    return [properties.rows(kind) for kind in properties.PROPERTIES]
 
 
 def in_a_row(texts):
