@@ -23,6 +23,8 @@ USE = re.compile(r"^(?P<public>pub )?use (?P<tree>[^;]*);", re.M | re.S)
 # The parameters of an impl, which may hold arguments of their own.
 PARAMETERS = re.compile(r"^<(?:[^<>]|<(?:[^<>]|<[^<>]*>)*>)*>")
 EXAMPLES = "# Examples"
+# A link in a comment.
+LINKED = re.compile(r"\[`([^`]*)`\](?:\(([^)]*)\))?")
 
 
 class Item:
@@ -53,8 +55,29 @@ class Item:
         return self.kind == "fn" and bool(re.match(r"(?:const )?fn \w+(?:<[^(]*>)?\(\s*(?:&(?:'\w+ )?)?(?:mut )?self\b", self.head))
 
     @property
+    def heading(self):
+        """The heading of the item's entry in docs/api."""
+        return f"{'method' if self.owner and self.kind == 'fn' else self.kind} `{self.title}`"
+
+    @property
+    def anchor(self):
+        return re.sub(r"[^a-z0-9_-]", "", self.heading.lower().replace(" ", "-"))
+
+    @property
     def does_nothing(self):
         return self.says.startswith("Does nothing.")
+
+
+def plain(comment):
+    """Returns a comment without its links, which name sources that are not here."""
+    return LINKED.sub(r"`\1`", comment)
+
+
+def first_sentence(comment):
+    """Returns the first sentence of a comment. One that ends with its paragraph, before a list, ends with a full stop too."""
+    paragraph = " ".join(plain(comment).partition("\n\n")[0].split())
+    found = re.match(r".*?\.(?=\s|$)", paragraph)
+    return found[0] if found else f"{paragraph.rstrip(':')}."
 
 
 def clauses(lines):
@@ -182,9 +205,9 @@ def items_in(path, lines):
         at += 1
 
 
-def sources_of_library():
-    """Yields the crate, the file and the text of each source of the library."""
-    for crate in libraries():
+def sources_of(crates):
+    """Yields the crate, the file and the text of each source of the crates."""
+    for crate in crates:
         for file in files_of(f"{TOP}/crates/{crate}/src"):
             yield crate, file, read_text(f"{TOP}/crates/{crate}/src/{file}")
 
@@ -193,7 +216,7 @@ class Sources:
     """Sources, each with its crate and its file in it, and what a name means in each."""
 
     def __init__(self, texts=None):
-        every = [Source(*it) for it in texts or sources_of_library()]
+        every = [Source(*it) for it in texts or sources_of(libraries())]
         self.by_module = {(it.crate, it.module): it for it in every}
         self.by_path = {it.path: it for it in every}
         # The methods of each type and trait, by its item.
