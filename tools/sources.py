@@ -1,5 +1,6 @@
 """The public items of the library: each by the module of the facade that it is called in, and found by the imports of the sources."""
 import functools
+import itertools
 import os
 import re
 import textwrap
@@ -154,9 +155,14 @@ def ghosts_in(lines):
     return found
 
 
+def block_below(lines, at):
+    """Returns the lines of the block that a line opens, whose end stands at the margin."""
+    return list(itertools.takewhile(lambda it: it != "}", lines[at + 1 :]))
+
+
 def head_of_impl(lines, at):
     """Returns the head of an impl that begins in a line, as one line: its parameters, its type and its bounds."""
-    end = next(number for number in range(at, len(lines)) if lines[number].endswith(("{", "{}")))
+    end = next((number for number in range(at, len(lines)) if lines[number].endswith(("{", "{}"))), at)
     return re.sub(r",? ?\{\}?$", "", " ".join(" ".join(lines[at : end + 1]).split()))
 
 
@@ -192,11 +198,11 @@ def items_in(path, lines):
             if found["public"] and not inner or inner and block and (found["public"] or is_trait):
                 item = Item(path, first + 1, found["kind"], found["name"], comment, said[:clause], said[clause:])
                 if item.kind == "enum":
-                    item.variants = lines[at + 1 : lines.index("}", at)]
+                    item.variants = block_below(lines, at)
                 if item.kind == "trait" and lines[at].endswith("{"):
-                    item.variants = ghosts_in(lines[at + 1 : lines.index("}", at)])
+                    item.variants = ghosts_in(block_below(lines, at))
                 if item.kind == "struct" and lines[at].endswith("{"):
-                    item.fields = dict(filter(None, map(field_in, lines[at + 1 : lines.index("}", at)])))
+                    item.fields = dict(filter(None, map(field_in, block_below(lines, at))))
                 item.impl = impl if inner else ""
                 yield item, block if inner else None
             comment = []
@@ -205,9 +211,9 @@ def items_in(path, lines):
         at += 1
 
 
-def sources_of(crates):
-    """Yields the crate, the file and the text of each source of the crates."""
-    for crate in crates:
+def sources_of_library():
+    """Yields the crate, the file and the text of each source of the library."""
+    for crate in libraries():
         for file in files_of(f"{TOP}/crates/{crate}/src"):
             yield crate, file, read_text(f"{TOP}/crates/{crate}/src/{file}")
 
@@ -216,7 +222,7 @@ class Sources:
     """Sources, each with its crate and its file in it, and what a name means in each."""
 
     def __init__(self, texts=None):
-        every = [Source(*it) for it in texts or sources_of(libraries())]
+        every = [Source(*it) for it in texts or sources_of_library()]
         self.by_module = {(it.crate, it.module): it for it in every}
         self.by_path = {it.path: it for it in every}
         # The methods of each type and trait, by its item.

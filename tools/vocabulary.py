@@ -76,6 +76,7 @@ def definitions(crate):
                 yield Word(found["word"], crate, os.path.splitext(file)[0].replace("/", "."), comment_over(lines, at))
 
 
+@functools.cache
 def libraries():
     return with_below(crates_in(TOP), [FACADE, *BESIDE])
 

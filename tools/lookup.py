@@ -1,0 +1,384 @@
+"""What tools/find looks through, and how it answers: public items, words of contracts, lemmas, members of traits, words of the kit, and examples."""
+import collections
+import difflib
+import functools
+import glob
+import os
+import re
+import textwrap
+
+from legend import legend, members
+from repository import BESIDE, FACADE, PARTS, TOP, crates_in, files_of, read_text
+from sources import MODULES, Sources, called, first_sentence
+from vocabulary import WIDTH, Word, comment_over, libraries, module_for_programs, passed_words
+
+# A line of specs/ or proofs/ that begins a declaration; a definition is told from a lemma by the words before its name.
+DECLARED = re.compile(r" *(?P<marks>(?:(?:abbrev|unfoldable|pub|record|data|ruleset) )+)(?!use |mod |module |mutual\b)(?P<name>[^\s:({]+)(?P<head>.*)")
+DEFINITION, WITH_FIELDS = re.compile(r"abbrev|unfoldable|record|data"), re.compile(r"record|data")
+# A block whose declarations have its parameters, and one of definitions that name each other.
+MODULE, MUTUAL = re.compile(r" *module _"), re.compile(r" *abbrev mutual$")
+# An import of ghost names, and how an import begins in a source.
+IMPORT = re.compile(r"use Rattle\.(?P<crate>\w+)\.(?P<part>specs|proofs)\.(?P<module>[\w.]+)\.\{(?P<names>[^}]*)\}")
+USE = re.compile(r"\s*(?:pub |ghost |unfoldable )*use ")
+# The crate of the kit that every crate may name, and the crates that repeat the examples of doc comments.
+STD, REPEATED = "std", "proved_examples_"
+# How far an entry is that the facade does not pass on: in a crate that is no part of the library, in the kit, in a crate below, or in no other crate.
+OWN, KIT, BELOW, INNER = range(1, 5)
+# How an entry fits: by its name, as it is written or in other case; by its code, by its comment, or by both in other case; or by each word alone.
+EXACT, EXACT_FOLDED, BEGINS, BEGINS_FOLDED, HAS, HAS_FOLDED, CODE, COMMENT, FOLDED, EACH_WORD = range(10)
+BY_NAME = ((EXACT, str.__eq__), (BEGINS, str.startswith), (HAS, str.__contains__))
+# The kinds of entries in their order: what stands over those that fit by their texts alone, and how many are told.
+KINDS = {
+    "item": ("Items whose signature, contract or comment has it", 3),
+    "word": ("Words of contracts whose definition or comment has it", 3),
+    "lemma": ("Lemmas whose statement or comment has it", 4),
+    "member": ("Members of traits whose comment has it", 1),
+    "kit": ("Words of the kit whose explanation has it", 1),
+}
+# How many entries are told whole, how many lines of a definition, how many names, and how many columns a line has that is cut off.
+MOST_WHOLE, MOST_BODY, MOST_NAMED, COLUMNS = 4, 12, 5, 160
+# The kinds of examples, with how many lines are told of each.
+EXAMPLES = {"Guide": 3, "Doc comments": 2, "Programs": 4}
+PAGES = ("docs/guide/*.md", "docs/NESTS.md")
+FENCES, REMARK = ("```rust", "```antt"), re.compile(r"//.*|--.*")
+
+
+def cut(line):
+    return line if len(line) <= COLUMNS else f"{line[: COLUMNS - 3]} .."
+
+
+def filled(text):
+    return textwrap.wrap(text, WIDTH, initial_indent="  ", subsequent_indent="      ", break_long_words=False, break_on_hyphens=False)
+
+
+def more(number, what="more"):
+    return [f"  ({number} {what})"] if number > 0 else []
+
+
+@functools.cache
+def whole_word(asked):
+    return re.compile(rf"(?<![\w'-]){re.escape(asked)}(?![\w'-])")
+
+
+class Entry:
+    """Something that has a name: its kind, its names with the bare one first, what it is, and what is told of it."""
+
+    def __init__(self, kind, names, what, **told):
+        self.kind, self.names, self.what = kind, names, what
+        # The lines that import it, its signature or its type, the lines of its definition, what is told of its comment, and where it stands.
+        self.imports, self.head, self.body = told.get("imports", ()), told.get("head", ""), told.get("body", ())
+        self.says, self.places = told.get("says", ""), told.get("places", ())
+        # How far it is: 0 if a program that lists the facade or a crate beside it has it, then OWN, KIT, BELOW, INNER.
+        self.reach = told.get("reach", 0)
+        # What a search reads: its comment, and its code with what the comment has in backquotes.
+        self.comment = told.get("comment", self.says)
+        self.code = " ".join(" ".join([self.head, *self.body, *told.get("contract", ()), *re.findall(r"`([^`]+)`", self.comment)]).split())
+
+    def fit(self, words):
+        """Returns how the words fit, or None."""
+        asked = " ".join(words)
+        low = asked.casefold()
+        for rank, test in BY_NAME:
+            names = self.names if rank == EXACT else self.names[-1:] if "::" in asked else self.names[:1]
+            if any(test(it, asked) for it in names):
+                return rank
+            if any(test(it.casefold(), low) for it in names):
+                return rank + 1
+        comment = " ".join(self.comment.split())
+        if found := [rank for rank, text in ((CODE, self.code), (COMMENT, comment)) if whole_word(asked).search(text)]:
+            return found[0]
+        text = f"{self.code} {comment}".casefold()
+        return FOLDED if low in text else EACH_WORD if all(it.casefold() in text for it in words) else None
+
+    def short(self):
+        """Returns one line with its import and its comment, and one with its type, as `rt lemma` does."""
+        first = self.imports[0] if self.imports and self.kind != "item" else self.names[-1]
+        return [cut(f"  {first}{f'  -- {first_sentence(self.says)}' if self.says else ''}"), *([cut(f"    {self.head}")] if self.head else [])]
+
+    def whole(self):
+        """Returns the lines that tell all of it."""
+        body = [*(f"    {it}" for it in self.body[:MOST_BODY]), *(f"  {it}" for it in more(len(self.body) - MOST_BODY, "more lines"))]
+        places = [f"  {', '.join(self.places)}"] if self.places else []
+        return [f"{self.names[-1]}: {self.what}", *(f"  {it}" for it in self.imports), *filled(self.head), *body, *filled(self.says), *places]
+
+
+@functools.cache
+def texts():
+    """Returns the texts of the crates by crate, part and file. The answers of a function's proof, in folders with small letters, have no names."""
+    found = {}
+    for crate in crates_in(TOP):
+        for part in PARTS:
+            for file in files_of(f"{TOP}/crates/{crate}/{part}"):
+                if file.endswith(".rt") if part == "src" else file.endswith(".antt") and file[0].isupper():
+                    found[crate, part, file] = read_text(f"{TOP}/crates/{crate}/{part}/{file}")
+    return found
+
+
+def texts_with(words):
+    """Returns the texts that have each of the words, in lower or upper case."""
+    low = [it.casefold() for it in words]
+    return {place: text for place, text in texts().items() if all(it in text.casefold() for it in low)}
+
+
+def own_crates():
+    """Returns the crates that are no part of the library, and repeat no examples: programs, or the crates of the repository that has a copy of it."""
+    return [it for it in crates_in(TOP) if it not in libraries() and not it.startswith(REPEATED)]
+
+
+@functools.cache
+def page(module):
+    """Returns the page of docs/api of a module, which a copy of the library lacks."""
+    path = f"docs/api/{module}.md"
+    return path, set(read_text(f"{TOP}/{path}").splitlines()) if os.path.isfile(f"{TOP}/{path}") else set()
+
+
+def item_entry(item, at, module=None, reach=0):
+    """Returns the entry of a public item of a crate's module, which is named as callers name it; of a page of docs/api, if there is one."""
+    crate, *inner = at.split("::")
+    path, headings = page(module) if module else ("", ())
+    found = {"head": item.head, "says": first_sentence(item.says) if item.says else "", "comment": item.says, "contract": [*item.asks, *item.gives]}
+    found["places"] = [f"{path}#{item.anchor}"] * (f"### {item.heading}" in headings) + [f"{item.path}:{item.line}"]
+    found["body"] = [it.strip() for it in item.variants if it.strip() and not it.strip().startswith("//")]
+    if item.kind in ("struct", "enum"):
+        declared = f"use Rattle.{'.'.join([crate, 'specs.declared', *inner, item.name])}"
+        variants = re.findall(r"^    (\w+)", "\n".join(item.variants), re.M)
+        found["imports"] = [f"{declared}.{{{item.name}}}", *([f"{declared}.TheVariants.{{{', '.join(variants)}}}"] if variants else [])]
+    kind = "method" if item.is_method else "function" if item.kind == "fn" else item.kind
+    within = at.rpartition("::")[2]
+    names = (item.name, item.title, f"{within}::{item.name}", f"{within}::{item.title}", f"{at}::{item.name}", f"{at}::{item.title}")
+    return Entry("item", names, kind, reach=reach, **found)
+
+
+def passed_from_kit(every, source, at):
+    """Yields what a module passes on that no crate here declares."""
+    for name in source.passed_on if source else ():
+        if not every.resolve(source, name):
+            yield Entry("item", (name, f"{at}::{name}"), f"passed on from `{'::'.join(source.uses[name])}`")
+
+
+def items(words):
+    """Yields the public items of the facade, of the crates beside it, and of the crates that are no part of the library, if a source there has the words."""
+    own = {crate for crate, part, _ in texts_with(words) if part == "src"}.intersection(own_crates())
+    read = {*libraries(), *own}
+    every = Sources([(crate, file, text) for (crate, part, file), text in texts().items() if part == "src" and crate in read])
+    for module in MODULES:
+        for item in every.items_of(module).values():
+            yield item_entry(item, called(module), module)
+        yield from passed_from_kit(every, every.source_of(module), called(module))
+    root = every.by_module.get((FACADE, ()))
+    if root:
+        there = {it for module in MODULES for it in every.items_of(module).values()}
+        passed = (every.resolve(root, it) for it in root.passed_on)
+        yield from (item_entry(it, FACADE) for it in passed if it and it not in there)
+        yield from passed_from_kit(every, root, FACADE)
+    for (crate, module), source in every.by_module.items():
+        if crate in own:
+            for item in (*source.items.values(), *(it for it, _ in source.methods)):
+                yield item_entry(item, "::".join((crate, *module)), reach=OWN)
+
+
+def block_end(lines, at):
+    """Returns the line behind the deeper lines below a line; an empty line belongs to them if a deeper one follows."""
+    indent, end = depth(lines[at]), at + 1
+    for number in range(at + 1, len(lines)):
+        if lines[number].strip():
+            if depth(lines[number]) <= indent:
+                break
+            end = number + 1
+    return end
+
+
+def depth(line):
+    return len(line) - len(line.lstrip(" "))
+
+
+def rows_end(lines, at, name, indent):
+    """Returns the line behind the rows that define a name, below its type."""
+    while at < len(lines) and lines[at].strip() and (depth(lines[at]) > indent or lines[at].split()[0] == name):
+        at += 1
+    return at
+
+
+def declarations(text):
+    """Yields what a file of specs/ or proofs/ passes on: the name, whether it is a definition, its type with the parameters of the blocks around it, the
+    lines of a definition, the comment over it, and its line."""
+    lines, blocks, at = text.splitlines(), [], 0
+    while at < len(lines):
+        line, first = lines[at], at
+        while line.strip() and blocks and blocks[-1][0] >= depth(line):
+            blocks.pop()
+        if MODULE.match(line) or MUTUAL.match(line):
+            while not re.search(r"\b(where|mutual)$", lines[at]) and at + 1 < len(lines):
+                at += 1
+            parameters = re.sub(r"^module _|where$|^abbrev mutual$", "", " ".join(" ".join(lines[first : at + 1]).split()))
+            blocks.append((depth(line), parameters.strip(), bool(MUTUAL.match(line)), comment_over(lines, first)))
+        elif (found := DECLARED.fullmatch(line)) and "pub" in found["marks"]:
+            name, at = found["name"], block_end(lines, first) - 1
+            end = at
+            if WITH_FIELDS.search(found["marks"]):
+                end = next((it for it in range(first, at + 1) if lines[it].endswith("where")), at)
+            head = " ".join(" ".join([name, *(it[1] for it in blocks), found["head"], *lines[first + 1 : end + 1]]).split())
+            is_mutual = any(it[2] for it in blocks)
+            is_definition = is_mutual or bool(DEFINITION.search(found["marks"]))
+            body = lines[end + 1 : at + 1] or (lines[at + 1 : rows_end(lines, at + 1, name, depth(line))] if is_definition else [])
+            comment = comment_over(lines, first) or (blocks[-1][3] if is_mutual else "")
+            yield name, is_definition, head, [it for it in textwrap.dedent("\n".join(body)).splitlines() if it.strip()], comment, first + 1
+        at += 1
+
+
+@functools.cache
+def is_open(crate, part, module):
+    """Tells whether other crates may import from a module: whether each module above it passes on the one below."""
+    above, _, last = module.rpartition(".")
+    file = f"{TOP}/crates/{crate}/{part}/{above.replace('.', '/') or 'Lib'}.antt"
+    passed = os.path.isfile(file) and re.search(rf"^pub mod {re.escape(last)}$", read_text(file), re.M)
+    return bool(passed) and (not above or is_open(crate, part, above))
+
+
+@functools.cache
+def aliases():
+    """Returns the names by which the facade's specs pass on lemmas that have another name: by the crate, the module and the name."""
+    passed = (word for part in ("specs", "proofs") for word, _ in passed_words(part) if " as " in word[2])
+    return {(crate, module, name.partition(" as ")[0]): name for crate, module, name in passed}
+
+
+def import_of(word, own):
+    """Returns the line that imports a word or a lemma, the name that it has there, and how far it is from a program."""
+    renamed = aliases().get((word.crate, word.module, word.name), word.name)
+    passed = module_for_programs(Word(renamed, word.crate, word.module, "", word.part))
+    name = renamed.rpartition(" as ")[2]
+    if passed:
+        return f"use Rattle.{FACADE}.specs.{passed}.{{{name}}}", name, 0
+    line = f"use Rattle.{word.crate}.{word.part}.{word.module}.{{{word.name}}}"
+    if word.crate in own:
+        return line, word.name, OWN
+    if not is_open(word.crate, word.part, word.module):
+        return f"{line}  (in the crate {word.crate} alone)", word.name, INNER
+    return (line, word.name, 0) if word.crate in BESIDE else (f"{line}  (if crates.txt lists {word.crate})", word.name, BELOW)
+
+
+def definitions_and_lemmas(words):
+    """Yields the words of contracts and the lemmas of the files of specs/ and proofs/ that have the words."""
+    own = own_crates()
+    for (crate, part, file), text in texts_with(words).items():
+        is_read = part != "src" and (crate in own or crate in libraries())
+        for name, is_definition, head, body, says, line in declarations(text) if is_read else ():
+            word = Word(name, crate, os.path.splitext(file)[0].replace("/", "."), says, part)
+            imported, called_so, reach = import_of(word, own)
+            told = {"imports": [imported], "head": head, "body": body, "says": says, "places": [f"{word.path}:{line}"], "reach": reach}
+            kind, what = ("word", "word of contracts") if is_definition else ("lemma", "lemma")
+            yield Entry(kind, (called_so,) if called_so == name else (called_so, name, called_so), what, **told)
+
+
+def members_of_traits():
+    """Yields the ghost members of the library's traits."""
+    for name, found in members().items():
+        for trait, says in found:
+            yield Entry("member", (name, f"{trait}::{name}"), f"member of the trait {trait}, as in `T.{name}`", says=says)
+
+
+def words_of_kit():
+    """Yields the words of the kit's crates, each from the module that most files here import it from, and what tools/legend.txt explains."""
+    there, counts = crates_in(TOP), collections.Counter()
+    for found in (it for text in texts().values() for it in IMPORT.finditer(text)):
+        if found["crate"] not in there:
+            names = (it.partition(" as ")[0].strip() for it in found["names"].split(","))
+            counts.update((name, found["crate"], found["part"], found["module"]) for name in names if name)
+    told = set()
+    for (name, crate, part, module), _ in counts.most_common():
+        if (name, crate) not in told:
+            told.add((name, crate))
+            line = f"use Rattle.{crate}.{part}.{module}.{{{name}}}"
+            passed = module_for_programs(Word(name, crate, module, "", part)) if crate != STD else None
+            line = f"use Rattle.{FACADE}.specs.{passed}.{{{name}}}" if passed else line if crate == STD else f"{line}  (if crates.txt lists {crate})"
+            where = [f"`rt lemma {name}` looks it up"] if crate == STD else []
+            yield Entry("kit", (name,), f"of the kit's {crate}", imports=[line], says=legend().get(name, ""), places=where, reach=KIT)
+    for name in set(legend()) - {it for it, _ in told}:
+        yield Entry("kit", (name,), "word of contracts", says=legend()[name], reach=KIT)
+
+
+def entries(words=()):
+    """Returns the entries that may have the words, and others."""
+    return [*items(words), *definitions_and_lemmas(words), *members_of_traits(), *words_of_kit()]
+
+
+def code_of_page(text):
+    """Yields the number and the code of each line of a page: its blocks of code, and what stands in backquotes."""
+    fence = ""
+    for number, line in enumerate(text.splitlines(), 1):
+        if line.startswith("```"):
+            fence = "" if fence else line
+        else:
+            is_code = fence in FENCES and not USE.match(line)
+            yield number, REMARK.sub("", line) if is_code else "" if fence else " ".join(re.findall(r"`([^`]+)`", line))
+
+
+def code_of_comments(text):
+    """Yields the number and the code of each line of the examples in doc comments."""
+    is_code = False
+    for number, line in enumerate(text.splitlines(), 1):
+        comment = line.strip()
+        if comment.startswith("/// ```"):
+            is_code = not is_code
+        elif is_code and comment.startswith("///"):
+            yield number, comment.removeprefix("///")
+
+
+def code_of_program(text):
+    """Yields the number and the code of each line of a source, but for comments and imports."""
+    is_import = False
+    for number, line in enumerate(text.splitlines(), 1):
+        is_import = is_import or bool(USE.match(line))
+        if not is_import:
+            yield number, REMARK.sub("", line)
+        elif line.rstrip().endswith((";", "}")):
+            is_import = False
+
+
+def examples_of(names):
+    """Yields the kinds of examples, each with the lines that name one of the names."""
+    own = sorted(own_crates(), key=lambda it: (not it.startswith("example_"), it))
+    pages = {os.path.relpath(it, TOP): read_text(it) for pattern in PAGES for it in sorted(glob.glob(f"{TOP}/{pattern}"))}
+    comments = {f"crates/{crate}/{part}/{file}": text for (crate, part, file), text in texts().items() if part == "src" and crate in libraries()}
+    programs = {f"crates/{of}/{part}/{file}": text for of in own for (crate, part, file), text in texts().items() if crate == of}
+    for kind, there, code in zip(EXAMPLES, (pages, comments, programs), (code_of_page, code_of_comments, code_of_program)):
+        found = []
+        for path, text in there.items():
+            if any(it in text for it in names):
+                lines, numbers = text.splitlines(), [number for number, it in code(text) if any(whole_word(name).search(it) for name in names)]
+                found += [f"  {path}:{number}: {lines[number - 1].strip().removeprefix('/// ')}" for number in numbers]
+        yield kind, found
+
+
+def near(asked):
+    """Returns names that are like the words."""
+    names = {it.names[0].casefold(): it.names[0] for it in entries()}
+    return [names[it] for it in difflib.get_close_matches(asked.casefold(), names, 5)]
+
+
+def listed(heading, found, most):
+    """Returns the lines that name entries below a heading, and how many more there are."""
+    return ["", f"{heading}:", *(line for it in found[:most] for line in it.short()), *more(len(found) - most)] if found else []
+
+
+def answer(words):
+    """Returns whether an entry has the words, and the lines that tell it."""
+    asked, kinds = " ".join(words), list(KINDS)
+    fits = [(it.fit(words), it) for it in entries(words)]
+    # A lemma whose statement has the words comes before one whose comment does.
+    order = {id(it): (rank, it.reach, not whole_word(asked).search(it.head), kinds.index(it.kind), len(it.names[-1]), it.names[-1]) for rank, it in fits if rank is not None}
+    found = sorted(((rank, it) for rank, it in fits if rank is not None), key=lambda it: order[id(it[1])])
+    if not found:
+        told = ", ".join(near(asked))
+        return False, [f"nothing has {asked}{f'; names like it are {told}' if told else ''}", "`rt lemma` looks in all of std"]
+    named = [(rank, it) for rank, it in found if rank < CODE]
+    best = named[0][0] if named else None
+    whole = [it for rank, it in named if rank == best] if best in (EXACT, EXACT_FOLDED) or len(named) == 1 else []
+    lines = [line for it in whole[:MOST_WHOLE] for line in ("", *it.whole())]
+    lines += listed("Names that have it" if not whole else "Other names that have it", [*whole[MOST_WHOLE:], *(it for _, it in named if it not in whole)], MOST_NAMED)
+    for kind, (heading, most) in KINDS.items():
+        lines += listed(heading, [it for rank, it in found if rank >= CODE and it.kind == kind], most)
+    for kind, there in examples_of({it.names[0] for it in whole} or {asked}):
+        most = EXAMPLES[kind]
+        lines += ["", f"{kind}:", *map(cut, there[:most]), *more(len(there) - most)] if there else []
+    return True, lines[1:]
