@@ -35,20 +35,21 @@ KINDS = {
     "member": ("Members of traits whose comment has it", 1),
     "kit": ("Words of the kit whose explanation has it", 1),
 }
-# How many entries are told whole, how many lines of a definition, how many names, and how many columns a line has that is cut off.
-MOST_WHOLE, MOST_BODY, MOST_NAMED, COLUMNS = 4, 12, 5, 160
+# How many entries are told whole, how many lines of a definition, and how many names.
+MOST_WHOLE, MOST_BODY, MOST_NAMED = 4, 12, 5
+# The word that the guide looks up, and the page.
+EXAMPLE, EXAMPLE_PAGE = "step_from", "docs/guide/00-start.md"
 # The kinds of examples, with how many lines are told of each.
 EXAMPLES = {"Guide": 3, "Doc comments": 2, "Programs": 4}
 PAGES = ("docs/guide/*.md", "docs/NESTS.md")
 FENCES, REMARK = ("```rust", "```antt"), re.compile(r"//.*|--.*")
 
 
-def cut(line):
-    return line if len(line) <= COLUMNS else f"{line[: COLUMNS - 3]} .."
-
-
-def filled(text):
-    return textwrap.wrap(text, WIDTH, initial_indent="  ", subsequent_indent="      ", break_long_words=False, break_on_hyphens=False)
+def filled(text, indent="  ", most=None):
+    """Returns a text in lines, of which there are at most so many."""
+    return textwrap.wrap(
+        text, WIDTH, initial_indent=indent, subsequent_indent=f"{indent}    ", break_long_words=False, break_on_hyphens=False, max_lines=most, placeholder=" .."
+    )
 
 
 def more(number, what="more"):
@@ -67,12 +68,22 @@ class Entry:
         self.kind, self.names, self.what = kind, names, what
         # The lines that import it, its signature or its type, the lines of its definition, what is told of its comment, and where it stands.
         self.imports, self.head, self.body = told.get("imports", ()), told.get("head", ""), told.get("body", ())
+        # Its type without the parameters of the blocks around it.
+        self.brief = told.get("brief", self.head)
         self.says, self.places = told.get("says", ""), told.get("places", ())
         # How far it is: 0 if a program that lists the facade or a crate beside it has it, then OWN, KIT, BELOW, INNER.
         self.reach = told.get("reach", 0)
-        # What a search reads: its comment, and its code with what the comment has in backquotes.
-        self.comment = told.get("comment", self.says)
-        self.code = " ".join(" ".join([self.head, *self.body, *told.get("contract", ()), *re.findall(r"`([^`]+)`", self.comment)]).split())
+        # What a search reads besides.
+        self.contract, self.comment = told.get("contract", ()), " ".join(told.get("comment", self.says).split())
+
+    @functools.cached_property
+    def code(self):
+        """Its code, with what its comment has in backquotes."""
+        return " ".join(" ".join([self.head, *self.body, *self.contract, *re.findall(r"`([^`]+)`", self.comment)]).split())
+
+    @functools.cached_property
+    def folded(self):
+        return f"{self.code} {self.comment}".casefold()
 
     def fit(self, words):
         """Returns how the words fit, or None."""
@@ -84,16 +95,14 @@ class Entry:
                 return rank
             if any(test(it.casefold(), low) for it in names):
                 return rank + 1
-        comment = " ".join(self.comment.split())
-        if found := [rank for rank, text in ((CODE, self.code), (COMMENT, comment)) if whole_word(asked).search(text)]:
-            return found[0]
-        text = f"{self.code} {comment}".casefold()
-        return FOLDED if low in text else EACH_WORD if all(it.casefold() in text for it in words) else None
+        if low not in self.folded:
+            return EACH_WORD if all(it.casefold() in self.folded for it in words) else None
+        return next((rank for rank, text in ((CODE, self.code), (COMMENT, self.comment)) if whole_word(asked).search(text)), FOLDED)
 
     def short(self):
-        """Returns one line with its import and its comment, and one with its type, as `rt lemma` does."""
+        """Returns its import and its comment, and then its type, as `rt lemma` does."""
         first = self.imports[0] if self.imports and self.kind != "item" else self.names[-1]
-        return [cut(f"  {first}{f'  -- {first_sentence(self.says)}' if self.says else ''}"), *([cut(f"    {self.head}")] if self.head else [])]
+        return filled(f"{first}{f'  -- {first_sentence(self.says)}' if self.says else ''}", most=2) + filled(self.brief, "    ", 2)
 
     def whole(self):
         """Returns the lines that tell all of it."""
@@ -114,12 +123,18 @@ def texts():
     return found
 
 
+@functools.cache
+def folded_texts():
+    return {place: text.casefold() for place, text in texts().items()}
+
+
 def texts_with(words):
-    """Returns the texts that have each of the words, in lower or upper case."""
+    """Returns the places of the texts that have each of the words, in lower or upper case."""
     low = [it.casefold() for it in words]
-    return {place: text for place, text in texts().items() if all(it in text.casefold() for it in low)}
+    return {place for place, text in folded_texts().items() if all(it in text for it in low)}
 
 
+@functools.cache
 def own_crates():
     """Returns the crates that are no part of the library, and repeat no examples: programs, or the crates of the repository that has a copy of it."""
     return [it for it in crates_in(TOP) if it not in libraries() and not it.startswith(REPEATED)]
@@ -156,25 +171,39 @@ def passed_from_kit(every, source, at):
             yield Entry("item", (name, f"{at}::{name}"), f"passed on from `{'::'.join(source.uses[name])}`")
 
 
-def items(words):
-    """Yields the public items of the facade, of the crates beside it, and of the crates that are no part of the library, if a source there has the words."""
-    own = {crate for crate, part, _ in texts_with(words) if part == "src"}.intersection(own_crates())
-    read = {*libraries(), *own}
-    every = Sources([(crate, file, text) for (crate, part, file), text in texts().items() if part == "src" and crate in read])
-    for module in MODULES:
-        for item in every.items_of(module).values():
-            yield item_entry(item, called(module), module)
-        yield from passed_from_kit(every, every.source_of(module), called(module))
+def sources_of(crates):
+    return Sources([(crate, file, text) for (crate, part, file), text in texts().items() if part == "src" and crate in crates])
+
+
+@functools.cache
+def items_of_library():
+    """Returns the public items of the facade and of the crates beside it."""
+    every = sources_of(libraries())
+    found = [item_entry(it, called(module), module) for module in MODULES for it in every.items_of(module).values()]
+    found += [it for module in MODULES for it in passed_from_kit(every, every.source_of(module), called(module))]
     root = every.by_module.get((FACADE, ()))
     if root:
         there = {it for module in MODULES for it in every.items_of(module).values()}
         passed = (every.resolve(root, it) for it in root.passed_on)
-        yield from (item_entry(it, FACADE) for it in passed if it and it not in there)
-        yield from passed_from_kit(every, root, FACADE)
-    for (crate, module), source in every.by_module.items():
-        if crate in own:
-            for item in (*source.items.values(), *(it for it, _ in source.methods)):
-                yield item_entry(item, "::".join((crate, *module)), reach=OWN)
+        found += [item_entry(it, FACADE) for it in passed if it and it not in there]
+        found += passed_from_kit(every, root, FACADE)
+    return found
+
+
+@functools.cache
+def items_of_crate(crate):
+    """Returns the public items of a crate that is no part of the library."""
+    modules = sources_of([crate]).by_module.items()
+    named = [("::".join((crate, *module)), [*source.items.values(), *(it for it, _ in source.methods)]) for (_, module), source in modules]
+    return [item_entry(it, at, reach=OWN) for at, items in named for it in items]
+
+
+def items(words):
+    """Yields the public items of the library, and of the other crates of which a source has the words."""
+    own = {crate for crate, part, _ in texts_with(words) if part == "src"}.intersection(own_crates())
+    yield from items_of_library() if libraries() else ()
+    for crate in sorted(own):
+        yield from items_of_crate(crate)
 
 
 def block_end(lines, at):
@@ -199,9 +228,12 @@ def rows_end(lines, at, name, indent):
     return at
 
 
+# What a file of specs/ or proofs/ declares: its type stands with the parameters of the blocks around it, and in brief with `..` in their place.
+Declaration = collections.namedtuple("Declaration", "name is_public is_definition head brief body says line")
+
+
 def declarations(text):
-    """Yields what a file of specs/ or proofs/ passes on: the name, whether it is a definition, its type with the parameters of the blocks around it, the
-    lines of a definition, the comment over it, and its line."""
+    """Yields the definitions of a file of specs/ or proofs/, and the lemmas that it passes on."""
     lines, blocks, at = text.splitlines(), [], 0
     while at < len(lines):
         line, first = lines[at], at
@@ -212,17 +244,19 @@ def declarations(text):
                 at += 1
             parameters = re.sub(r"^module _|where$|^abbrev mutual$", "", " ".join(" ".join(lines[first : at + 1]).split()))
             blocks.append((depth(line), parameters.strip(), bool(MUTUAL.match(line)), comment_over(lines, first)))
-        elif (found := DECLARED.fullmatch(line)) and "pub" in found["marks"]:
+        elif (found := DECLARED.fullmatch(line)) and ("pub" in found["marks"] or DEFINITION.search(found["marks"])):
             name, at = found["name"], block_end(lines, first) - 1
             end = at
             if WITH_FIELDS.search(found["marks"]):
                 end = next((it for it in range(first, at + 1) if lines[it].endswith("where")), at)
-            head = " ".join(" ".join([name, *(it[1] for it in blocks), found["head"], *lines[first + 1 : end + 1]]).split())
+            parameters = " ".join(it[1] for it in blocks if it[1])
+            heads = [" ".join(" ".join([name, it, found["head"], *lines[first + 1 : end + 1]]).split()) for it in (parameters, ".." if parameters else "")]
             is_mutual = any(it[2] for it in blocks)
             is_definition = is_mutual or bool(DEFINITION.search(found["marks"]))
             body = lines[end + 1 : at + 1] or (lines[at + 1 : rows_end(lines, at + 1, name, depth(line))] if is_definition else [])
             comment = comment_over(lines, first) or (blocks[-1][3] if is_mutual else "")
-            yield name, is_definition, head, [it for it in textwrap.dedent("\n".join(body)).splitlines() if it.strip()], comment, first + 1
+            body = [it for it in textwrap.dedent("\n".join(body)).splitlines() if it.strip()]
+            yield Declaration(name, "pub" in found["marks"], is_definition, *heads, body, comment, first + 1)
         at += 1
 
 
@@ -242,7 +276,7 @@ def aliases():
     return {(crate, module, name.partition(" as ")[0]): name for crate, module, name in passed}
 
 
-def import_of(word, own):
+def import_of(word):
     """Returns the line that imports a word or a lemma, the name that it has there, and how far it is from a program."""
     renamed = aliases().get((word.crate, word.module, word.name), word.name)
     passed = module_for_programs(Word(renamed, word.crate, word.module, "", word.part))
@@ -250,41 +284,52 @@ def import_of(word, own):
     if passed:
         return f"use Rattle.{FACADE}.specs.{passed}.{{{name}}}", name, 0
     line = f"use Rattle.{word.crate}.{word.part}.{word.module}.{{{word.name}}}"
-    if word.crate in own:
+    if word.crate in own_crates():
         return line, word.name, OWN
     if not is_open(word.crate, word.part, word.module):
         return f"{line}  (in the crate {word.crate} alone)", word.name, INNER
     return (line, word.name, 0) if word.crate in BESIDE else (f"{line}  (if crates.txt lists {word.crate})", word.name, BELOW)
 
 
+@functools.cache
+def declared_in(crate, part, file):
+    """Returns the words of contracts and the lemmas of a file of specs/ or proofs/."""
+    found = []
+    for it in declarations(texts()[crate, part, file]):
+        word = Word(it.name, crate, os.path.splitext(file)[0].replace("/", "."), it.says, part)
+        line, name, reach = import_of(word) if it.is_public else ("", it.name, INNER)
+        what = f"{'word of contracts' if it.is_definition else 'lemma'}{'' if it.is_public else ', of its file alone'}"
+        told = {"head": it.head, "brief": it.brief, "body": it.body, "says": it.says, "imports": [line] if line else (), "reach": reach}
+        names = (name,) if name == it.name else (name, it.name, name)
+        found.append(Entry("word" if it.is_definition else "lemma", names, what, places=[f"{word.path}:{it.line}"], **told))
+    return found
+
+
 def definitions_and_lemmas(words):
-    """Yields the words of contracts and the lemmas of the files of specs/ and proofs/ that have the words."""
-    own = own_crates()
-    for (crate, part, file), text in texts_with(words).items():
-        is_read = part != "src" and (crate in own or crate in libraries())
-        for name, is_definition, head, body, says, line in declarations(text) if is_read else ():
-            word = Word(name, crate, os.path.splitext(file)[0].replace("/", "."), says, part)
-            imported, called_so, reach = import_of(word, own)
-            told = {"imports": [imported], "head": head, "body": body, "says": says, "places": [f"{word.path}:{line}"], "reach": reach}
-            kind, what = ("word", "word of contracts") if is_definition else ("lemma", "lemma")
-            yield Entry(kind, (called_so,) if called_so == name else (called_so, name, called_so), what, **told)
+    """Yields the words of contracts and the lemmas of the files of specs/ and proofs/ that have the words, or are passed on by other names."""
+    renamed = {(crate, f"{module.replace('.', '/')}.antt") for crate, module, _ in aliases()}
+    read, there = {*libraries(), *own_crates()}, texts_with(words)
+    for crate, part, file in texts():
+        if part != "src" and crate in read and ((crate, part, file) in there or (crate, file) in renamed):
+            yield from declared_in(crate, part, file)
 
 
+@functools.cache
 def members_of_traits():
-    """Yields the ghost members of the library's traits."""
-    for name, found in members().items():
-        for trait, says in found:
-            yield Entry("member", (name, f"{trait}::{name}"), f"member of the trait {trait}, as in `T.{name}`", says=says)
+    """Returns the ghost members of the library's traits."""
+    found = [(name, trait, says) for name, of_traits in members().items() for trait, says in of_traits]
+    return [Entry("member", (name, f"{trait}::{name}"), f"member of the trait {trait}, as in `T.{name}`", says=says) for name, trait, says in found]
 
 
+@functools.cache
 def words_of_kit():
-    """Yields the words of the kit's crates, each from the module that most files here import it from, and what tools/legend.txt explains."""
+    """Returns the words of the kit's crates, each from the module that most files here import it from, and what tools/legend.txt explains."""
     there, counts = crates_in(TOP), collections.Counter()
     for found in (it for text in texts().values() for it in IMPORT.finditer(text)):
         if found["crate"] not in there:
             names = (it.partition(" as ")[0].strip() for it in found["names"].split(","))
             counts.update((name, found["crate"], found["part"], found["module"]) for name in names if name)
-    told = set()
+    found, told = [], set()
     for (name, crate, part, module), _ in counts.most_common():
         if (name, crate) not in told:
             told.add((name, crate))
@@ -292,9 +337,9 @@ def words_of_kit():
             passed = module_for_programs(Word(name, crate, module, "", part)) if crate != STD else None
             line = f"use Rattle.{FACADE}.specs.{passed}.{{{name}}}" if passed else line if crate == STD else f"{line}  (if crates.txt lists {crate})"
             where = [f"`rt lemma {name}` looks it up"] if crate == STD else []
-            yield Entry("kit", (name,), f"of the kit's {crate}", imports=[line], says=legend().get(name, ""), places=where, reach=KIT)
-    for name in set(legend()) - {it for it, _ in told}:
-        yield Entry("kit", (name,), "word of contracts", says=legend()[name], reach=KIT)
+            found.append(Entry("kit", (name,), f"of the kit's {crate}", imports=[line], says=legend().get(name, ""), places=where, reach=KIT))
+    others = set(legend()) - {it for it, _ in told}
+    return found + [Entry("kit", (it,), "word of contracts", says=legend()[it], reach=KIT) for it in sorted(others)]
 
 
 def entries(words=()):
@@ -346,7 +391,7 @@ def examples_of(names):
         for path, text in there.items():
             if any(it in text for it in names):
                 lines, numbers = text.splitlines(), [number for number, it in code(text) if any(whole_word(name).search(it) for name in names)]
-                found += [f"  {path}:{number}: {lines[number - 1].strip().removeprefix('/// ')}" for number in numbers]
+                found += [f"{path}:{number}: {' '.join(lines[number - 1].removeprefix('/// ').split())}" for number in numbers]
         yield kind, found
 
 
@@ -380,5 +425,10 @@ def answer(words):
         lines += listed(heading, [it for rank, it in found if rank >= CODE and it.kind == kind], most)
     for kind, there in examples_of({it.names[0] for it in whole} or {asked}):
         most = EXAMPLES[kind]
-        lines += ["", f"{kind}:", *map(cut, there[:most]), *more(len(there) - most)] if there else []
+        lines += ["", f"{kind}:", *(line for it in there[:most] for line in filled(it, most=1)), *more(len(there) - most)] if there else []
     return True, lines[1:]
+
+
+def example():
+    """Returns the block of the guide that shows what the tool prints."""
+    return "\n\n```text\n" + "\n".join([f"$ tools/find {EXAMPLE}", *answer([EXAMPLE])[1]]) + "\n```\n\n"
