@@ -10,10 +10,11 @@ import textwrap
 from legend import legend, members
 from repository import BESIDE, FACADE, PARTS, TOP, crates_in, files_of, read_text
 from sources import MODULES, Sources, called, first_sentence
-from vocabulary import WIDTH, Word, comment_over, libraries, module_for_programs, passed_words
+from vocabulary import PASSED_WORDS, USES, WIDTH, Word, comment_over, libraries, module_for_programs, passed_words
 
 # A line of specs/ or proofs/ that begins a declaration; a definition is told from a lemma by the words before its name.
-DECLARED = re.compile(r" *(?P<marks>(?:(?:abbrev|unfoldable|pub|record|data|ruleset) )+)(?!use |mod |module |mutual\b)(?P<name>[^\s:({]+)(?P<head>.*)")
+MARK = "abbrev|unfoldable|pub|record|data|ruleset"
+DECLARED = re.compile(rf" *(?P<marks>(?:(?:{MARK}) )+)(?!(?:{MARK}|use|mod|module) |mutual$)(?P<name>[^\s:({{]+)(?P<head>.*)")
 DEFINITION, WITH_FIELDS = re.compile(r"abbrev|unfoldable|record|data"), re.compile(r"record|data")
 # A block whose declarations have its parameters, and one of definitions that name each other.
 MODULE, MUTUAL = re.compile(r" *module _"), re.compile(r" *abbrev mutual$")
@@ -129,8 +130,8 @@ def folded_texts():
 
 
 def texts_with(words):
-    """Returns the places of the texts that have each of the words, in lower or upper case."""
-    low = [it.casefold() for it in words]
+    """Returns the places of the texts that have each of the words, in lower or upper case; of a path what stands last."""
+    low = [re.split(r"::|\.", it.casefold())[-1] for it in words]
     return {place for place, text in folded_texts().items() if all(it in text for it in low)}
 
 
@@ -147,21 +148,24 @@ def page(module):
     return path, set(read_text(f"{TOP}/{path}").splitlines()) if os.path.isfile(f"{TOP}/{path}") else set()
 
 
-def item_entry(item, at, module=None, reach=0):
-    """Returns the entry of a public item of a crate's module, which is named as callers name it; of a page of docs/api, if there is one."""
+def entries_of_item(item, at, module=None, reach=0):
+    """Yields the entry of a public item of a crate's module, which is named as callers name it, and those of its variants; with a page of docs/api, if
+    there is one."""
     crate, *inner = at.split("::")
     path, headings = page(module) if module else ("", ())
     found = {"head": item.head, "says": first_sentence(item.says) if item.says else "", "comment": item.says, "contract": [*item.asks, *item.gives]}
     found["places"] = [f"{path}#{item.anchor}"] * (f"### {item.heading}" in headings) + [f"{item.path}:{item.line}"]
     found["body"] = [it.strip() for it in item.variants if it.strip() and not it.strip().startswith("//")]
+    declared, title = f"use Rattle.{'.'.join([crate, 'specs.declared', *inner, item.name])}", f"{at}::{item.title}"
     if item.kind in ("struct", "enum"):
-        declared = f"use Rattle.{'.'.join([crate, 'specs.declared', *inner, item.name])}"
-        variants = re.findall(r"^    (\w+)", "\n".join(item.variants), re.M)
-        found["imports"] = [f"{declared}.{{{item.name}}}", *([f"{declared}.TheVariants.{{{', '.join(variants)}}}"] if variants else [])]
+        found["imports"] = [f"{declared}.{{{item.name}}}"]
     kind = "method" if item.is_method else "function" if item.kind == "fn" else item.kind
     within = at.rpartition("::")[2]
-    names = (item.name, item.title, f"{within}::{item.name}", f"{within}::{item.title}", f"{at}::{item.name}", f"{at}::{item.title}")
-    return Entry("item", names, kind, reach=reach, **found)
+    names = (item.name, item.title, f"{within}::{item.name}", f"{within}::{item.title}", f"{at}::{item.name}", title)
+    yield Entry("item", names, kind, reach=reach, **found)
+    for variant in re.findall(r"^    (\w+)", "\n".join(item.variants), re.M) if item.kind == "enum" else ():
+        names = (variant, f"{item.name}::{variant}", f"{title}::{variant}")
+        yield Entry("item", names, "variant", imports=[f"{declared}.TheVariants.{{{variant}}}"], places=found["places"], reach=reach)
 
 
 def passed_from_kit(every, source, at):
@@ -179,13 +183,13 @@ def sources_of(crates):
 def items_of_library():
     """Returns the public items of the facade and of the crates beside it."""
     every = sources_of(libraries())
-    found = [item_entry(it, called(module), module) for module in MODULES for it in every.items_of(module).values()]
+    found = [entry for module in MODULES for it in every.items_of(module).values() for entry in entries_of_item(it, called(module), module)]
     found += [it for module in MODULES for it in passed_from_kit(every, every.source_of(module), called(module))]
     root = every.by_module.get((FACADE, ()))
     if root:
         there = {it for module in MODULES for it in every.items_of(module).values()}
         passed = (every.resolve(root, it) for it in root.passed_on)
-        found += [item_entry(it, FACADE) for it in passed if it and it not in there]
+        found += [entry for it in passed if it and it not in there for entry in entries_of_item(it, FACADE)]
         found += passed_from_kit(every, root, FACADE)
     return found
 
@@ -195,7 +199,7 @@ def items_of_crate(crate):
     """Returns the public items of a crate that is no part of the library."""
     modules = sources_of([crate]).by_module.items()
     named = [("::".join((crate, *module)), [*source.items.values(), *(it for it, _ in source.methods)]) for (_, module), source in modules]
-    return [item_entry(it, at, reach=OWN) for at, items in named for it in items]
+    return [entry for at, items in named for it in items for entry in entries_of_item(it, at, reach=OWN)]
 
 
 def items(words):
@@ -229,7 +233,8 @@ def rows_end(lines, at, name, indent):
 
 
 # What a file of specs/ or proofs/ declares: its type stands with the parameters of the blocks around it, and in brief with `..` in their place.
-Declaration = collections.namedtuple("Declaration", "name is_public is_definition head brief body says line")
+Declaration = collections.namedtuple("Declaration", "name is_public is_definition is_record has_parts head brief body says line")
+PART = re.compile(r"(?:pub )?(?P<names>[^\s:({-]+(?: [^\s:({]+)*) : (?P<type>.*)")
 
 
 def declarations(text):
@@ -256,7 +261,8 @@ def declarations(text):
             body = lines[end + 1 : at + 1] or (lines[at + 1 : rows_end(lines, at + 1, name, depth(line))] if is_definition else [])
             comment = comment_over(lines, first) or (blocks[-1][3] if is_mutual else "")
             body = [it for it in textwrap.dedent("\n".join(body)).splitlines() if it.strip()]
-            yield Declaration(name, "pub" in found["marks"], is_definition, *heads, body, comment, first + 1)
+            is_record, has_parts = "record" in found["marks"], bool(WITH_FIELDS.search(found["marks"]))
+            yield Declaration(name, "pub" in found["marks"], is_definition, is_record, has_parts, *heads, body, comment, first + 1)
         at += 1
 
 
@@ -276,6 +282,22 @@ def aliases():
     return {(crate, module, name.partition(" as ")[0]): name for crate, module, name in passed}
 
 
+@functools.cache
+def passed_between():
+    """Returns which crate and module of the library below the facade pass on a word of another crate's file, beside those that files share."""
+    found = {}
+    for (crate, part, file), text in texts().items():
+        if part == "specs" and crate in libraries() and crate != FACADE and file != f"{USES}.antt":
+            for it in PASSED_WORDS.finditer(text):
+                names = (it["names"] or "").split(",")
+                found.update({(it["crate"], it["part"], it["module"], name.strip()): (crate, module_of(file)) for name in names if it["crate"] != crate})
+    return found
+
+
+def module_of(file):
+    return os.path.splitext(file)[0].replace("/", ".")
+
+
 def import_of(word):
     """Returns the line that imports a word or a lemma, the name that it has there, and how far it is from a program."""
     renamed = aliases().get((word.crate, word.module, word.name), word.name)
@@ -283,6 +305,8 @@ def import_of(word):
     name = renamed.rpartition(" as ")[2]
     if passed:
         return f"use Rattle.{FACADE}.specs.{passed}.{{{name}}}", name, 0
+    if at := passed_between().get((word.crate, word.part, word.module, word.name)):
+        return import_of(Word(word.name, *at, ""))
     line = f"use Rattle.{word.crate}.{word.part}.{word.module}.{{{word.name}}}"
     if word.crate in own_crates():
         return line, word.name, OWN
@@ -296,13 +320,29 @@ def declared_in(crate, part, file):
     """Returns the words of contracts and the lemmas of a file of specs/ or proofs/."""
     found = []
     for it in declarations(texts()[crate, part, file]):
-        word = Word(it.name, crate, os.path.splitext(file)[0].replace("/", "."), it.says, part)
+        word = Word(it.name, crate, module_of(file), it.says, part)
         line, name, reach = import_of(word) if it.is_public else ("", it.name, INNER)
         what = f"{'word of contracts' if it.is_definition else 'lemma'}{'' if it.is_public else ', of its file alone'}"
         told = {"head": it.head, "brief": it.brief, "body": it.body, "says": it.says, "imports": [line] if line else (), "reach": reach}
         names = (name,) if name == it.name else (name, it.name, name)
-        found.append(Entry("word" if it.is_definition else "lemma", names, what, places=[f"{word.path}:{it.line}"], **told))
+        places = [f"{word.path}:{it.line}"]
+        found.append(Entry("word" if it.is_definition else "lemma", names, what, places=places, **told))
+        for inner, head, says in parts_of(it):
+            # A constructor is named by its type, which is imported, and a field behind its value.
+            told = {"head": head, "imports": ()} if it.is_record else {"head": f"{name}.{head}", "imports": told["imports"]}
+            what = f"{'field' if it.is_record else 'constructor'} of {name}"
+            found.append(Entry("word", (inner, f"{name}.{inner}", f"{name}::{inner}"), what, says=says, places=places, reach=reach, **told))
     return found
+
+
+def parts_of(declaration):
+    """Yields the fields of a record, or the constructors of a type: the name, the type and the comment."""
+    for at, line in enumerate(declaration.body if declaration.has_parts else ()):
+        if part := PART.match(line):
+            end = block_end(declaration.body, at)
+            head = " ".join(" ".join([part["type"], *declaration.body[at + 1 : end]]).split())
+            for name in part["names"].split():
+                yield name, f"{name} : {head}", comment_over(declaration.body, at)
 
 
 def definitions_and_lemmas(words):
@@ -406,26 +446,35 @@ def listed(heading, found, most):
     return ["", f"{heading}:", *(line for it in found[:most] for line in it.short()), *more(len(found) - most)] if found else []
 
 
+def fitting(words):
+    """Returns the entries that fit, each with how; the nearest to a program come first, and of these those whose type has the words."""
+    found, kinds = [(it.fit(words), it) for it in entries(words)], list(KINDS)
+    asked = whole_word(" ".join(words))
+
+    def place(found):
+        rank, it = found
+        return rank, it.reach, not asked.search(it.head), kinds.index(it.kind), len(it.names[-1]), it.names[-1]
+
+    return sorted(((rank, it) for rank, it in found if rank is not None), key=place)
+
+
 def answer(words):
     """Returns whether an entry has the words, and the lines that tell it."""
-    asked, kinds = " ".join(words), list(KINDS)
-    fits = [(it.fit(words), it) for it in entries(words)]
-    # A lemma whose statement has the words comes before one whose comment does.
-    order = {id(it): (rank, it.reach, not whole_word(asked).search(it.head), kinds.index(it.kind), len(it.names[-1]), it.names[-1]) for rank, it in fits if rank is not None}
-    found = sorted(((rank, it) for rank, it in fits if rank is not None), key=lambda it: order[id(it[1])])
+    asked, found = " ".join(words), fitting(words)
     if not found:
         told = ", ".join(near(asked))
         return False, [f"nothing has {asked}{f'; names like it are {told}' if told else ''}", "`rt lemma` looks in all of std"]
     named = [(rank, it) for rank, it in found if rank < CODE]
-    best = named[0][0] if named else None
-    whole = [it for rank, it in named if rank == best] if best in (EXACT, EXACT_FOLDED) or len(named) == 1 else []
+    exact = [it for rank, it in named if rank == named[0][0] <= EXACT_FOLDED]
+    whole = exact or [it for _, it in named if len(named) == 1]
+    others = [*whole[MOST_WHOLE:], *(it for _, it in named if it not in whole)]
     lines = [line for it in whole[:MOST_WHOLE] for line in ("", *it.whole())]
-    lines += listed("Names that have it" if not whole else "Other names that have it", [*whole[MOST_WHOLE:], *(it for _, it in named if it not in whole)], MOST_NAMED)
+    lines += listed(f"{'Other names' if whole else 'Names'} that have it", others, MOST_NAMED)
     for kind, (heading, most) in KINDS.items():
         lines += listed(heading, [it for rank, it in found if rank >= CODE and it.kind == kind], most)
     for kind, there in examples_of({it.names[0] for it in whole} or {asked}):
-        most = EXAMPLES[kind]
-        lines += ["", f"{kind}:", *(line for it in there[:most] for line in filled(it, most=1)), *more(len(there) - most)] if there else []
+        told = [line for it in there[: EXAMPLES[kind]] for line in filled(it, most=1)]
+        lines += ["", f"{kind}:", *told, *more(len(there) - EXAMPLES[kind])] if there else []
     return True, lines[1:]
 
 
