@@ -74,6 +74,8 @@ class Entry:
         self.says, self.places = told.get("says", ""), told.get("places", ())
         # How far it is: 0 if a program that lists the facade or a crate beside it has it, then OWN, KIT, BELOW, INNER.
         self.reach = told.get("reach", 0)
+        # Whether it is a part of another entry, whose texts a search reads.
+        self.is_part = told.get("is_part", False)
         # What a search reads besides.
         self.contract, self.comment = told.get("contract", ()), " ".join(told.get("comment", self.says).split())
 
@@ -96,6 +98,8 @@ class Entry:
                 return rank
             if any(test(it.casefold(), low) for it in names):
                 return rank + 1
+        if self.is_part:
+            return None
         if low not in self.folded:
             return EACH_WORD if all(it.casefold() in self.folded for it in words) else None
         return next((rank for rank, text in ((CODE, self.code), (COMMENT, self.comment)) if whole_word(asked).search(text)), FOLDED)
@@ -165,7 +169,7 @@ def entries_of_item(item, at, module=None, reach=0):
     yield Entry("item", names, kind, reach=reach, **found)
     for variant in re.findall(r"^    (\w+)", "\n".join(item.variants), re.M) if item.kind == "enum" else ():
         names = (variant, f"{item.name}::{variant}", f"{title}::{variant}")
-        yield Entry("item", names, "variant", imports=[f"{declared}.TheVariants.{{{variant}}}"], places=found["places"], reach=reach)
+        yield Entry("item", names, "variant", imports=[f"{declared}.TheVariants.{{{variant}}}"], places=found["places"], reach=reach, is_part=True)
 
 
 def passed_from_kit(every, source, at):
@@ -329,9 +333,9 @@ def declared_in(crate, part, file):
         found.append(Entry("word" if it.is_definition else "lemma", names, what, places=places, **told))
         for inner, head, says in parts_of(it):
             # A constructor is named by its type, which is imported, and a field behind its value.
-            told = {"head": head, "imports": ()} if it.is_record else {"head": f"{name}.{head}", "imports": told["imports"]}
-            what = f"{'field' if it.is_record else 'constructor'} of {name}"
-            found.append(Entry("word", (inner, f"{name}.{inner}", f"{name}::{inner}"), what, says=says, places=places, reach=reach, **told))
+            told |= {"head": head, "imports": ()} if it.is_record else {"head": f"{name}.{head}"}
+            told |= {"brief": told["head"], "body": (), "says": says, "places": places, "is_part": True}
+            found.append(Entry("word", (inner, f"{name}.{inner}", f"{name}::{inner}"), f"{'field' if it.is_record else 'constructor'} of {name}", **told))
     return found
 
 
