@@ -209,7 +209,7 @@ def items_of_crate(crate):
 def items(words):
     """Yields the public items of the library, and of the other crates of which a source has the words."""
     own = {crate for crate, part, _ in texts_with(words) if part == "src"}.intersection(own_crates())
-    yield from items_of_library() if libraries() else ()
+    yield from items_of_library()
     for crate in sorted(own):
         yield from items_of_crate(crate)
 
@@ -238,36 +238,45 @@ def rows_end(lines, at, name, indent):
 
 # What a file of specs/ or proofs/ declares: its type stands with the parameters of the blocks around it, and in brief with `..` in their place.
 Declaration = collections.namedtuple("Declaration", "name is_public is_definition is_record has_parts head brief body says line")
+Block = collections.namedtuple("Block", "indent parameters is_mutual says")
 PART = re.compile(r"(?:pub )?(?P<names>[^\s:({-]+(?: [^\s:({]+)*) : (?P<type>.*)")
+
+
+def block_at(lines, at):
+    """Returns the block that begins in a line, and the last line of its head."""
+    end = next((it for it in range(at, len(lines)) if lines[it].endswith(("where", "mutual"))), at)
+    parameters = re.sub(r"^module _|where$|^abbrev mutual$", "", " ".join(" ".join(lines[at : end + 1]).split())).strip()
+    return Block(depth(lines[at]), parameters, bool(MUTUAL.match(lines[at])), comment_over(lines, at)), end
+
+
+def declaration_at(lines, at, found, blocks):
+    """Returns what the match of a line declares, within these blocks."""
+    name, marks, end = found["name"], found["marks"], block_end(lines, at)
+    has_parts, is_mutual = bool(WITH_FIELDS.search(marks)), any(it.is_mutual for it in blocks)
+    is_definition = is_mutual or bool(DEFINITION.search(marks))
+    typed = next((it + 1 for it in range(at, end) if has_parts and lines[it].endswith("where")), end)
+    body = lines[typed:end] if has_parts else lines[end : rows_end(lines, end, name, depth(lines[at]))] if is_definition else []
+    body = [it for it in textwrap.dedent("\n".join(body)).splitlines() if it.strip()]
+    parameters = " ".join(it.parameters for it in blocks if it.parameters)
+    heads = [" ".join(" ".join([name, it, found["head"], *lines[at + 1 : typed]]).split()) for it in (parameters, ".." if parameters else "")]
+    says = comment_over(lines, at) or (blocks[-1].says if is_mutual else "")
+    return Declaration(name, "pub" in marks, is_definition, "record" in marks, has_parts, *heads, body, says, at + 1)
 
 
 def declarations(text):
     """Yields the definitions of a file of specs/ or proofs/, and the lemmas that it passes on."""
     lines, blocks, at = text.splitlines(), [], 0
     while at < len(lines):
-        line, first = lines[at], at
-        while line.strip() and blocks and blocks[-1][0] >= depth(line):
+        line, end = lines[at], at
+        while line.strip() and blocks and blocks[-1].indent >= depth(line):
             blocks.pop()
         if MODULE.match(line) or MUTUAL.match(line):
-            while not re.search(r"\b(where|mutual)$", lines[at]) and at + 1 < len(lines):
-                at += 1
-            parameters = re.sub(r"^module _|where$|^abbrev mutual$", "", " ".join(" ".join(lines[first : at + 1]).split()))
-            blocks.append((depth(line), parameters.strip(), bool(MUTUAL.match(line)), comment_over(lines, first)))
+            block, end = block_at(lines, at)
+            blocks.append(block)
         elif (found := DECLARED.fullmatch(line)) and ("pub" in found["marks"] or DEFINITION.search(found["marks"])):
-            name, at = found["name"], block_end(lines, first) - 1
-            end = at
-            if WITH_FIELDS.search(found["marks"]):
-                end = next((it for it in range(first, at + 1) if lines[it].endswith("where")), at)
-            parameters = " ".join(it[1] for it in blocks if it[1])
-            heads = [" ".join(" ".join([name, it, found["head"], *lines[first + 1 : end + 1]]).split()) for it in (parameters, ".." if parameters else "")]
-            is_mutual = any(it[2] for it in blocks)
-            is_definition = is_mutual or bool(DEFINITION.search(found["marks"]))
-            body = lines[end + 1 : at + 1] or (lines[at + 1 : rows_end(lines, at + 1, name, depth(line))] if is_definition else [])
-            comment = comment_over(lines, first) or (blocks[-1][3] if is_mutual else "")
-            body = [it for it in textwrap.dedent("\n".join(body)).splitlines() if it.strip()]
-            is_record, has_parts = "record" in found["marks"], bool(WITH_FIELDS.search(found["marks"]))
-            yield Declaration(name, "pub" in found["marks"], is_definition, is_record, has_parts, *heads, body, comment, first + 1)
-        at += 1
+            yield declaration_at(lines, at, found, blocks)
+            end = block_end(lines, at) - 1
+        at = end + 1
 
 
 @functools.cache
