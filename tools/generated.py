@@ -2,6 +2,7 @@
 import os
 
 import examples
+import lookup
 import markers
 import original_examples
 import originals
@@ -23,8 +24,13 @@ def files():
     yield original_examples.PAGE, original_examples.page()
     for file, text in examples.proofs().items():
         yield f"crates/{file}", text
-    tables = {**originals.tables(), **originals.added()}
-    for page, parts in ((originals.PAGE, tables), (speed.PAGE, {"speed": speed.table()}), (properties.PAGE, properties.tables())):
+    parts_of = {
+        originals.PAGE: {**originals.tables(), **originals.added()},
+        properties.PAGE: properties.tables(),
+        speed.PAGE: {"speed": speed.table()},
+        lookup.EXAMPLE_PAGE: {"find": lookup.example()},
+    }
+    for page, parts in parts_of.items():
         yield page, markers.filled(read_text(f"{TOP}/{page}"), parts)
 
 

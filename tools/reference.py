@@ -8,10 +8,9 @@ import properties
 from examples import CLAUSES, GHOST
 from legend import FIELDS, LEGEND, NAME, PHASES, WITH_MEANING, arguments, fields, legend, members, text_of, unexplained
 from repository import TOP, read_text
-from sources import MODULES, Sources, called, head_of_impl
+from sources import LINKED, MODULES, Sources, called, first_sentence, head_of_impl, plain
 from vocabulary import PLAIN, WIDTH, bullet, cited, definitions, imported, libraries, table, wrapped
 
-LINKED = re.compile(r"\[`([^`]*)`\](?:\(([^)]*)\))?")
 # The sentence of a type's comment that says which calls return it.
 MAKERS = re.compile(r"(Returned|Made) by \[`[^.]*\.")
 # The clause of a call that lends what it has: the field that is lent, and what `self` is after that.
@@ -66,31 +65,15 @@ ABOUT_EXAMPLES = (
 )
 
 
-def plain(comment):
-    """Returns a comment without its links, which name sources that are not here."""
-    return LINKED.sub(r"`\1`", comment)
-
-
 def laid_out(comment):
     """Returns a comment as it stands on a page. What is no paragraph, such as a list or code, stays as it is."""
     parts = [it for it in re.split(r"\n\s*\n", comment) if it.strip()]
     return "\n\n".join(f"**{it.removeprefix('# ')}**" if it.startswith("# ") else it if re.match(r"[-*|`\d]", it) else wrapped(it) for it in parts)
 
 
-def first_sentence(comment):
-    """Returns the first sentence of a comment. One that ends with its paragraph, before a list, ends with a full stop too."""
-    paragraph = " ".join(plain(comment).partition("\n\n")[0].split())
-    found = re.match(r".*?\.(?=\s|$)", paragraph)
-    return found[0] if found else f"{paragraph.rstrip(':')}."
-
-
-def heading(item):
-    return f"{'method' if item.owner and item.kind == 'fn' else item.kind} `{item.title}`"
-
-
 def linked(item, text, page=""):
     """Returns a link to an item's entry, on the same page if none is named."""
-    return f"[{text}]({page}#{re.sub(r'[^a-z0-9_-]', '', heading(item).lower().replace(' ', '-'))})"
+    return f"[{text}]({page}#{item.anchor})"
 
 
 def listed(item):
@@ -475,7 +458,7 @@ class Reference:
         """Returns the part of a page that is an item's."""
         head = textwrap.fill(item.head, WIDTH - 4, subsequent_indent="    ")
         within = [f"{item.impl} {{", textwrap.indent(head, "    "), "}"] if item.impl else [head]
-        parts = [f"### {heading(item)}", code([f"{head} {{", *map(plain, item.variants), "}"] if item.variants else within)]
+        parts = [f"### {item.heading}", code([f"{head} {{", *map(plain, item.variants), "}"] if item.variants else within)]
         parts += self.about_types(item, module)
         parts += [laid_out(self.with_links(self.says_of(item, module), item, module))] if item.says else []
         parts += self.about_result(item, module) if item.kind == "fn" else self.about_fields(item, module)

@@ -1,5 +1,6 @@
 """The public items of the library: each by the module of the facade that it is called in, and found by the imports of the sources."""
 import functools
+import itertools
 import os
 import re
 import textwrap
@@ -23,6 +24,8 @@ USE = re.compile(r"^(?P<public>pub )?use (?P<tree>[^;]*);", re.M | re.S)
 # The parameters of an impl, which may hold arguments of their own.
 PARAMETERS = re.compile(r"^<(?:[^<>]|<(?:[^<>]|<[^<>]*>)*>)*>")
 EXAMPLES = "# Examples"
+# A link in a comment.
+LINKED = re.compile(r"\[`([^`]*)`\](?:\(([^)]*)\))?")
 
 
 class Item:
@@ -53,8 +56,29 @@ class Item:
         return self.kind == "fn" and bool(re.match(r"(?:const )?fn \w+(?:<[^(]*>)?\(\s*(?:&(?:'\w+ )?)?(?:mut )?self\b", self.head))
 
     @property
+    def heading(self):
+        """The heading of the item's entry in docs/api."""
+        return f"{'method' if self.owner and self.kind == 'fn' else self.kind} `{self.title}`"
+
+    @property
+    def anchor(self):
+        return re.sub(r"[^a-z0-9_-]", "", self.heading.lower().replace(" ", "-"))
+
+    @property
     def does_nothing(self):
         return self.says.startswith("Does nothing.")
+
+
+def plain(comment):
+    """Returns a comment without its links, which name sources that are not here."""
+    return LINKED.sub(r"`\1`", comment)
+
+
+def first_sentence(comment):
+    """Returns the first sentence of a comment. One that ends with its paragraph, before a list, ends with a full stop too."""
+    paragraph = " ".join(plain(comment).partition("\n\n")[0].split())
+    found = re.match(r".*?\.(?=\s|$)", paragraph)
+    return found[0] if found else f"{paragraph.rstrip(':')}."
 
 
 def clauses(lines):
@@ -131,9 +155,14 @@ def ghosts_in(lines):
     return found
 
 
+def block_below(lines, at):
+    """Returns the lines of the block that a line opens, whose end stands at the margin."""
+    return list(itertools.takewhile(lambda it: it != "}", lines[at + 1 :]))
+
+
 def head_of_impl(lines, at):
     """Returns the head of an impl that begins in a line, as one line: its parameters, its type and its bounds."""
-    end = next(number for number in range(at, len(lines)) if lines[number].endswith(("{", "{}")))
+    end = next((number for number in range(at, len(lines)) if lines[number].endswith(("{", "{}"))), at)
     return re.sub(r",? ?\{\}?$", "", " ".join(" ".join(lines[at : end + 1]).split()))
 
 
@@ -169,11 +198,11 @@ def items_in(path, lines):
             if found["public"] and not inner or inner and block and (found["public"] or is_trait):
                 item = Item(path, first + 1, found["kind"], found["name"], comment, said[:clause], said[clause:])
                 if item.kind == "enum":
-                    item.variants = lines[at + 1 : lines.index("}", at)]
+                    item.variants = block_below(lines, at)
                 if item.kind == "trait" and lines[at].endswith("{"):
-                    item.variants = ghosts_in(lines[at + 1 : lines.index("}", at)])
+                    item.variants = ghosts_in(block_below(lines, at))
                 if item.kind == "struct" and lines[at].endswith("{"):
-                    item.fields = dict(filter(None, map(field_in, lines[at + 1 : lines.index("}", at)])))
+                    item.fields = dict(filter(None, map(field_in, block_below(lines, at))))
                 item.impl = impl if inner else ""
                 yield item, block if inner else None
             comment = []

@@ -29,8 +29,10 @@ MADE = re.compile(r"^pub fn (?P<name>\w+)[^{;]*?-> (?P<type>[^{]*?)\n?(?:    (?:
 NEW = re.compile(r"^impl\b[^{;]*?\s(?P<type>\w+)(?:<[^{;]*)?\{\n(?:(?!^\}).*\n)*?    pub fn new\(", re.M)
 FUNCTION = re.compile(r"^pub fn (?P<name>\w+)(?P<said>.*?)^\{", re.M | re.S)
 PASSED_ON = re.compile(r"^pub use (?P<path>[\w:]+?)(?:::\{(?P<names>[^}]*)\})?;", re.M | re.S)
-# A line of the facade's specs that passes on a module, or words of it.
-PASSED_WORDS = re.compile(r"^(?:unfoldable )?pub use Rattle\.(?P<crate>\w+)\.specs\.(?P<module>[\w.]+?)(?:\.\{(?P<names>[^}]*)\})?$", re.M)
+# A line of the facade's specs that passes on a module of a crate's specs or proofs, or words of it.
+PASSED_WORDS = re.compile(
+    r"^(?:unfoldable )?pub use Rattle\.(?P<crate>\w+)\.(?P<part>specs|proofs)\.(?P<module>[\w.]+?)(?:\.\{(?P<names>[^}]*)\})?$", re.M
+)
 # The module of a crate that passes on what its files import from the crates below.
 USES = "Uses"
 USED = re.compile(r"use Rattle\.(?P<crate>\w+)\.specs\.(?P<module>[\w.]+)\.\{(?P<names>[^}]*)\}")
@@ -46,14 +48,14 @@ def bullet(text):
 
 
 class Word:
-    """A definition: its name, the crate and the module that it stands in, and what the comment over it says."""
+    """A definition, or a lemma: its name, the crate, the module and the part of the crate that it stands in, and what the comment over it says."""
 
-    def __init__(self, name, crate, module, says):
-        self.name, self.crate, self.module, self.says = name, crate, module, says
+    def __init__(self, name, crate, module, says, part="specs"):
+        self.name, self.crate, self.module, self.says, self.part = name, crate, module, says, part
 
     @property
     def path(self):
-        return f"crates/{self.crate}/specs/{self.module.replace('.', '/')}.antt"
+        return f"crates/{self.crate}/{self.part}/{self.module.replace('.', '/')}.antt"
 
 
 def comment_over(lines, at):
@@ -74,6 +76,7 @@ def definitions(crate):
                 yield Word(found["word"], crate, os.path.splitext(file)[0].replace("/", "."), comment_over(lines, at))
 
 
+@functools.cache
 def libraries():
     return with_below(crates_in(TOP), [FACADE, *BESIDE])
 
@@ -102,11 +105,14 @@ def passed_on_in(crate):
     return dict(used(read_text(path))) if os.path.isfile(path) else {}
 
 
-def passed_words():
-    """Yields what the facade's specs pass on: the crate, the module and the name of a word, with the module there; no name stands for all words of a module."""
+def passed_words(part="specs"):
+    """Yields what the facade's specs pass on of this part of crates: the crate, the module and the name of a word, with the module there; no name
+    stands for all words of a module."""
     for file in files_of(f"{TOP}/crates/{FACADE}/specs"):
         module = os.path.splitext(file)[0]
         for it in PASSED_WORDS.finditer(read_text(f"{TOP}/crates/{FACADE}/specs/{file}")):
+            if it["part"] != part:
+                continue
             if it["names"]:
                 yield from (((it["crate"], it["module"], name.strip()), module) for name in it["names"].split(","))
             else:
@@ -114,10 +120,11 @@ def passed_words():
 
 
 @functools.cache
-def modules_of_words():
-    """Returns the module of the facade's specs that has each word, by the word's crate, module and name; no name stands for all words of a module."""
+def modules_of_words(part="specs"):
+    """Returns the module of the facade's specs that has each word of this part of crates, by the word's crate, module and name; no name stands for all
+    words of a module."""
     found = {}
-    for word, module in passed_words():
+    for word, module in passed_words(part):
         found.setdefault(word, module)
     return found
 
@@ -133,7 +140,7 @@ def words_of_uses_alone():
 
 def module_for_programs(word):
     """Returns the module of the facade's specs from which a program imports a word, or nothing."""
-    found, place = modules_of_words(), (word.crate, word.module)
+    found, place = modules_of_words(word.part), (word.crate, word.module)
     return found.get((*place, word.name)) or found.get((*place, ""))
 
 
