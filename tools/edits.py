@@ -13,8 +13,8 @@ BODIES, MUST_FAIL = "wrong-bodies", "crates/{}/must-fail"
 HEAD = re.compile(r"refused by (?P<clause>\S+) of (?P<of>\S+)(?: in (?P<caller>\S+))?")
 HEADING = re.compile(r"(?P<name>[a-z0-9-]+): (?P<refused>refused by .*)")
 FORM = "`refused by CLAUSE of FUNCTION`, or `refused by CLAUSE of CALLED in FUNCTION`"
-# What refuses a body that is proved, and that changes how many functions of its crate may wait.
-COUNT = "may_wait", "crates.txt"
+# What refuses a body that is proved, and whose function may wait then: none of its crate may, by crates.txt.
+COUNT = "may_wait"
 # The kinds of lines that may follow one another below a heading; "" stands before the first and behind the last.
 KINDS = {"": ("file",), "file": ("old",), "old": ("new",), "new": ("old", "file", "")}
 # What stands in a clause, and in no body.
@@ -53,8 +53,7 @@ class Edit:
         # The function whose body is wrong; and what it calls, if a call of that is what is refused.
         self.function = head and (head["caller"] or head["of"])
         self.called = head["of"] if head and head["caller"] else None
-        # (tools/waits tries it)
-        self.is_counted = (self.clause, self.function) == COUNT
+        self.is_counted = self.clause == COUNT
         self.turns_a_clause = any(GHOST.search(old + new) for _, old, new in self.changes())
 
     def changes(self):
@@ -71,10 +70,10 @@ class Edit:
 
     def fault_in_head(self):
         """Returns what is wrong in the heading: it has another form, or it names no clause that is declared. None if nothing is."""
-        if self.is_counted:
-            return None
         if not self.clause:
             return f"its heading does not say {FORM}"
+        if self.is_counted:
+            return f"by crates.txt functions of {self.crate} may wait" if crates_in(TOP)[self.crate].may_wait else None
         if self.called:
             crate, _, path = self.called.partition("::")
             names = (declared(crate, path) if crate in crates_in(TOP) else declared(self.crate, self.called)).requires
@@ -84,6 +83,8 @@ class Edit:
 
     def is_proved_by_hand(self):
         """Returns whether the clause has a proof by hand in that function: an answer, a whole proof, or an invariant of a loop before it."""
+        if self.is_counted:
+            return False
         folder = f"{TOP}/crates/{self.crate}/proofs/{self.function.replace('::', '/')}"
         if os.path.isfile(f"{folder}/Proof.antt") or os.path.isfile(f"{folder}/Invariants.antt"):
             return True
@@ -185,8 +186,3 @@ def crates_with_bodies(top=TOP):
     """Returns the names of the crates that have wrong bodies, in their order."""
     files = (os.path.splitext(os.path.basename(it))[0] for it in glob.glob(f"{top}/{BODIES}/*.txt"))
     return sorted({*files, *(it.split("/")[-2] for it in glob.glob(f"{top}/crates/*/must-fail"))})
-
-
-def edit_of(name):
-    """Returns the wrong body CRATE/NAME, or None if there is none."""
-    return next((it for it in Bodies(name.partition("/")[0]).edits if it.name == name), None)
