@@ -7,8 +7,8 @@ import re
 from declared import INVARIANT, UNNAMED, declared
 from repository import TOP, crates_in, read_text
 
-# The bodies of a crate stand in one file of this folder. One more may stand in the crate's folder of the toolchain, each there a file.
-BODIES, MUST_FAIL = "wrong-bodies", "crates/{}/must-fail"
+# The bodies of a crate stand in one file of this folder.
+BODIES = "wrong-bodies"
 # A body's heading. A function is named by its path below its crate. One that it calls may be of another crate, and its path begins with that.
 HEAD = re.compile(r"refused by (?P<clause>\S+) of (?P<of>\S+)(?: in (?P<caller>\S+))?")
 HEADING = re.compile(r"(?P<name>[a-z0-9-]+): (?P<refused>refused by .*)")
@@ -43,11 +43,11 @@ def clause_of(goal):
 
 
 class Edit:
-    """A wrong body of a crate: what refuses it, and its lines. Its text has the form of a file of must-fail/, wherever it stands."""
+    """A wrong body of a crate: what refuses it, and its lines. Its text is both, without its name."""
 
     def __init__(self, crate, name, refused, lines, place):
         self.crate, self.name, self.place = crate, f"{crate}/{name}", place
-        self.text = "".join(f"{line}\n" for line in (f"# {refused}", *lines))
+        self.text = "".join(f"{line}\n" for line in (refused, *lines))
         head = HEAD.fullmatch(refused)
         self.clause = head and head["clause"]
         # The function whose body is wrong; and what it calls, if a call of that is what is refused.
@@ -147,14 +147,12 @@ def blocks_in(text):
 
 
 class Bodies:
-    """The wrong bodies of a crate by its file in wrong-bodies/ and its folder must-fail/, and what is wrong in their form: pairs of a place and a sentence."""
+    """The wrong bodies of a crate by its file in wrong-bodies/, and what is wrong in their form: pairs of a place and a sentence."""
 
-    def __init__(self, crate, top=TOP):
+    def __init__(self, crate):
         self.crate, self.edits, self.faults = crate, [], []
-        if os.path.isfile(f"{top}/{BODIES}/{crate}.txt"):
-            self.read_file(f"{BODIES}/{crate}.txt", read_text(f"{top}/{BODIES}/{crate}.txt"))
-        for path in sorted(glob.glob(f"{top}/{MUST_FAIL.format(crate)}/*.edit")):
-            self.read_edit(os.path.relpath(path, top), read_text(path))
+        if os.path.isfile(f"{TOP}/{BODIES}/{crate}.txt"):
+            self.read_file(f"{BODIES}/{crate}.txt", read_text(f"{TOP}/{BODIES}/{crate}.txt"))
 
     def read_file(self, file, text):
         before = ""
@@ -170,10 +168,6 @@ class Bodies:
             before = name
             self.add(name, heading["refused"], rows, file)
 
-    def read_edit(self, file, text):
-        rows = [(number, line) for number, line in enumerate(text.splitlines(), 1) if line.strip()] or [(1, "")]
-        self.add(os.path.splitext(os.path.basename(file))[0], rows[0][1].removeprefix("# "), rows, file)
-
     def add(self, name, refused, rows, file):
         edit = Edit(self.crate, name, refused, [line for _, line in rows[1:]], f"{file}:{rows[0][0]}")
         if other := next((it for it in self.edits if it.name == edit.name), None):
@@ -182,7 +176,6 @@ class Bodies:
         self.faults += [(f"{file}:{at}", what) for at, what in faults_in_lines(rows)]
 
 
-def crates_with_bodies(top=TOP):
+def crates_with_bodies():
     """Returns the names of the crates that have wrong bodies, in their order."""
-    files = (os.path.splitext(os.path.basename(it))[0] for it in glob.glob(f"{top}/{BODIES}/*.txt"))
-    return sorted({*files, *(it.split("/")[-2] for it in glob.glob(f"{top}/crates/*/must-fail"))})
+    return sorted(os.path.splitext(os.path.basename(it))[0] for it in glob.glob(f"{TOP}/{BODIES}/*.txt"))

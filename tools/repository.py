@@ -139,8 +139,8 @@ def hand_on(name, place, to):
 
 
 def lay_crates(copy):
-    """Copies the crates, but for their wrong bodies, with what is built of them."""
-    shutil.copytree(f"{TOP}/crates", f"{copy}/crates", ignore=shutil.ignore_patterns("out", "must-fail"))
+    """Copies the crates, with what is built of them."""
+    shutil.copytree(f"{TOP}/crates", f"{copy}/crates", ignore=shutil.ignore_patterns("out"))
     for name in ("crates.txt", "HANDLES"):
         shutil.copy(f"{TOP}/{name}", copy)
     for name in os.listdir(f"{TOP}/crates"):
