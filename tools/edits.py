@@ -7,8 +7,8 @@ import re
 from declared import INVARIANT, UNNAMED, declared
 from repository import TOP, crates_in, read_text
 
-# The bodies of a crate stand in one file of this folder.
-BODIES = "wrong-bodies"
+# The bodies of a crate stand in one file of this folder, and one more file there names those that are tried whenever something lands.
+BODIES, ALWAYS = "wrong-bodies", "wrong-bodies/always.txt"
 # A body's heading. A function is named by its path below its crate. One that it calls may be of another crate, and its path begins with that.
 HEAD = re.compile(r"refused by (?P<clause>\S+) of (?P<of>\S+)(?: in (?P<caller>\S+))?")
 HEADING = re.compile(r"(?P<name>[a-z0-9-]+): (?P<refused>refused by .*)")
@@ -178,4 +178,28 @@ class Bodies:
 
 def crates_with_bodies():
     """Returns the names of the crates that have wrong bodies, in their order."""
-    return sorted(os.path.splitext(os.path.basename(it))[0] for it in glob.glob(f"{TOP}/{BODIES}/*.txt"))
+    files = glob.glob(f"{TOP}/{BODIES}/*.txt")
+    return sorted(os.path.splitext(os.path.basename(it))[0] for it in files if it != f"{TOP}/{ALWAYS}")
+
+
+def listed_in(text):
+    """Yields the names CRATE/NAME of a list of wrong bodies, each with the number of its line; an empty line has none, and neither has a comment."""
+    for number, line in enumerate(text.splitlines(), 1):
+        if name := line.partition("#")[0].strip():
+            yield number, name
+
+
+def tried_always():
+    """Returns the names of the wrong bodies that are tried whenever something lands."""
+    return [name for _, name in listed_in(read_text(f"{TOP}/{ALWAYS}"))]
+
+
+def faults_in_list(text, names):
+    """Yields what is wrong in a list of wrong bodies, of which these are the names that it may have, at the number of a line."""
+    seen = set()
+    for number, name in listed_in(text):
+        if name not in names:
+            yield number, f"there is no wrong body {name}"
+        elif name in seen:
+            yield number, f"{name} stands twice"
+        seen.add(name)
