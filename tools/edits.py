@@ -7,14 +7,14 @@ import re
 from declared import INVARIANT, UNNAMED, declared
 from repository import TOP, crates_in, read_text
 
-# The bodies of a crate stand in one file of this folder. One more may stand in the crate's folder of the toolchain, each there a file.
-BODIES, MUST_FAIL = "wrong-bodies", "crates/{}/must-fail"
+# The bodies of a crate stand in one file of this folder, and one more file there names those that are tried whenever something lands.
+BODIES, ALWAYS = "wrong-bodies", "wrong-bodies/always.txt"
 # A body's heading. A function is named by its path below its crate. One that it calls may be of another crate, and its path begins with that.
 HEAD = re.compile(r"refused by (?P<clause>\S+) of (?P<of>\S+)(?: in (?P<caller>\S+))?")
 HEADING = re.compile(r"(?P<name>[a-z0-9-]+): (?P<refused>refused by .*)")
 FORM = "`refused by CLAUSE of FUNCTION`, or `refused by CLAUSE of CALLED in FUNCTION`"
-# What refuses a body that is proved, and that changes how many functions of its crate may wait.
-COUNT = "may_wait", "crates.txt"
+# What refuses a body that is proved, and whose function may wait then: none of its crate may, by crates.txt.
+COUNT = "may_wait"
 # The kinds of lines that may follow one another below a heading; "" stands before the first and behind the last.
 KINDS = {"": ("file",), "file": ("old",), "old": ("new",), "new": ("old", "file", "")}
 # What stands in a clause, and in no body.
@@ -43,18 +43,17 @@ def clause_of(goal):
 
 
 class Edit:
-    """A wrong body of a crate: what refuses it, and its lines. Its text has the form of a file of must-fail/, wherever it stands."""
+    """A wrong body of a crate: what refuses it, and its lines. Its text is both, without its name."""
 
     def __init__(self, crate, name, refused, lines, place):
         self.crate, self.name, self.place = crate, f"{crate}/{name}", place
-        self.text = "".join(f"{line}\n" for line in (f"# {refused}", *lines))
+        self.text = "".join(f"{line}\n" for line in (refused, *lines))
         head = HEAD.fullmatch(refused)
         self.clause = head and head["clause"]
         # The function whose body is wrong; and what it calls, if a call of that is what is refused.
         self.function = head and (head["caller"] or head["of"])
         self.called = head["of"] if head and head["caller"] else None
-        # (tools/waits tries it)
-        self.is_counted = (self.clause, self.function) == COUNT
+        self.is_counted = self.clause == COUNT
         self.turns_a_clause = any(GHOST.search(old + new) for _, old, new in self.changes())
 
     def changes(self):
@@ -71,10 +70,10 @@ class Edit:
 
     def fault_in_head(self):
         """Returns what is wrong in the heading: it has another form, or it names no clause that is declared. None if nothing is."""
-        if self.is_counted:
-            return None
         if not self.clause:
             return f"its heading does not say {FORM}"
+        if self.is_counted:
+            return f"by crates.txt functions of {self.crate} may wait" if crates_in(TOP)[self.crate].may_wait else None
         if self.called:
             crate, _, path = self.called.partition("::")
             names = (declared(crate, path) if crate in crates_in(TOP) else declared(self.crate, self.called)).requires
@@ -84,6 +83,8 @@ class Edit:
 
     def is_proved_by_hand(self):
         """Returns whether the clause has a proof by hand in that function: an answer, a whole proof, or an invariant of a loop before it."""
+        if self.is_counted:
+            return False
         folder = f"{TOP}/crates/{self.crate}/proofs/{self.function.replace('::', '/')}"
         if os.path.isfile(f"{folder}/Proof.antt") or os.path.isfile(f"{folder}/Invariants.antt"):
             return True
@@ -146,14 +147,12 @@ def blocks_in(text):
 
 
 class Bodies:
-    """The wrong bodies of a crate by its file in wrong-bodies/ and its folder must-fail/, and what is wrong in their form: pairs of a place and a sentence."""
+    """The wrong bodies of a crate by its file in wrong-bodies/, and what is wrong in their form: pairs of a place and a sentence."""
 
-    def __init__(self, crate, top=TOP):
+    def __init__(self, crate):
         self.crate, self.edits, self.faults = crate, [], []
-        if os.path.isfile(f"{top}/{BODIES}/{crate}.txt"):
-            self.read_file(f"{BODIES}/{crate}.txt", read_text(f"{top}/{BODIES}/{crate}.txt"))
-        for path in sorted(glob.glob(f"{top}/{MUST_FAIL.format(crate)}/*.edit")):
-            self.read_edit(os.path.relpath(path, top), read_text(path))
+        if os.path.isfile(f"{TOP}/{BODIES}/{crate}.txt"):
+            self.read_file(f"{BODIES}/{crate}.txt", read_text(f"{TOP}/{BODIES}/{crate}.txt"))
 
     def read_file(self, file, text):
         before = ""
@@ -169,10 +168,6 @@ class Bodies:
             before = name
             self.add(name, heading["refused"], rows, file)
 
-    def read_edit(self, file, text):
-        rows = [(number, line) for number, line in enumerate(text.splitlines(), 1) if line.strip()] or [(1, "")]
-        self.add(os.path.splitext(os.path.basename(file))[0], rows[0][1].removeprefix("# "), rows, file)
-
     def add(self, name, refused, rows, file):
         edit = Edit(self.crate, name, refused, [line for _, line in rows[1:]], f"{file}:{rows[0][0]}")
         if other := next((it for it in self.edits if it.name == edit.name), None):
@@ -181,12 +176,30 @@ class Bodies:
         self.faults += [(f"{file}:{at}", what) for at, what in faults_in_lines(rows)]
 
 
-def crates_with_bodies(top=TOP):
+def crates_with_bodies():
     """Returns the names of the crates that have wrong bodies, in their order."""
-    files = (os.path.splitext(os.path.basename(it))[0] for it in glob.glob(f"{top}/{BODIES}/*.txt"))
-    return sorted({*files, *(it.split("/")[-2] for it in glob.glob(f"{top}/crates/*/must-fail"))})
+    files = glob.glob(f"{TOP}/{BODIES}/*.txt")
+    return sorted(os.path.splitext(os.path.basename(it))[0] for it in files if it != f"{TOP}/{ALWAYS}")
 
 
-def edit_of(name):
-    """Returns the wrong body CRATE/NAME, or None if there is none."""
-    return next((it for it in Bodies(name.partition("/")[0]).edits if it.name == name), None)
+def listed_in(text):
+    """Yields the names CRATE/NAME of a list of wrong bodies, each with the number of its line; an empty line has none, and neither has a comment."""
+    for number, line in enumerate(text.splitlines(), 1):
+        if name := line.partition("#")[0].strip():
+            yield number, name
+
+
+def tried_always():
+    """Returns the names of the wrong bodies that are tried whenever something lands."""
+    return [name for _, name in listed_in(read_text(f"{TOP}/{ALWAYS}"))]
+
+
+def faults_in_list(text, names):
+    """Yields what is wrong in a list of wrong bodies, of which these are the names that it may have, at the number of a line."""
+    seen = set()
+    for number, name in listed_in(text):
+        if name not in names:
+            yield number, f"there is no wrong body {name}"
+        elif name in seen:
+            yield number, f"{name} stands twice"
+        seen.add(name)

@@ -139,8 +139,8 @@ def hand_on(name, place, to):
 
 
 def lay_crates(copy):
-    """Copies the crates, but for their wrong bodies, with what is built of them."""
-    shutil.copytree(f"{TOP}/crates", f"{copy}/crates", ignore=shutil.ignore_patterns("out", "must-fail"))
+    """Copies the crates, with what is built of them."""
+    shutil.copytree(f"{TOP}/crates", f"{copy}/crates", ignore=shutil.ignore_patterns("out"))
     for name in ("crates.txt", "HANDLES"):
         shutil.copy(f"{TOP}/{name}", copy)
     for name in os.listdir(f"{TOP}/crates"):
@@ -198,7 +198,7 @@ def sum_of(crates, name):
 
 
 def made_from(name):
-    """The file with the sum of what the crate's library in out/ was made from, as tools/waits left it."""
+    """The file with the sum of what the crate's library in out/ was made from, as tools/prove left it."""
     return f"{TOP}/crates/{name}/out/made_from"
 
 
@@ -210,6 +210,21 @@ def tell_made_from(name, sum):
 
 def is_made_from(name, sum):
     return os.path.isfile(made_from(name)) and read_text(made_from(name)) == sum
+
+
+def left_by_ci(name):
+    """The file with the sum of what `rt ci` made the crate's library in out/ from. What replaces this library removes the file. The library fits those below
+    that the same run left, and no others."""
+    return f"{TOP}/crates/{name}/out/rlib/left_by_ci"
+
+
+def tell_left_by_ci(name, sum):
+    with open(left_by_ci(name), "w", encoding="utf-8") as to:
+        to.write(sum)
+
+
+def is_left_by_ci(name, sum):
+    return os.path.isfile(left_by_ci(name)) and read_text(left_by_ci(name)) == sum
 
 
 def in_cache(name):
