@@ -85,6 +85,11 @@ def read_text(path):
         return file.read()
 
 
+def version():
+    """Returns the number of this version."""
+    return read_text(f"{TOP}/VERSION").strip()
+
+
 def crates_in(top, lines="crates.txt"):
     """Returns the crates that a file of top lists, in its order, by name."""
     rows = (row.split("#")[0].strip() for row in read_text(f"{top}/{lines}").splitlines())
