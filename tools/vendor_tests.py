@@ -75,8 +75,9 @@ class Taking(InAFolder):
         shutil.rmtree(f"{self.room}/library", ignore_errors=True)
         write(f"{self.room}/library", texts)
         os.mkdir(f"{self.room}/library/tools")
-        for tool in ("vendor", "copies.py", "repository.py", "prove"):
-            shutil.copy(f"{TOP}/tools/{tool}", f"{self.room}/library/tools")
+        for tool in files_of(f"{TOP}/tools"):
+            if not tool.startswith("__pycache__"):
+                shutil.copy(f"{TOP}/tools/{tool}", f"{self.room}/library/tools")
 
     def vendor(self, *words, status=0):
         """Runs the tool, which has to end so; returns what it says."""
