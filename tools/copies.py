@@ -142,10 +142,11 @@ class Copy:
         texts = {it: change.wanted[it] for it in [*change.missing, *change.replaced] if not it.startswith(LINE)}
         lists = {LINES: change.lines(self.text_of(LINES)), ".gitignore": self.ignored()}
         texts |= {it: text.encode() for it, text in lists.items() if text != self.text_of(it)}
+        room = f"{self.folder}/{ROOM}"
+        # (a run that was killed left it)
+        shutil.rmtree(room, ignore_errors=True)
         if not (texts or change.removed) and self.text_of(RECORD) == record:
             return
-        room = f"{self.folder}/{ROOM}"
-        shutil.rmtree(room, ignore_errors=True)
         try:
             lay_out(room, {**texts, RECORD: record.encode(), f"{RECORD}.both": self.joined(record).encode()})
             for place in {os.path.dirname(f"{self.folder}/{it}") for it in [RECORD, *texts]}:

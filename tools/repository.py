@@ -143,11 +143,17 @@ def hand_on(name, place, to):
         os.rename(f"{there}.part", there)
 
 
+def lay_sources(copy):
+    """Copies the crates, but for their wrong bodies."""
+    shutil.copytree(f"{TOP}/crates", f"{copy}/crates", ignore=shutil.ignore_patterns("out", "must-fail"))
+    for file in ("crates.txt", "HANDLES"):
+        if os.path.isfile(f"{TOP}/{file}"):
+            shutil.copy(f"{TOP}/{file}", copy)
+
+
 def lay_crates(copy):
     """Copies the crates, but for their wrong bodies, with what is built of them."""
-    shutil.copytree(f"{TOP}/crates", f"{copy}/crates", ignore=shutil.ignore_patterns("out", "must-fail"))
-    for name in ("crates.txt", "HANDLES"):
-        shutil.copy(f"{TOP}/{name}", copy)
+    lay_sources(copy)
     for name in os.listdir(f"{TOP}/crates"):
         hand_on(name, TOP, copy)
 

@@ -104,6 +104,7 @@ class Taking(InAFolder):
     def test_a_second_run_does_nothing(self):
         self.vendor(self.folder)
         times = {it: os.stat(f"{self.folder}/{it}").st_mtime_ns for it in files_of(self.folder)}
+        write(self.folder, {f"{ROOM}/left": "by a run that was killed at its end"})
         for words in ([], ["--update"]):
             self.assertIn(": 0 files and lines copied, 0 replaced, 0 removed\n", self.vendor(self.folder, *words))
         self.assertEqual({it: os.stat(f"{self.folder}/{it}").st_mtime_ns for it in files_of(self.folder)}, times)
