@@ -1,13 +1,10 @@
 /* What tools/refuse-memory links into a checked build, whose calls of these names go to `__interceptor_NAME` where that is defined.
 
-   Without FAULT in its environment a program copies itself to KEPT, where it can be run apart, and ends. FAULT is `KIND:N:FD`: of the
-   program's own requests for memory, or of its reads and writes of the standard streams, the Nth goes wrong, and FD is told a byte. */
+   FAULT in its environment is `KIND:N:FD`: of the program's own requests for memory, or of its reads and writes of the standard streams, the Nth
+   goes wrong, and FD is told a byte. Without FAULT nothing goes wrong. */
 #include <errno.h>
-#include <fcntl.h>
 #include <stdio.h>
 #include <stdlib.h>
-#include <sys/sendfile.h>
-#include <sys/stat.h>
 #include <unistd.h>
 
 void *___interceptor_malloc(size_t size);
@@ -58,22 +55,8 @@ ssize_t __interceptor_write(int to, const void *from, size_t bytes) {
   return most < 0 ? most : ___interceptor_write(to, from, most);
 }
 
-static int copy(const char *name) {
-  struct stat whole;
-  off_t done = 0;
-  int from = open(name, O_RDONLY), to = open(KEPT, O_WRONLY | O_CREAT | O_EXCL, 0700);
-  if (from < 0 || to < 0 || fstat(from, &whole))
-    return 1;
-  while (done < whole.st_size)
-    if (sendfile(to, from, &done, whole.st_size - done) <= 0)
-      return 1;
-  return 0;
-}
-
-__attribute__((constructor)) static void begin(int count, char **words) {
+__attribute__((constructor)) static void begin(void) {
   const char *fault = getenv("FAULT");
-  if (!fault)
-    _exit(copy(words[0]));
-  if (sscanf(fault, "%15[a-z]:%ld:%d", kind, &left, &told) != 3)
+  if (fault && sscanf(fault, "%15[a-z]:%ld:%d", kind, &left, &told) != 3)
     _exit(3);
 }

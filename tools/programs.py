@@ -5,17 +5,15 @@ It is kept by the sum of what it was made from, so that tools that run beside on
 import contextlib
 import fcntl
 import hashlib
-import json
 import os
 import re
-import shlex
-import shutil
 import subprocess
 import tempfile
 import time
 from concurrent.futures import ThreadPoolExecutor
 
 import examples
+from compiled import KEEP, NotBuilt, compile_at
 from repository import PARTS, TESTS, TEST_LINES, TOP, Crate, crates_in, in_cache, lay_beside, lay_crates, lay_texts, stop, sum_of_crates, sum_of_folder
 
 FAULTS = f"{TOP}/tools/faults.c"
@@ -29,10 +27,6 @@ BESIDE = {
 KEPT_FOR = 3 * 24 * 3600
 # How many seconds a program may run that nothing goes wrong in, on a busy machine.
 PATIENCE = 600
-
-
-class NotBuilt(Exception):
-    """A program was not built; says what the compiler said last."""
 
 
 def place():
@@ -60,25 +54,19 @@ def sum_of_program(name):
         found.update(sum_of_folder(f"{folder}/{part}"))
     if not folder:
         found.update("".join(examples.tests().values()).encode())
-    with open(FAULTS, "rb") as faults:
-        found.update(faults.read())
+    for file in (KEEP, FAULTS):
+        with open(file, "rb") as it:
+            found.update(it.read())
     return found.hexdigest()
 
 
 def try_at(at, made, has_tests=False):
-    """Compiles the crate in the folder with checks and with tools/faults.c; it leaves itself at `made`."""
-    os.mkdir(f"{at}/c")
-    shutil.copy(FAULTS, f"{at}/c")
-    name = os.path.basename(at)
-    environment = {**os.environ, "RT_ALLOW_C": name, "CFLAGS": f"-Wall -DKEPT={shlex.quote(json.dumps(made))}"}
-    words = ["rt", "try", *["--test"] * has_tests]
-    ran = subprocess.run(words, cwd=at, env=environment, stdin=subprocess.DEVNULL, capture_output=True, encoding="utf-8")
-    if not os.path.exists(made):
-        raise NotBuilt(f"{name} was not built:\n{(ran.stdout + ran.stderr)[-3000:]}")
+    """Compiles the crate in the folder with checks and with tools/faults.c; the program is left at `made`."""
+    compile_at(at, made, [FAULTS], has_tests)
 
 
 def compile_program(name, kept):
-    """Compiles a program in a copy of the working tree; it leaves itself where it is kept."""
+    """Compiles a program in a copy of the working tree, and leaves it where it is kept."""
     with tempfile.TemporaryDirectory(prefix=f"{name}-", dir=place()) as copy:
         lay_crates(copy)
         line, folder = line_and_folder(name)

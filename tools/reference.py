@@ -7,7 +7,7 @@ import pictures
 import properties
 from examples import CLAUSES, GHOST
 from legend import FIELDS, LEGEND, NAME, PHASES, WITH_MEANING, arguments, fields, legend, members, text_of, unexplained
-from repository import TOP, read_text
+from repository import FACADE, TOP, read_text, version
 from sources import LINKED, MODULES, Sources, called, first_sentence, head_of_impl, plain
 from vocabulary import PLAIN, WIDTH, bullet, cited, definitions, imported, libraries, table, wrapped
 
@@ -18,6 +18,7 @@ WRITES_BACK = re.compile(r"^ensures\* (\w+) .*record self\.old \{ (\w+) = (recor
 AFTERWARDS = re.compile(r"^ensures\* (\w+) .*\(Afterwards ", re.S)
 IMPL = re.compile(r"^impl\b(?P<types>[^{]*?)\s(?P<trait>\w+)(?:<[^{]*?>)?\s+for\s+(?P<type>\w+)", re.M)
 ALIAS = re.compile(r"type \w+(?:<.*?>)? = (?P<type>\w+)(?P<arguments><.*>)?")
+INDEX = "docs/api/README.md"
 TRAITS = "Traits"
 # The groups of a page, with where the code of their items stands; the longest path decides.
 GROUPS = {
@@ -499,8 +500,15 @@ class Reference:
         about = wrapped(ABOUT_MARKS)
         return "\n\n".join([*parts, *(["## Marks", about, *marks] if marks else [])]) + "\n"
 
+    def index(self):
+        """Returns the page that lists the others."""
+        told = {module: self.sources.source_of(module).text.splitlines()[0].removeprefix("//! ") for module in filter(self.sources.items_of, MODULES)}
+        rows = "\n".join(bullet(f"[`{called(module)}`]({module}.md): {says}") for module, says in told.items())
+        return f"# {FACADE} {version()}\n\nThe public items, each with its contract:\n\n{rows}\n"
+
     def pages(self):
         """Yields the path of each page and each picture, and its text."""
+        yield INDEX, self.index()
         for module in filter(self.sources.items_of, MODULES):
             yield f"docs/api/{module}.md", self.page(module)
         for picture in self.pictures.values():

@@ -85,6 +85,11 @@ def read_text(path):
         return file.read()
 
 
+def version():
+    """Returns the number of this version."""
+    return read_text(f"{TOP}/VERSION").strip()
+
+
 def crates_in(top, lines="crates.txt"):
     """Returns the crates that a file of top lists, in its order, by name."""
     rows = (row.split("#")[0].strip() for row in read_text(f"{top}/{lines}").splitlines())
@@ -138,11 +143,17 @@ def hand_on(name, place, to):
         os.rename(f"{there}.part", there)
 
 
+def lay_sources(copy):
+    """Copies the crates."""
+    shutil.copytree(f"{TOP}/crates", f"{copy}/crates", ignore=shutil.ignore_patterns("out"))
+    for file in ("crates.txt", "HANDLES"):
+        if os.path.isfile(f"{TOP}/{file}"):
+            shutil.copy(f"{TOP}/{file}", copy)
+
+
 def lay_crates(copy):
     """Copies the crates, with what is built of them."""
-    shutil.copytree(f"{TOP}/crates", f"{copy}/crates", ignore=shutil.ignore_patterns("out"))
-    for name in ("crates.txt", "HANDLES"):
-        shutil.copy(f"{TOP}/{name}", copy)
+    lay_sources(copy)
     for name in os.listdir(f"{TOP}/crates"):
         hand_on(name, TOP, copy)
 

@@ -1,0 +1,264 @@
+"""Tests of tools/vendor, with a made-up library and without `rt`. `tools/lists` runs them."""
+import itertools
+import os
+import shutil
+import subprocess
+import sys
+import tempfile
+import unittest
+
+from copies import LINES, ROOM, Change, Copy, as_thing, record_of
+from repository import BESIDE, FACADE, TOP, files_of, read_text
+from tool_tests import failures
+
+ABOVE = BESIDE[0]
+# The status of a process that was killed.
+KILLED = 9
+FIRST = {
+    "VERSION": "1.0.0\n",
+    "README.md": "[rules](docs/RULES.md), [code](crates/low/src/lib.rt)\n",
+    "docs/RULES.md": "[top](../README.md)\n",
+    **dict.fromkeys(("CHANGELOG.md", "LICENSE-APACHE", "LICENSE-MIT", "LICENSE-THIRD-PARTY"), "As it is.\n"),
+    LINES: f"low may_wait=1: std\nold: low\n{FACADE}: old low # what users list\n{ABOVE}: {FACADE}\nprogram: {ABOVE}\n",
+    "crates/low/src/lib.rt": "one\n",
+    "crates/low/src/stays.rt": "stays\n",
+    "crates/low/src/goes.rt": "goes\n",
+    "crates/low/proofs/Lib.antt": "proved\n",
+    "crates/low/stdout": "printed\n",
+    "crates/old/src/lib.rt": "old\n",
+    f"crates/{FACADE}/src/lib.rt": "facade\n",
+    f"crates/{ABOVE}/src/lib.rt": "frames\n",
+    "crates/program/src/main.rt": "program\n",
+}
+# A file and a crate more, one each that goes, and a file and lines that change.
+SECOND = {name: text for name, text in FIRST.items() if not name.startswith("crates/old/") and name != "crates/low/src/goes.rt"} | {
+    "VERSION": "1.1.0\n",
+    LINES: f"low may_wait=2: std\nnew: low\n{FACADE}: new low # what users list\n{ABOVE}: {FACADE}\n",
+    "crates/low/src/lib.rt": "two\n",
+    "crates/low/src/comes.rt": "comes\n",
+    "crates/new/src/lib.rt": "new\n",
+}
+
+
+def write(top, texts):
+    for file, text in texts.items():
+        os.makedirs(os.path.dirname(f"{top}/{file}"), exist_ok=True)
+        with open(f"{top}/{file}", "w", encoding="utf-8") as to:
+            to.write(text)
+
+
+def read(top):
+    """Returns the texts below a folder, but for what a run that was killed laid out there."""
+    return {file: read_text(f"{top}/{file}") for file in files_of(top) if not file.startswith(f"{ROOM}/")}
+
+
+class InAFolder(unittest.TestCase):
+    def setUp(self):
+        room = tempfile.TemporaryDirectory(prefix="vendor-tests-")
+        self.addCleanup(room.cleanup)
+        self.room = os.path.realpath(room.name)
+        self.folder = f"{self.room}/other"
+        os.mkdir(self.folder)
+
+
+class Taking(InAFolder):
+    """The tool as a program, of a library that has one version and then another."""
+
+    def setUp(self):
+        super().setUp()
+        self.be(FIRST)
+        write(self.room, {"bin/rt": "#!/bin/sh\necho made-up\n"})
+        os.chmod(f"{self.room}/bin/rt", 0o700)
+
+    def be(self, texts):
+        """Makes the library have these texts."""
+        shutil.rmtree(f"{self.room}/library", ignore_errors=True)
+        write(f"{self.room}/library", texts)
+        os.mkdir(f"{self.room}/library/tools")
+        for tool in files_of(f"{TOP}/tools"):
+            if not tool.startswith("__pycache__"):
+                shutil.copy(f"{TOP}/tools/{tool}", f"{self.room}/library/tools")
+
+    def vendor(self, *words, status=0):
+        """Runs the tool, which has to end so; returns what it says."""
+        around = {"PATH": f"{self.room}/bin", "PYTHONDONTWRITEBYTECODE": "1"}
+        words = [sys.executable, f"{self.room}/library/tools/vendor", *words]
+        ran = subprocess.run(words, env=around, capture_output=True, encoding="utf-8")
+        self.assertEqual(ran.returncode, status, ran.stderr)
+        return ran.stdout + ran.stderr
+
+    def test_a_copy_has_what_proofs_read_and_says_which_version_it_is(self):
+        self.assertEqual(self.vendor("--version"), "1.0.0\n")
+        write(self.folder, {LINES: "mine:\n", ".gitignore": "mine", "crates/mine/src/lib.rt": "mine\n"})
+        self.assertIn("has version 1.0.0: ", self.vendor(self.folder))
+        there = read(self.folder)
+        wanted = {it: FIRST[it] for it in FIRST if it.startswith("crates/") and it not in ("crates/low/stdout", "crates/program/src/main.rt")}
+        self.assertLessEqual(wanted.items(), there.items())
+        self.assertEqual({it.split("/")[1] for it in there if it.startswith("crates/")}, {"mine", "low", "old", FACADE, ABOVE})
+        self.assertEqual(there[".gitignore"], "mine\n/crates/*/out/\n__pycache__/\n")
+        self.assertEqual(there[LINES].splitlines()[0::2], ["mine:", "low may_wait=1: std", f"{FACADE}: old low"])
+        self.assertTrue(there[f"crates/{FACADE}/README.md"].startswith(f"# {FACADE} 1.0.0\n"))
+        self.assertTrue(os.access(f"{self.folder}/tools/prove", os.X_OK))
+        self.assertFalse(any(it.startswith("docs/") for it in there))
+
+    def test_a_second_run_does_nothing(self):
+        self.vendor(self.folder)
+        times = {it: os.stat(f"{self.folder}/{it}").st_mtime_ns for it in files_of(self.folder)}
+        write(self.folder, {f"{ROOM}/left": "by a run that was killed at its end"})
+        for words in ([], ["--update"]):
+            self.assertIn(": 0 files and lines copied, 0 replaced, 0 removed\n", self.vendor(self.folder, *words))
+        self.assertEqual({it: os.stat(f"{self.folder}/{it}").st_mtime_ns for it in files_of(self.folder)}, times)
+
+    def test_an_update_leaves_what_a_first_copy_has_and_what_is_the_users(self):
+        write(self.folder, {LINES: "mine: # a comment\n", "crates/mine/src/lib.rt": "mine\n"})
+        self.vendor(self.folder)
+        write(self.folder, {"crates/old/out/built": "", "crates/low/out/built": ""})
+        write(self.folder, {LINES: read_text(f"{self.folder}/{LINES}").replace("std\n", "std # first\n").replace("old: low\n", "old: low # second\n")})
+        before = read(self.folder)
+        self.be(SECOND)
+        self.assertIn(f"{self.folder} has version 1.0.0; --update puts version 1.1.0 in its place", self.vendor(self.folder, status=2))
+        self.assertEqual(read(self.folder), before)
+        self.assertIn("has version 1.1.0, and had 1.0.0: ", self.vendor(self.folder, "--update"))
+        there = read(self.folder)
+        self.assertEqual(there.pop("crates/low/out/built"), "")
+        rows = there.pop(LINES).splitlines()
+        os.mkdir(f"{self.room}/fresh")
+        write(f"{self.room}/fresh", {"crates/mine/src/lib.rt": "mine\n"})
+        self.vendor(f"{self.room}/fresh")
+        fresh = read(f"{self.room}/fresh")
+        of_fresh = fresh.pop(LINES).replace("std\n", "std # first\n").splitlines()
+        self.assertEqual(sorted(rows), sorted(["mine: # a comment", "# second", *of_fresh]))
+        self.assertEqual(there, fresh)
+        self.assertFalse(os.path.exists(f"{self.folder}/crates/old"))
+
+    def test_a_change_of_the_user_stays(self):
+        self.vendor(self.folder)
+        self.be(SECOND)
+        write(self.folder, {"crates/low/src/lib.rt": "mine\n", "crates/low/src/mine.rt": "mine\n"})
+        before = read(self.folder)
+        told = self.vendor(self.folder, "--update", status=2)
+        self.assertTrue(told.endswith(": crates/low/src/lib.rt\n"), told)
+        self.assertEqual(read(self.folder), before)
+        # (what this version does not change is kept)
+        os.remove(f"{self.folder}/crates/low/src/lib.rt")
+        write(self.folder, {"crates/low/src/stays.rt": "mine\n"})
+        told = self.vendor(self.folder, "--update")
+        kept = [f"kept as you have it: crates/low/src/{it}.rt\n" for it in ("stays", "mine")]
+        self.assertIn("".join(kept), told)
+        there = read(self.folder)
+        self.assertEqual([there[f"crates/low/src/{it}.rt"] for it in ("lib", "mine", "stays", "comes")], ["two\n", "mine\n", "mine\n", "comes\n"])
+
+    def test_a_line_and_a_dropped_file_of_the_user_stay(self):
+        self.vendor(self.folder)
+        self.be(SECOND)
+        write(self.folder, {"crates/old/src/lib.rt": "mine\n", LINES: read_text(f"{self.folder}/{LINES}").replace("low may_wait=1", "low may_wait=7")})
+        before = read(self.folder)
+        self.assertTrue(self.vendor(self.folder, "--update", status=2).endswith(": crates.txt: low, crates/old/src/lib.rt\n"))
+        self.assertEqual(read(self.folder), before)
+
+    def test_a_crate_by_a_name_of_the_library_stays(self):
+        write(self.folder, {"crates/low/src/lib.rt": "one\n", "crates/low/src/mine.rt": "mine\n"})
+        before = read(self.folder)
+        self.assertTrue(self.vendor(self.folder, status=2).endswith(": crates/low\n"))
+        self.assertIn("no copy of the library", self.vendor(self.folder, "--update", status=2))
+        self.assertEqual(read(self.folder), before)
+
+    def test_the_facade_may_be_taken_alone_and_a_crate_beside_it_later(self):
+        self.vendor(self.folder, FACADE)
+        self.assertFalse(os.path.exists(f"{self.folder}/crates/{ABOVE}"))
+        self.be(SECOND)
+        self.vendor(self.folder, "--update")
+        self.assertFalse(os.path.exists(f"{self.folder}/crates/{ABOVE}"))
+        self.vendor(self.folder, ABOVE)
+        self.assertEqual(read(self.folder)[f"crates/{ABOVE}/src/lib.rt"], "frames\n")
+        self.assertIn("program is none of", self.vendor(self.folder, "program", status=2))
+
+    def test_pages_are_taken_and_updated_with_links_that_lead_somewhere(self):
+        self.vendor(self.folder, "--docs")
+        there = read(self.folder)
+        self.assertEqual(there[f"docs/{FACADE}/README.md"], "[rules](RULES.md), [code](../../crates/low/src/lib.rt)\n")
+        self.assertEqual(there[f"docs/{FACADE}/RULES.md"], "[top](README.md)\n")
+        self.be({**SECOND, "docs/RULES.md": "Other rules.\n"})
+        self.vendor(self.folder, "--update")
+        self.assertEqual(read(self.folder)[f"docs/{FACADE}/RULES.md"], "Other rules.\n")
+
+
+def things(texts):
+    """Returns what a copy of these texts has."""
+    lines = dict(as_thing(row.partition("#")[0]) for row in texts[LINES].splitlines())
+    return lines | {it: texts[it].encode() for it in texts if it.startswith("crates/")}
+
+
+def make(folder, texts):
+    """Makes the folder a copy of these texts."""
+    wanted, copy = things(texts), Copy(folder)
+    copy.make(Change(copy, wanted), record_of(texts["VERSION"].strip(), [FACADE], wanted))
+
+
+def status_of(steps, folder, texts):
+    """Makes the folder a copy of these texts in a process that ends before a move or a removal, behind so many of them. Returns its status."""
+    process = os.fork()
+    if process:
+        return os.waitstatus_to_exitcode(os.waitpid(process, 0)[1])
+    left = itertools.count(steps, -1)
+    try:
+        for name in ("replace", "remove"):
+            setattr(os, name, lambda *words, act=getattr(os, name): act(*words) if next(left) else os._exit(KILLED))
+        make(folder, texts)
+        os._exit(0)
+    finally:
+        os._exit(1)
+
+
+class Killed(InAFolder):
+    """The change of a copy, killed before each of its moves and removals."""
+
+    def setUp(self):
+        super().setUp()
+        write(self.folder, {"crates/mine/src/lib.rt": "mine\n"})
+
+    def killed(self, texts):
+        """Yields for each step of a run, from what the folder has to a copy of these texts, a folder in which it was killed before that step."""
+        for steps in itertools.count():
+            folder = f"{self.room}/{steps}"
+            shutil.copytree(self.folder, folder)
+            if (status := status_of(steps, folder, texts)) != KILLED:
+                self.assertEqual((status, steps > 7), (0, True))
+                return
+            if not steps:
+                self.assertEqual(read(folder), read(self.folder))
+            self.assertTrue(os.path.isdir(f"{folder}/{ROOM}"))
+            yield folder
+
+    def are_ended(self, texts):
+        """Tells that the next run ends each of the runs that were killed."""
+        folders = list(self.killed(texts))
+        make(self.folder, texts)
+        for folder in folders:
+            make(folder, texts)
+            self.assertEqual(read(folder), read(self.folder))
+            self.assertFalse(os.path.exists(f"{folder}/{ROOM}"))
+
+    def test_the_next_run_ends_a_first_copy(self):
+        self.are_ended(FIRST)
+
+    def test_the_next_run_ends_an_update(self):
+        make(self.folder, FIRST)
+        self.are_ended(SECOND)
+
+    def test_a_third_version_may_come_behind_it_and_a_text_of_the_user_is_found(self):
+        make(self.folder, FIRST)
+        changed, third = "crates/low/src/lib.rt", {**SECOND, "VERSION": "1.2.0", "crates/low/src/lib.rt": "three\n"}
+        for folder in self.killed(SECOND):
+            shutil.copytree(folder, f"{folder}-changed")
+            write(f"{folder}-changed", {changed: "mine\n"})
+            self.assertEqual(Change(Copy(f"{folder}-changed"), things(SECOND)).others, [changed])
+            make(folder, third)
+            there = Copy(folder).there(things({**FIRST, **third}))
+            self.assertEqual(there, things(third))
+
+
+def faults():
+    """Yields each test that fails."""
+    for case in (Taking, Killed):
+        yield from failures(case, "tools/vendor_tests.py")
