@@ -2,9 +2,8 @@
 import functools
 import os
 import re
-import subprocess
 
-from repository import TOP, crates_in, files_of, read_text, with_below
+from repository import TOP, crates_in, files_of, kit, read_text, with_below
 
 FUNCTION = re.compile(r"( *)(?:pub(?:\([^)]*\))? |final )*(?:const )?fn (\w+)")
 BLOCK = re.compile(r"(?:pub(?:\([^)]*\))? )?(?:impl\b|trait |struct .*\{$)")
@@ -15,12 +14,6 @@ PARAMETERS = re.compile(r"impl(<(?:[^<>]|<(?:[^<>]|<(?:[^<>]|<[^<>]*>)*>)*>)*>)?
 # What clauses without a name are called, and the promise of the model of a type, which each of its values keeps.
 UNNAMED = {"ensures": "returns", "requires": "requires"}
 INVARIANT = "invariant"
-
-
-@functools.cache
-def kit():
-    """Returns the folder of the toolchain."""
-    return os.path.dirname(subprocess.run(["rt", "doc"], stdout=subprocess.PIPE, encoding="utf-8").stdout.strip())
 
 
 class Contract:

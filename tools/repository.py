@@ -178,6 +178,12 @@ def lay_beside(copy, folder, line):
 
 
 @functools.cache
+def kit():
+    """Returns the folder of the toolchain."""
+    return os.path.dirname(subprocess.run(["rt", "doc"], stdout=subprocess.PIPE, encoding="utf-8").stdout.strip())
+
+
+@functools.cache
 def toolchain():
     """The line of the toolchain, as bytes."""
     return subprocess.run(["rt", "version"], capture_output=True).stdout
