@@ -44,7 +44,7 @@ pub fn read_hexadecimal(text: &[u8]) -> Option<usize>
 /// assert_eq!(rt; Hexadecimal::new(31).as_bytes(), b"1f".as_slice());
 /// assert_eq!(rt; Hexadecimal::new(0).as_bytes(), b"0".as_slice());
 /// ```
-#[derive(Debug)]
+#[derive(Debug, Drop)]
 pub struct Hexadecimal {
     digits: [u8; DIGITS],
     // Where the first one is.

@@ -1,4 +1,4 @@
-//! Tests of frames on a reader.
+//! Tests of frames on a reader, and of a server of frames.
 #![tactic(auto)]
 
 #[cfg(test)]

@@ -1,4 +1,4 @@
-//! Tests of sources and adapters, where a case of `cases/sources.txt` or `cases/adapters.txt` cannot say it.
+//! Tests of futures and streams, where a file of `cases/` cannot say it.
 #![tactic(auto)]
 
 #[cfg(test)]

@@ -1,8 +1,4 @@
-mod adapters;
-mod cycles;
-mod drops;
-mod examples;
-mod scarce;
-mod sources;
-mod text;
-mod waking;
+mod consuming;
+mod futures;
+mod merging;
+mod streams;

@@ -1,6 +1,0 @@
-//! Tests of what consumes a stream, where a case of `cases/consuming.txt` cannot say it: long streams, refused memory,
-//! collections of a caller's own, and the blocking stream.
-#![tactic(auto)]
-
-#[cfg(test)]
-mod tests;

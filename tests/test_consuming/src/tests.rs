@@ -1,4 +1,0 @@
-mod block;
-mod consume;
-mod examples;
-mod gather;

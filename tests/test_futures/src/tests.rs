@@ -1,6 +1,0 @@
-mod bell;
-mod counting;
-mod future;
-mod pendings;
-mod sleeping;
-mod waiting;

@@ -1,4 +1,0 @@
-mod lines;
-mod scan;
-mod texts;
-mod told;

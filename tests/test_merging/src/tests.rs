@@ -1,5 +1,0 @@
-mod always;
-mod collected;
-mod merge;
-mod waking;
-mod whole;

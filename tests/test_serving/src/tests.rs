@@ -1,2 +1,0 @@
-mod flushes;
-mod serving;

@@ -1,0 +1,9 @@
+//! Tests of sources and adapters, where a case of `cases/sources.txt` or `cases/adapters.txt` cannot say it.
+mod adapters;
+mod cycles;
+mod drops;
+mod examples;
+mod scarce;
+mod sources;
+mod text;
+mod waking;
