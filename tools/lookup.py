@@ -159,7 +159,8 @@ def entries_of_item(item, at, module=None, reach=0):
     path, headings = page(module) if module else ("", ())
     found = {"head": item.head, "says": first_sentence(item.says) if item.says else "", "comment": item.says, "contract": [*item.asks, *item.gives]}
     found["places"] = [f"{path}#{item.anchor}"] * (f"### {item.heading}" in headings) + [f"{item.path}:{item.line}"]
-    found["body"] = [it.strip() for it in item.variants if it.strip() and not it.strip().startswith("//")]
+    variants = [it.strip() for it in item.variants if it.strip() and not it.strip().startswith("//")]
+    found["body"] = [*(" ".join(it.split()) for it in (*item.asks, *item.gives)), *variants]
     declared, title = f"use Rattle.{'.'.join([crate, 'specs.declared', *inner, item.name])}", f"{at}::{item.title}"
     if item.kind in ("struct", "enum"):
         found["imports"] = [f"{declared}.{{{item.name}}}"]

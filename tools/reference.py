@@ -46,7 +46,7 @@ GROUPS = {
     "framed": {
         "Frames of a reader": ("framed",),
         "Codecs": ("framed/src/length_delimited.rt", "framed/src/line_delimited.rt", "framed/src/frame_error.rt", "framed/src/prompt_decoder.rt"),
-        "Parts of a codec": ("framed/src/delimiter.rt", "framed/src/head.rt"),
+        "Parts of a codec": ("framed/src/delimiter.rt", "framed/src/head.rt", "framed/src/hexadecimal.rt"),
         "Serving": ("framed/src/server.rt", "framed/src/service.rt", "framed/src/serve_error.rt"),
     },
     "laws": {

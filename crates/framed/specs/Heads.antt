@@ -3,8 +3,9 @@ use Rattle.std.specs.Prelude.{◌≡◌, ◌≢◌, ◌⊎◌, ◌≤◌, ◌<�
 use Rattle.std.specs.Prelude.{Option, Some, None, Result, Ok, Err, decimal, length, slice_index, take}
 use Rattle.std.specs.Char.{digit_value}
 use Rattle.std.specs.List.{All, Contains}
+use Rattle.std.specs.Option.{MatchOption}
 use Rattle.std.specs.Str.Parse.{AllDigits}
-use Rattle.std.proofs.Common.{ap, append_assoc, arith, inl, inr, length-append, refl, sym, ◌∙◌}
+use Rattle.std.proofs.Common.{Bor, ap, append_assoc, arith, inl, inr, length-append, refl, sym, ◌∙◌}
 use Rattle.std.proofs.lemmas.List.{take_at}
 use Rattle.std.proofs.lemmas.Fmt.{decimal_is_IsNumeral, length-decimal-le}
 use Rattle.std.proofs.lemmas.List.Elements.{All-cons, All-contains, All-nil, All-tail, Contains-append_right}
@@ -39,6 +40,10 @@ FindsDelimiter delimiter max xs TooFar =
 abbrev pub ReadsDecimal : List ℕ → Option ℕ → Type 0
 ReadsDecimal text (Some n) = (n < 2 ^ 64) × (text ≡ decimal n)
 ReadsDecimal text None = (n : ℕ) → n < 2 ^ 64 → text ≢ decimal n
+
+-- The head without the `\r` (13) that ends it, or none if it ends otherwise.
+abbrev pub StripsReturn : List ℕ → Option (Bor (List ℕ)) → Type 0
+StripsReturn head r = MatchOption r ((text : List ℕ) → head ≢ text ++ 13 ∷ []) (λ text. head ≡ text.now ++ 13 ∷ [])
 
 -- A numeral has no other byte than digits.
 pub digits_have_none : (base other : ℕ) (text : List ℕ) → base ≤ digit_value other → AllDigits base text → HasNo other text

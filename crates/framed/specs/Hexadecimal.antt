@@ -12,6 +12,7 @@ use Rattle.std.proofs.lemmas.Fmt.{digits_is_IsNumeral}
 use Rattle.std.proofs.lemmas.List.Elements.{All-cons, All-nil}
 use Rattle.std.proofs.lemmas.Str.{IsUtf8-from_ascii}
 use Rattle.std.proofs.lemmas.Str.Ascii.{IsAscii-from_all}
+use Rattle.framed.specs.Heads.{HasNo, digits_have_none}
 
 -- The number that a text is, in hexadecimal digits of either case.
 abbrev pub ReadsHexadecimal : List ℕ → Option ℕ → Type 0
@@ -25,6 +26,10 @@ hexadecimal n = digits 16 false n
 -- They say the number.
 pub hexadecimal_says : (n : ℕ) → n < 2 ^ 64 → IsNumeral 16 (hexadecimal n) × (digits_value 16 (hexadecimal n) ≡ n)
 hexadecimal_says n small = digits_is_IsNumeral 16 false (omega arith) (omega arith) n (omega (arith, small))
+
+-- They have no other byte than digits.
+pub hexadecimal_has_none : (other n : ℕ) → 16 ≤ digit_value other → n < 2 ^ 64 → HasNo other (hexadecimal n)
+hexadecimal_has_none other n no_digit small = digits_have_none 16 other (hexadecimal n) no_digit (hexadecimal_says n small).0.1
 
 -- The last digit of a number, and those before it.
 module _ (k n : ℕ) (behind : List ℕ) where

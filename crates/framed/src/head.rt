@@ -1,5 +1,5 @@
 //! Parts of decoders for frames whose head says how many bytes follow.
-ghost use Rattle.framed.specs.Heads.{ReadsDecimal, TakesBody};
+ghost use Rattle.framed.specs.Heads.{ReadsDecimal, StripsReturn, TakesBody};
 
 use crate::frame_error::FrameError;
 use bytes::BytesMut;
@@ -29,6 +29,25 @@ pub fn read_decimal(text: &[u8]) -> Option<usize>
         Some(b'0') if text.len() > 1 => None,
         _ => str::from_utf8(text).ok()?.parse().ok(),
     }
+}
+
+/// Returns a head without the `\r` that ends it, or `None` if it does not end in `\r`.
+///
+/// It is for heads that end in `\r\n`: find the `\n` by [`find_delimiter`](crate::find_delimiter), and give this what
+/// stands before it.
+///
+/// # Examples
+///
+/// ```
+/// use framed::strip_return;
+///
+/// assert_eq!(rt; strip_return(b"1f\r"), Some(b"1f".as_slice()));
+/// assert_eq!(rt; strip_return(b"1f"), None);
+/// ```
+pub fn strip_return(head: &[u8]) -> Option<&[u8]>
+    ensures { StripsReturn head.now result }
+{
+    head.strip_suffix(b"\r")
 }
 
 /// Takes a frame's body: `start` bytes stand before it, it has `length` bytes, and behind it stands `tail`.

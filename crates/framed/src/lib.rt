@@ -25,7 +25,7 @@ pub use collect::collect_frames;
 pub use delimiter::{Delimiter, find_delimiter};
 pub use frame_error::FrameError;
 pub use framed_read::{FramedParts, FramedRead};
-pub use head::{read_decimal, take_body};
+pub use head::{read_decimal, strip_return, take_body};
 pub use hexadecimal::{Hexadecimal, read_hexadecimal};
 pub use length_delimited::LengthDelimited;
 pub use line_delimited::LineDelimited;

@@ -1,6 +1,7 @@
 use bytes::BytesMut;
 use framed::{
-    Delimiter, FrameError, Hexadecimal, find_delimiter, read_decimal, read_hexadecimal, take_body,
+    Delimiter, FrameError, Hexadecimal, find_delimiter, read_decimal, read_hexadecimal,
+    strip_return, take_body,
 };
 use std::alloc::AllocError;
 use std::test::Fail;
@@ -19,6 +20,15 @@ fn a_delimiter_is_found_up_to_the_limit_alone(rt: HostRuntime) {
         find_delimiter(b"abc", b':', usize::MAX),
         Delimiter::Missing
     );
+}
+
+#[test]
+fn one_return_is_taken_off(rt: HostRuntime) {
+    assert_eq!(rt; strip_return(b"1\r\r"), Some(b"1\r".as_slice()));
+    assert_eq!(rt; strip_return(b"\r"), Some(b"".as_slice()));
+    for head in [b"".as_slice(), b"\r1", b"1\n", b"1\r\n"] {
+        assert_eq!(rt; strip_return(head), None);
+    }
 }
 
 #[test]
