@@ -42,8 +42,9 @@ pub use lite_stream::Or;
         "futures_lite",
         "future.rt",
         """//! Futures.
-pub use lite_base::{Or, Other};
-pub use lite_base::make::or;
+pub use lite_base::future::either::{Or, Other};
+pub use lite_base::future::make::or;
+pub use lite_base::stray;
 """,
     ),
     ("lite_stream", "lib.rt", "mod or;\npub use or::Or;\npub mod count;\npub mod make;\n"),
@@ -106,7 +107,8 @@ where
         "count.rt",
         """/// A future of what a folder makes of a stream.
 pub struct Consume<S, F> {
-    stream: S,
+    /// The stream that is polled.
+    pub stream: S,
     folder: F,
 }
 
@@ -126,11 +128,12 @@ pub fn count<S: Stream<Item = S::Item>>(stream: S) -> CountFuture<S>
 }
 """,
     ),
-    ("lite_base", "lib.rt", "mod other;\npub mod make;\npub use other::{Or, Other};\n"),
-    ("lite_base", "other.rt", OTHER),
+    ("lite_base", "lib.rt", "pub mod future;\npub use future::either::Other;\n/// Is in no group.\npub fn stray() -> u8 {\n}\n"),
+    ("lite_base", "future.rt", "pub mod either;\npub mod make;\npub use either::Or;\n"),
+    ("lite_base", "future/either.rt", OTHER),
     (
         "lite_base",
-        "make.rt",
+        "future/make.rt",
         """use super::Or;
 /// Returns a future of either.
 ///
@@ -157,7 +160,7 @@ class TwoModules(unittest.TestCase):
     def test_an_item_is_told_by_its_own_source(self):
         self.assertIn("The stream of both.", self.entry("stream", "struct `Or`"))
         self.assertIn("The future of either.", self.entry("future", "struct `Or`"))
-        self.assertIn("crates/lite_base/src/make.rt", self.entry("future", "fn `or`"))
+        self.assertIn("crates/lite_base/src/future/make.rt", self.entry("future", "fn `or`"))
         self.assertNotIn("let _ =", self.entry("stream", "fn `or`"))
 
     def test_a_method_is_of_the_type_of_its_module(self):
@@ -178,6 +181,15 @@ class TwoModules(unittest.TestCase):
 
     def test_a_type_names_the_fields_that_contracts_name(self):
         self.assertIn("Fields that contracts name: `first: S`.", self.entry("stream", "struct `Or`"))
+
+    def test_the_public_fields_of_a_struct_are_shown(self):
+        told = self.entry("stream", "struct `Consume`")
+        self.assertIn("struct Consume<S, F> {\n    /// The stream that is polled.\n    pub stream: S,\n    // some fields are private\n}\n", told)
+        self.assertIn("\nstruct Or<S, T>\n", self.entry("stream", "struct `Or`"))
+
+    def test_an_item_of_no_group_is_named(self):
+        told = [what for _, what in Reference(self.sources).faults() if "fits no group" in what]
+        self.assertEqual(told, ["`future::stray` fits no group of docs/api (GROUPS in tools/reference.py)"])
 
     def test_a_type_with_a_model_names_the_fields_of_the_model(self):
         self.assertIn("Fields that contracts name: `calls: ℕ`, `bytes: ℕ`, `made: List Note`. They are those of", self.entry("future", "struct `Or`"))

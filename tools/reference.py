@@ -8,11 +8,9 @@ import properties
 from examples import CLAUSES, GHOST
 from legend import FIELDS, LEGEND, NAME, PHASES, WITH_MEANING, arguments, fields, legend, members, text_of, unexplained
 from repository import FACADE, TOP, read_text, version
-from sources import LINKED, MODULES, Sources, called, first_sentence, head_of_impl, plain
+from sources import EXTENSIONS, LINKED, MAKERS, MODULES, Sources, called, first_sentence, head_of_impl, plain
 from vocabulary import PLAIN, WIDTH, bullet, cited, definitions, imported, libraries, table, wrapped
 
-# The sentence of a type's comment that says which calls return it.
-MAKERS = re.compile(r"(Returned|Made) by \[`[^.]*\.")
 # The clause of a call that lends what it has: the field that is lent, and what `self` is after that.
 WRITES_BACK = re.compile(r"^ensures\* (\w+) .*record self\.old \{ (\w+) = (record)?", re.S)
 AFTERWARDS = re.compile(r"^ensures\* (\w+) .*\(Afterwards ", re.S)
@@ -20,12 +18,19 @@ IMPL = re.compile(r"^impl\b(?P<types>[^{]*?)\s(?P<trait>\w+)(?:<[^{]*?>)?\s+for\
 ALIAS = re.compile(r"type \w+(?:<.*?>)? = (?P<type>\w+)(?P<arguments><.*>)?")
 INDEX = "docs/api/README.md"
 TRAITS = "Traits"
-# The groups of a page, with where the code of their items stands; the longest path decides.
+# The groups of a page, with where the code of their items stands, or the item in a file; the longest path decides.
 GROUPS = {
     "future": {
-        "Waiting on this thread": ("lite_base/src/future/block_on.rt", "lite_base/src/future/waits.rt"),
-        "Making a future": ("lite_base/src/future",),
-        "Combining futures": tuple(f"lite_base/src/future/{it}.rt" for it in ("or", "race", "zip", "try_zip")),
+        "Waiting on this thread": (
+            "futures_lite/src/future.rt block_on",
+            "futures_lite/src/future.rt wait_for",
+            "lite_base/src/future/block_on.rt",
+            "lite_base/src/future/waits.rt",
+        ),
+        "Making a future": tuple(f"lite_base/src/future/{it}.rt" for it in ("pending", "poll_fn", "ready", "yield_now")),
+        "Combining futures": tuple(
+            f"lite_base/src/future/{it}.rt" for it in ("budgeted", "either", "fuse", "or", "poll_once", "race", "zip", "try_zip")
+        ),
     },
     "stream": {
         "Sources": ("lite_source",),
@@ -44,9 +49,9 @@ GROUPS = {
         "Halves and journals": ("lite_halves",),
     },
     "framed": {
-        "Frames of a reader": ("framed",),
-        "Codecs": ("framed/src/length_delimited.rt", "framed/src/line_delimited.rt", "framed/src/frame_error.rt", "framed/src/prompt_decoder.rt"),
-        "Parts of a codec": ("framed/src/delimiter.rt", "framed/src/head.rt"),
+        "Frames of a reader": tuple(f"framed/src/{it}.rt" for it in ("collect", "framed_read", "next_frame", "send", "send_all")),
+        "Codecs": ("framed/src/length_delimited.rt", "framed/src/line_delimited.rt", "framed/src/frame_error.rt"),
+        "Parts of a codec": tuple(f"framed/src/{it}.rt" for it in ("delimiter", "head", "hexadecimal")),
         "Serving": ("framed/src/server.rt", "framed/src/service.rt", "framed/src/serve_error.rt"),
     },
     "laws": {
@@ -55,7 +60,6 @@ GROUPS = {
         "Laws as calls": ("lite_base", "lite_bridge", "lite_buffered", "lite_io_base"),
     },
 }
-EXTENSIONS = ("StreamExt", "FutureExt", "AsyncReadExt", "AsyncBufReadExt", "AsyncWriteExt", "AsyncSeekExt")
 # What the comment over a definition begins with that says nothing to a reader of a contract.
 FOR_THE_PROVER = "Always true."
 ABOUT_EXAMPLES = (
@@ -136,24 +140,17 @@ class Reference:
         """Returns where the ghost names of a source are from."""
         return imported(self.sources.by_path[path].text)
 
-    def made_by(self, item):
-        """Returns the item that a call's result is made of."""
-        source = self.sources.by_path[item.path]
-        found = re.search(r"\) -> (.*?)(?: where |$)", item.head)
-        named = (self.sources.resolve(source, name) for name in re.findall(r"\w+", found[1] if found else ""))
-        return next((it for it in named if it and it.kind not in ("trait", "fn")), None)
-
     def group(self, item, module):
-        """Returns the group of an item on its module's page."""
+        """Returns the group of an item on its module's page; None if it fits none."""
         is_of_any = (item.owner or item).name.endswith("Ext")
         if item.kind == "trait" or item.owner and item.owner.kind == "trait" and not is_of_any:
             return TRAITS
-        made = self.made_by(item) if item.kind == "fn" and (not item.owner or is_of_any) else None
-        for at in filter(None, (made, item.owner, item)):
-            there = [(len(place), name) for name, places in GROUPS[module].items() for place in places if at.path.startswith(f"crates/{place}")]
+        for at in (self.sources.home(item, module), item):
+            place = f"{at.path} {at.name}".removeprefix("crates/")
+            there = [(len(start), name) for name, places in GROUPS[module].items() for start in places if place.startswith(start)]
             if there:
                 return max(there)[1]
-        return next(iter(GROUPS[module]))
+        return None
 
     def groups(self, module):
         """Returns the items of a module's page by their groups: calls before types, each type with its methods."""
@@ -224,6 +221,9 @@ class Reference:
                 for word, says in told.items():
                     if not says:
                         yield f"{item.path}:{item.line}", f"nothing explains the word {word} of the contract of `{module}::{title}`; {LEGEND} may"
+            for item in self.shown(module):
+                if not self.group(item, module):
+                    yield f"{item.path}:{item.line}", f"`{module}::{item.title}` fits no group of docs/api (GROUPS in tools/reference.py)"
             for item in filter(is_type, self.shown(module)):
                 for mark in self.marks_of(item):
                     if not self.heads.get((mark, self.based(item))):
@@ -272,7 +272,7 @@ class Reference:
     @functools.cache
     def makers(self, item, module):
         """Returns the calls on a page whose results are made of a type."""
-        return [it for it in self.shown(module) if it.kind == "fn" and it.owner is not item and self.made_by(it) is item]
+        return [it for it in self.shown(module) if it.kind == "fn" and it.owner is not item and self.sources.made_by(it) is item]
 
     def says_of(self, item, module):
         """Returns an item's comment; that of a type names each call on the page that returns it."""
@@ -357,7 +357,7 @@ class Reference:
 
     def about_result(self, item, module):
         """Yields what a page says of the type that a call returns, in the call's entry."""
-        made = self.made_by(item)
+        made = self.sources.made_by(item)
         if made and made.kind in ("struct", "type") and made is not item.owner and self.sources.items_of(module).get(made.name) is made:
             says = re.sub(r"(?:Returned|Made) by [^.]*\.\s?", "", made.says)
             yield laid_out(f"{linked(made, f'`{made.name}`')}: {self.with_links(says, made, module)}")

@@ -24,6 +24,12 @@ USE = re.compile(r"^(?P<public>pub )?use (?P<tree>[^;]*);", re.M | re.S)
 # The parameters of an impl, which may hold arguments of their own.
 PARAMETERS = re.compile(r"^<(?:[^<>]|<(?:[^<>]|<[^<>]*>)*>)*>")
 EXAMPLES = "# Examples"
+# What stands behind the public fields of a struct that has others.
+MORE_FIELDS = "    // some fields are private"
+# The traits that every stream, future, reader or writer has.
+EXTENSIONS = ("StreamExt", "FutureExt", "AsyncReadExt", "AsyncBufReadExt", "AsyncWriteExt", "AsyncSeekExt")
+# The sentence of a type's comment that says which calls return it.
+MAKERS = re.compile(r"(Returned|Made) by \[`[^.]*\.")
 # A link in a comment.
 LINKED = re.compile(r"\[`([^`]*)`\](?:\(([^)]*)\))?")
 
@@ -42,9 +48,10 @@ class Item:
         made = re.search(r"(?:Made|Returned) by \[`(?:\w+::)*(\w+)`\]", self.says)
         self.made_by = made and made[1]
         self.asks, self.gives = ([it for it in clauses(said) if it.startswith(word)] for word in ("requires", "ensures"))
-        # The variants of an enum, or the ghost members of a trait, with their comments; of a method the head of the impl that it stands in, with its bounds.
+        # The variants of an enum, the public fields of a struct, or the ghost members of a trait, with their comments; of a method the head of the impl
+        # that it stands in, with its bounds.
         self.variants, self.impl = [], ""
-        # The fields of a struct, with their types.
+        # All fields of a struct, with their types.
         self.fields = {}
 
     @property
@@ -143,16 +150,25 @@ def field_in(line):
     return found and found.groups()
 
 
-def ghosts_in(lines):
-    """Returns the lines of the ghost members of a trait, each with its comment."""
+def with_comments(lines, is_shown):
+    """Returns the lines of a block that are shown, each with the comment over it."""
     found, comment = [], []
     for line in lines:
         comment = [*comment, line] if line.startswith("    ///") else comment
-        if line.startswith("    ghost ") and not line.startswith("    ghost use "):
+        if is_shown(line):
             found += [*comment, line]
         if not line.startswith("    ///"):
             comment = []
     return found
+
+
+def is_ghost(line):
+    """Tells whether a line of a trait declares a ghost member."""
+    return line.startswith("    ghost ") and not line.startswith("    ghost use ")
+
+
+def is_public_field(line):
+    return line.startswith("    pub ") and bool(field_in(line))
 
 
 def block_below(lines, at):
@@ -200,9 +216,12 @@ def items_in(path, lines):
                 if item.kind == "enum":
                     item.variants = block_below(lines, at)
                 if item.kind == "trait" and lines[at].endswith("{"):
-                    item.variants = ghosts_in(block_below(lines, at))
+                    item.variants = with_comments(block_below(lines, at), is_ghost)
                 if item.kind == "struct" and lines[at].endswith("{"):
                     item.fields = dict(filter(None, map(field_in, block_below(lines, at))))
+                    item.variants = with_comments(block_below(lines, at), is_public_field)
+                    if item.variants and len(item.fields) > sum(map(is_public_field, item.variants)):
+                        item.variants.append(MORE_FIELDS)
                 item.impl = impl if inner else ""
                 yield item, block if inner else None
             comment = []
@@ -277,3 +296,17 @@ class Sources:
         for it in found:
             it.module = module
         return {it.title: it for it in sorted(found, key=lambda it: (it.title.lower(), it.title))}
+
+    def made_by(self, item):
+        """Returns the item that a call's result is made of."""
+        source = self.by_path[item.path]
+        found = re.search(r"\) -> (.*?)(?: where |$)", item.head)
+        named = (self.resolve(source, name) for name in re.findall(r"\w+", found[1] if found else ""))
+        return next((it for it in named if it and it.kind not in ("trait", "fn")), None)
+
+    def home(self, item, module):
+        """Returns the item that another one of a module belongs to: the type that it returns, if that names its calls, or its type or trait."""
+        if item.owner and item.owner.name not in EXTENSIONS:
+            return item.owner
+        made = self.made_by(item) if item.kind == "fn" else None
+        return made if made and MAKERS.search(made.says) and self.items_of(module).get(made.name) is made else item
