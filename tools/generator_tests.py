@@ -201,10 +201,9 @@ class TwoModules(unittest.TestCase):
         self.assertIn("Field in this contract: `count: N` of `Count`.", self.entry("stream", "fn `count`"))
         self.assertNotIn("in this contract", self.entry("stream", "method `Or::or`"))
 
-    def test_a_mark_stands_with_the_bounds_of_its_impl(self):
+    def test_a_mark_stands_with_the_bounds_of_its_impl_in_the_entry_of_the_type(self):
         self.assertIn("must meet:\n\n- `Counted`: `impl<S: Counted, T> Counted for Or<S, T>`\n", self.entry("stream", "struct `Or`"))
-        told = " ".join(self.entry("future", "fn `or`").split())
-        self.assertIn("`CalmFuture`. It has it if its type arguments meet the bounds of the impl, in [its entry](#struct-or).", told)
+        self.assertIn("Type of the result, with its marks: [`Or`](#struct-or).", self.entry("future", "fn `or`"))
 
     def test_a_mark_of_the_tables_without_an_impl_is_named(self):
         told = [what for _, what in Reference(self.sources).faults()]

@@ -1,4 +1,4 @@
-"""The pages of docs/api: for each public item its signature, its comment, an example, its contract and a picture, by its module and its title."""
+"""The pages of docs/api: for each public item its signature, its comment, an example, its contract and a table of polls, by its module and its title."""
 import functools
 import re
 import textwrap
@@ -356,33 +356,27 @@ class Reference:
         return list(dict.fromkeys(found))
 
     def about_result(self, item, module):
-        """Yields what a page says of the type that a call returns, in the call's entry."""
+        """Yields a link from a call's entry to that of the type that it returns, which has the type's marks."""
         made = self.sources.made_by(item)
-        if made and made.kind in ("struct", "type") and made is not item.owner and self.sources.items_of(module).get(made.name) is made:
-            says = re.sub(r"(?:Returned|Made) by [^.]*\.\s?", "", made.says)
-            yield laid_out(f"{linked(made, f'`{made.name}`')}: {self.with_links(says, made, module)}")
-            yield from self.about_marks(made, module)
-        elif made and made is item.owner and module in self.pages_with(made):
-            yield f"Type of the result: {linked(made, f'`{made.name}`')}."
+        if made and made.kind in ("struct", "type") and module in self.pages_with(made):
+            marks = ", with its marks" if self.marks_of(made) and made is not item.owner else ""
+            yield f"Type of the result{marks}: {linked(made, f'`{made.name}`')}."
 
-    def about_marks(self, item, module, is_own=False):
-        """Yields which marks a type may have; in its own entry each with the impl."""
+    def about_marks(self, item, module):
+        """Yields which marks a type may have, each with the impl."""
         marks, base = self.marks_of(item), self.based(item)
         there = self.pages_with(base)
         if marks and there:
             section = f"{'' if module in there else f'{there[0]}.md'}#marks"
-            alias = "" if base is item else f" It is an alias of {self.link_from(module, base, f'`{base.name}`')}, whose entry has the impls."
             links = ", ".join(self.mark_link(it, module) for it in marks)
             heads = [(mark, head) for mark in marks for head in self.heads.get((mark, base), ())]
-            if "<" not in base.head:
-                yield wrapped(f"[Marks]({section}) of `{item.name}`: {links}.{alias}")
-            elif is_own and base is item and heads:
+            if base is not item:
+                yield wrapped(f"[Marks]({section}) of `{item.name}`: {links}, as {self.link_from(module, base, f'`{base.name}`')} has them, whose alias it is.")
+            elif "<" not in base.head:
+                yield wrapped(f"[Marks]({section}) of `{item.name}`: {links}.")
+            else:
                 yield f"[Marks]({section}) of `{item.name}`, each with its impl, whose bounds the type arguments must meet:"
                 yield "\n".join(f"- {self.mark_link(mark, module)}: `{head}`" for mark, head in heads)
-            else:
-                given = f"It has {'it' if len(marks) == 1 else 'each of them'} if its type arguments meet the bounds of the impl"
-                where = "" if alias else f", in {self.link_from(module, base, 'its entry')}"
-                yield wrapped(f"[Marks]({section}) of `{item.name}`: {links}. {given}{where}.{alias}")
 
     def about_fields(self, item, module):
         """Yields the fields of a type that contracts on the page name; of a type that has a model, the model's."""
@@ -463,10 +457,10 @@ class Reference:
         parts += self.about_types(item, module)
         parts += [laid_out(self.with_links(self.says_of(item, module), item, module))] if item.says else []
         parts += self.about_result(item, module) if item.kind == "fn" else self.about_fields(item, module)
-        parts += self.about_marks(item, module, is_own=True) if item.kind != "fn" else []
+        parts += self.about_marks(item, module) if item.kind != "fn" else []
         parts += [f"Example:\n\n{code([it], 'rust')}" for it in item.examples]
         picture = self.pictures.get(f"{module}::{item.title}")
-        parts += [f"Polled so (`P` is `Pending`, `E` the end of the stream):\n\n{code(picture.lines())}\n\nThe same [as a picture](../{picture.file})."] if picture else []
+        parts += [f"Polled so (`P` is `Pending`, `E` the end of the stream):\n\n{code(picture.lines())}"] if picture else []
         parts += [f"Contract:\n\n{code([*item.asks, *item.gives])}"] if item.asks or item.gives else []
         parts += [*self.about_borrows(item), *self.about_words(item, module)]
         words = [bullet(f"`{it.name}` ([{it.module}](../../{it.path})): {it.says}") for it in self.words_of(item)]
@@ -507,12 +501,10 @@ class Reference:
         return f"# {FACADE} {version()}\n\nThe public items, each with its contract:\n\n{rows}\n"
 
     def pages(self):
-        """Yields the path of each page and each picture, and its text."""
+        """Yields the path of each page, and its text."""
         yield INDEX, self.index()
         for module in filter(self.sources.items_of, MODULES):
             yield f"docs/api/{module}.md", self.page(module)
-        for picture in self.pictures.values():
-            yield f"docs/{picture.file}", picture.svg()
 
 
 def tables_of_marks():
