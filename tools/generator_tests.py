@@ -2,6 +2,7 @@
 import re
 import unittest
 
+import contracts
 import examples
 from reference import Reference
 from sources import Sources
@@ -149,6 +150,50 @@ pub fn or<F>(first: F) -> Or<F> {
 )
 
 
+# Clauses, each with how it is printed and what it says in words.
+CLAUSES = (
+    (
+        "ensures lists { OfItems Self.run self (λ xs. length xs < 2 ^ 64 → ListsAs (Takes Self.run) result (take n xs)) }",
+        "ensures lists { (xs : List _) → Lists Self.run self xs → length xs < 2 ^ 64 → ListsAs (Takes Self.run) result (take n xs) }",
+        "`lists`: If the items of this stream are `xs` and `xs` has fewer than 2^64 items, then the items of the result are `take n xs`.",
+    ),
+    (
+        "ensures value { (xs : List A) → Lists S.run other xs\n    → Seen {Y = B} other (Ok x)\n    × ValueIs {A = Unit {0}} S.runs result (last_or None xs) }",
+        "ensures value { (xs : List A) → Lists S.run other xs\n    → ValueIs {A = Unit {0}} S.runs result (last_or None xs) }",
+        "`value`: If the items of `other` are `xs`, then the value of the result is `last_or None xs`.",
+    ),
+    (
+        "ensures on { (x : A) → FoundBy (replicate (f n) x) self x\n    (GoesOn Self.run self x → Unruled result x) }",
+        "ensures on { (x : A) → GoesOn Self.run self x → Unruled result x }",
+        None,
+    ),
+    (
+        "ensures same { (filter test xs ≡ filter test xs) × ListsAs S.run result (filter test xs) × Unruled result }",
+        "ensures same { ListsAs S.run result (filter test xs) × Unruled result }",
+        None,
+    ),
+    (
+        "ensures left { WhenLeft E S.runs result (λ f. ⊤) (λ f v. (v ≡ slice_get xs n) × RestIs S.run f.stream.now (drop n xs)) }",
+        "ensures left { WhenLeft E S.runs result (λ f. ⊤) (λ f v. (v ≡ slice_get xs n) × RestIs S.run f.stream.now (drop n xs)) }",
+        "`left`: The value of the result is `slice_get xs n` and this stream is left with the items of `drop n xs` behind the first one, if there is one.",
+    ),
+    (
+        "ensures* after { sem 𝓛 (Afterwards Self.row self.entry (λ new. (new ≡ old) × Kept new)) }",
+        "ensures* after { Afterwards (λ new. (new ≡ old) × Kept new) }",
+        None,
+    ),
+    ("ensures* back { sem 𝓛 (Lends (the_row R.row) R.row self.entry result\n    (λ w. record self.old { inner = w })) }", "", None),
+)
+
+
+class Clauses(unittest.TestCase):
+    def test_what_guides_the_search_is_not_printed(self):
+        self.assertEqual([contracts.printed(clause) for clause, _, _ in CLAUSES], [it for _, it, _ in CLAUSES])
+
+    def test_a_clause_of_a_form_with_a_rule_has_a_sentence(self):
+        self.assertEqual([contracts.sentence(printed) for _, printed, _ in CLAUSES], [it for _, _, it in CLAUSES])
+
+
 class TwoModules(unittest.TestCase):
     def setUp(self):
         self.sources = Sources(TEXTS)
@@ -246,4 +291,5 @@ class TwoModules(unittest.TestCase):
 
 def faults():
     """Yields each test that fails."""
-    yield from failures(TwoModules, "tools/generator_tests.py")
+    for case in (Clauses, TwoModules):
+        yield from failures(case, "tools/generator_tests.py")

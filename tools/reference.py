@@ -5,6 +5,7 @@ import textwrap
 
 import pictures
 import properties
+from contracts import clauses_of, in_a_row, sentences
 from examples import CLAUSES, GHOST
 from legend import FIELDS, LEGEND, NAME, PHASES, WITH_MEANING, arguments, fields, legend, members, text_of, unexplained
 from repository import FACADE, TOP, read_text, version
@@ -101,6 +102,10 @@ ABOUT_CONTRACTS = "\n".join(
                 "`(x : A) → B` says that B holds for each `x` of the type A, and `(x : A) × B` that it holds for one. `_` stands for a type or a value"
                 " that is not named, and `{A = T}` says which type an argument of a definition is.",
                 "`[]`, `x ∷ xs` and `xs ++ ys` are lists, and `λ x. e` is a function. `p.0` and `p.1` are the parts of a pair.",
+                "What only guides the search for proofs is left out: words that are always true, as `Seen`, and where a search begins. The source has it. A"
+                " clause on what is written through a reference is a sentence below the contract.",
+                "A sentence under \"In words\" says what a clause says. In it, the items of a stream are those before its end, if it ends, and the value of a"
+                " future is what a wait for it returns, if it returns `Ok`.",
                 "`T.run` is a member of the type `T`, by a trait that it has. `F.FnMut` is the contract of the closures of the type `F`.",
                 "The words are explained below the contract, or under [Words of contracts](#words-of-contracts). A definition's comment names its"
                 " arguments as its own source does.",
@@ -212,25 +217,37 @@ class Reference:
         return table(["Word", "Meaning"], [[f"`{word}`", rows[word]] for word in sorted(rows, key=lambda it: (it.lower(), it)) if rows[word]])
 
     def faults(self):
+        """Yields each word of a contract that nothing explains, each explanation that is of no word, and what an entry or an index would lack."""
+        yield from self.faults_of_words()
+        for module in MODULES:
+            for item in self.shown(module):
+                for what in self.faults_of_item(item, module):
+                    yield f"{item.path}:{item.line}", what
+
+    def faults_of_words(self):
         """Yields each word of a contract that nothing explains, and each explanation that is of no word."""
         used = set()
         for module in MODULES:
             for title, item in self.sources.items_of(module).items():
                 told = {**{word: self.meaning(word, item) for word in self.unexplained(item)}, **dict(self.of_examples(item))}
-                used.update(word.removeprefix(".") for word in told)
+                # (tools/find tells also what a source has and no page)
+                used.update([*(word.removeprefix(".") for word in told), *re.findall(NAME, "\n".join(item.gives))])
                 for word, says in told.items():
                     if not says:
                         yield f"{item.path}:{item.line}", f"nothing explains the word {word} of the contract of `{module}::{title}`; {LEGEND} may"
-            for item in self.shown(module):
-                if not self.group(item, module):
-                    yield f"{item.path}:{item.line}", f"`{module}::{item.title}` fits no group of docs/api (GROUPS in tools/reference.py)"
-            for item in filter(is_type, self.shown(module)):
-                for mark in self.marks_of(item):
-                    if not self.heads.get((mark, self.based(item))):
-                        yield f"{item.path}:{item.line}", f"the impl of {mark} for `{module}::{item.name}` is not found"
         for word in legend():
             if word not in used:
                 yield LEGEND, f"no contract of docs/api has the word {word}"
+
+    def faults_of_item(self, item, module):
+        """Yields what an item's entry, or the index of a module, would lack."""
+        if not self.group(item, module):
+            yield f"`{module}::{item.title}` fits no group of docs/api (GROUPS in tools/reference.py)"
+        for mark in self.marks_of(item) if is_type(item) else ():
+            if not self.heads.get((mark, self.based(item))):
+                yield f"the impl of {mark} for `{module}::{item.name}` is not found"
+        if any("(Lends" in it and not WRITES_BACK.search(it) for it in item.gives):
+            yield f"docs/api does not say what is written through the result of `{module}::{item.title}`"
 
     def pages_with(self, item):
         """Returns the modules on whose pages an item has an entry."""
@@ -461,7 +478,9 @@ class Reference:
         parts += [f"Example:\n\n{code([it], 'rust')}" for it in item.examples]
         picture = self.pictures.get(f"{module}::{item.title}")
         parts += [f"Polled so (`P` is `Pending`, `E` the end of the stream):\n\n{code(picture.lines())}"] if picture else []
-        parts += [f"Contract:\n\n{code([*item.asks, *item.gives])}"] if item.asks or item.gives else []
+        if clauses := clauses_of(item):
+            parts += ["\n".join(["In words:\n", *map(bullet, sentences(item))])] if sentences(item) else []
+            parts += [f"Contract:\n\n{code(clauses)}"]
         parts += [*self.about_borrows(item), *self.about_words(item, module)]
         words = [bullet(f"`{it.name}` ([{it.module}](../../{it.path})): {it.says}") for it in self.words_of(item)]
         parts += ["\n".join(words)] if words else []
@@ -510,12 +529,6 @@ class Reference:
 def tables_of_marks():
     """Returns the tables of marks, each with its head, as cells."""
     return [properties.rows(kind) for kind in properties.PROPERTIES]
-
-
-def in_a_row(texts):
-    """Returns the texts with commas between them, and `and` before the last."""
-    *most, last = texts
-    return f"{', '.join(most)} and {last}" if most else last
 
 
 @functools.cache

@@ -3,6 +3,7 @@ import glob
 import os
 import re
 
+from contracts import printed
 from repository import TOP, read_text
 
 ENTRY = re.compile(r"^### (?P<kind>\w+) `(?P<title>[\w:]+)`\n(?P<text>.*?)(?=^###? |\Z)", re.M | re.S)
@@ -62,7 +63,7 @@ class Entry:
 
     def is_whole(self):
         """Tells whether the contract stands in the source, from the signature's end to the body or the next item."""
-        source, said = bare(self.code), bare(self.contract)
+        source, said = bare(printed(self.code)), bare(self.contract)
         at = source.find(said)
         return at > 0 and source[at + len(said)] in "{;" and not re.search(r"(?:requires|ensures)\w*\{[^{}]*\}$", source[:at])
 
