@@ -1,6 +1,7 @@
 """Tests of the generator of docs/api, over sources of their own. `tools/lists` runs them."""
 import re
 import unittest
+import unittest.mock
 
 import contracts
 import examples
@@ -200,7 +201,15 @@ class TwoModules(unittest.TestCase):
         self.pages = dict(Reference(self.sources).pages())
 
     def entry(self, module, heading):
-        return self.pages[f"docs/api/{module}.md"].partition(f"### {heading}\n")[2].partition("\n### ")[0]
+        pages = [text for file, text in self.pages.items() if file.startswith(f"docs/api/{module}/")]
+        found = [it.partition(f"\n## {heading}\n") for it in pages]
+        return "".join(it[2].partition("\n## ")[0] for it in found)
+
+    def headings(self, page):
+        return re.findall(r"^## (?!Words$)(.*)$", self.pages[page], re.M)
+
+    def words(self, page):
+        return " ".join(self.pages[page].partition("\n## Words\n")[2].split())
 
     def test_an_item_is_told_by_its_own_source(self):
         self.assertIn("The stream of both.", self.entry("stream", "struct `Or`"))
@@ -242,12 +251,12 @@ class TwoModules(unittest.TestCase):
     def test_an_alias_names_the_fields_that_contracts_name(self):
         self.assertIn("Fields that contracts name: `folder: Count<u8>`, `stream: S`, `count: N` of its `Count`.", self.entry("stream", "type `CountFuture`"))
 
-    def test_an_entry_names_the_fields_that_no_other_entry_names_or_that_the_table_explains_otherwise(self):
+    def test_an_entry_names_the_fields_that_no_entry_of_the_page_names(self):
         self.assertIn("Field in this contract: `count: N` of `Count`.", self.entry("stream", "fn `count`"))
         self.assertNotIn("in this contract", self.entry("stream", "method `Or::or`"))
 
     def test_a_mark_stands_with_the_bounds_of_its_impl_in_the_entry_of_the_type(self):
-        self.assertIn("must meet:\n\n- `Counted`: `impl<S: Counted, T> Counted for Or<S, T>`\n", self.entry("stream", "struct `Or`"))
+        self.assertIn("each with its impl:\n\n- `Counted`: `impl<S: Counted, T> Counted for Or<S, T>`\n", self.entry("stream", "struct `Or`"))
         self.assertIn("Type of the result, with its marks: [`Or`](#struct-or).", self.entry("future", "fn `or`"))
 
     def test_a_mark_of_the_tables_without_an_impl_is_named(self):
@@ -259,25 +268,41 @@ class TwoModules(unittest.TestCase):
         self.assertIn("Type of the result: [`Or`](#struct-or).", self.entry("stream", "method `Or::or`"))
 
     def test_a_link_leads_to_the_page_that_has_the_item(self):
-        self.assertIn("an [`or`](#fn-or). It needs no [`Other`](future.md#trait-other).", self.entry("stream", "method `Or::first`"))
-        self.assertIn("From other modules: [`future::Other`](future.md#trait-other).", self.entry("stream", "fn `or`"))
-        self.assertNotIn("From other modules", self.entry("future", "fn `or`"))
+        self.assertIn("an [`or`](#fn-or). It needs no [`Other`](../future/other.md#trait-other).", self.entry("stream", "method `Or::first`"))
+        self.assertIn("In the signature: [`future::Other`](../future/other.md#trait-other).", self.entry("stream", "fn `or`"))
+        self.assertNotIn("In the signature", self.entry("future", "fn `or`"))
 
-    def test_a_summary_is_a_sentence(self):
-        self.assertIn("- [`or`](#fn-or): Returns a stream of both: the items of each.\n", self.pages["docs/api/stream.md"])
+    def test_a_page_has_a_call_and_the_type_that_it_returns(self):
+        self.assertEqual(self.headings("docs/api/stream/or.md"), ["fn `or`", "fn `swap`", "struct `Or`", "method `Or::first`", "method `Or::or`"])
+        self.assertEqual(self.headings("docs/api/stream/count.md"), ["fn `count`", "type `CountFuture`"])
+        self.assertEqual(self.headings("docs/api/future/other.md"), ["trait `Other`"])
+
+    def test_each_method_of_a_type_with_many_has_a_page(self):
+        with unittest.mock.patch("sources.MANY", 2):
+            pages = dict(Reference(self.sources).pages())
+        self.assertIn("\n## method `Or::first`\n", pages["docs/api/stream/or_first.md"])
+        self.assertIn("\nMethods: [`first`](or_first.md#method-orfirst), [`or`](or_or.md#method-oror).\n", pages["docs/api/stream/or.md"])
+
+    def test_an_index_has_each_call_with_a_sentence_and_its_type(self):
+        told = self.pages["docs/api/stream/README.md"]
+        self.assertIn("- [`count`](count.md#fn-count): Returns a future of the number of items.\n- ", told.replace("\n\n", "\n"))
+        self.assertIn("- [`or`](or.md#fn-or): Returns a stream of both: the items of each.\n", told)
+        self.assertIn("- [`Or`](or.md#struct-or): The stream of both. With [`first`](or.md#method-orfirst) and [`or`](or.md#method-oror).\n", told)
+        self.assertIn("- Types of results: [`CountFuture`](count.md#type-countfuture).\n", told)
 
     def test_a_word_of_a_contract_that_nothing_explains_is_named(self):
         told = [what for _, what in Reference(self.sources).faults() if "`stream::Or::or`" in what]
         words = [re.search(r"the word \.?(\w+) ", it)[1] for it in told]
         self.assertEqual(words, ["Strange", "unheard", "unknown"])
 
-    def test_a_word_that_no_entry_explains_is_in_the_table(self):
-        told = self.pages["docs/api/stream.md"].partition("## Words of contracts")[2]
-        self.assertIn("| `IfOk` | `IfOk r (λ v. B)`:", told)
-        for word in ("length", "Self", "Item"):
-            self.assertIn(f"| `{word}` |", told)
-        for word in ("size", "first", "n", "it", "S"):
-            self.assertNotIn(f"| `{word}` |", told)
+    def test_a_word_that_no_entry_explains_is_below_the_entries(self):
+        told = self.words("docs/api/stream/or.md")
+        for word in ("IfOk", "length", "Self"):
+            self.assertIn(f"[`{word}`](../words/std.md#{word.lower()})", told)
+            self.assertIn(f"\n## `{word}`\n\n", self.pages["docs/api/words/std.md"])
+        for word in ("size", "first", "n", "it", "S", "Item"):
+            self.assertNotIn(f"[`{word}`]", told)
+        self.assertIn("[`Item`]", self.words("docs/api/stream/count.md"))
 
     def test_an_item_without_an_example_is_named(self):
         told = [what for _, what in examples.faults(self.sources)]

@@ -6,10 +6,16 @@ import re
 import textwrap
 
 from repository import BESIDE, FACADE, TOP, files_of, read_text
-from vocabulary import libraries
+from vocabulary import libraries, snake
 
 # The modules of the facade, and the crates beside it.
 MODULES = ("future", "stream", "io", "laws", *BESIDE)
+
+
+def relative(here, to, anchor=""):
+    """Returns how a link in a file names another file, or a heading of one; of the file itself the heading alone."""
+    file = "" if here == to else os.path.relpath(to, os.path.dirname(here))
+    return f"{file}#{anchor}" if anchor else file
 
 
 def called(module):
@@ -30,6 +36,8 @@ MORE_FIELDS = "    // some fields are private"
 EXTENSIONS = ("StreamExt", "FutureExt", "AsyncReadExt", "AsyncBufReadExt", "AsyncWriteExt", "AsyncSeekExt")
 # The sentence of a type's comment that says which calls return it.
 MAKERS = re.compile(r"(Returned|Made) by \[`[^.]*\.")
+# How many methods of a type are too many for one page of docs/api.
+MANY = 9
 # A link in a comment.
 LINKED = re.compile(r"\[`([^`]*)`\](?:\(([^)]*)\))?")
 
@@ -310,3 +318,18 @@ class Sources:
             return item.owner
         made = self.made_by(item) if item.kind == "fn" else None
         return made if made and MAKERS.search(made.says) and self.items_of(module).get(made.name) is made else item
+
+    def page_of(self, item, module):
+        """Returns the page of docs/api that has an item's entry: that of the call, of the type or of the trait that the item belongs to. Of a type with many
+        methods each has a page of its own."""
+        home = self.home(item, module)
+        if item.owner is home and len(self.methods[home]) >= MANY:
+            return f"docs/api/{module}/{snake(home.name)}_{item.name}.md"
+        name = snake(home.name)
+        short = name.removesuffix("_future")
+        is_of_call = any(it.kind == "fn" and it.name == short for it in self.items_of(module).values())
+        return f"docs/api/{module}/{short if is_of_call else name}.md"
+
+    def link_to(self, item, here, text):
+        """Returns a link from a file to the entry of an item of the module that was looked through last."""
+        return f"[{text}]({relative(here, self.page_of(item, item.module), item.anchor)})"
