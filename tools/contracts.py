@@ -10,7 +10,10 @@ OF_ITEMS, FOUND_BY, AFTERWARDS = re.compile(r"\bOfItems (\S+) (\S+) \(λ (\w+)\.
 WRITTEN_BACK = re.compile(r"\n?[ \t]*ensures\* \w+ \{ sem 𝓛 \(Lends[\s(]")
 CLAUSE = re.compile(r"(?P<kind>requires|ensures)\*? (?:(?P<name>[\w'-]+) )?\{(?P<body>.*)\}\s*$", re.S)
 BINDERS = re.compile(r"\((?P<names>[\w' ]+) : ")
-ONE_EACH = re.compile(r"\(\(x : [^)]*\) \((?P<it>\w+) : [^)]*\) \(g : \w+\) → Called \S+ (?P<f>\w+) \(x, tt\) (?P=it) g → \(g ≡ (?P=f)\)\s*× (?P<fact>.*)\)", re.S)
+# What each call of a closure with an item `x` returns, if it leaves the closure as it was.
+ONE_EACH = re.compile(
+    r"\(\(x : [^)]*\) \((?P<it>\w+) : [^)]*\) \(g : \w+\) → Called \S+ (?P<f>\w+) \(x, tt\) (?P=it) g → \(g ≡ (?P=f)\) × (?P<fact>.*)\)"
+)
 
 
 def closing(text, at):

@@ -159,7 +159,8 @@ CLAUSES = (
         "`lists`: If the items of this stream are `xs` and `xs` has fewer than 2^64 items, then the items of the result are `take n xs`.",
     ),
     (
-        "ensures value { (xs : List A) → Lists S.run other xs\n    → Seen {Y = B} other (Ok x)\n    × ValueIs {A = Unit {0}} S.runs result (last_or None xs) }",
+        "ensures value { (xs : List A) → Lists S.run other xs\n    → Seen {Y = B} other (Ok x)\n"
+        "    × ValueIs {A = Unit {0}} S.runs result (last_or None xs) }",
         "ensures value { (xs : List A) → Lists S.run other xs\n    → ValueIs {A = Unit {0}} S.runs result (last_or None xs) }",
         "`value`: If the items of `other` are `xs`, then the value of the result is `last_or None xs`.",
     ),
@@ -297,10 +298,10 @@ class TwoModules(unittest.TestCase):
 
     def test_a_word_that_no_entry_explains_is_below_the_entries(self):
         told = self.words("docs/api/stream/or.md")
-        for word in ("IfOk", "length", "Self"):
+        for word in ("IfOk", "length"):
             self.assertIn(f"[`{word}`](../words/std.md#{word.lower()})", told)
             self.assertIn(f"\n## `{word}`\n\n", self.pages["docs/api/words/std.md"])
-        for word in ("size", "first", "n", "it", "S", "Item"):
+        for word in ("size", "first", "n", "it", "S", "Item", "Self"):
             self.assertNotIn(f"[`{word}`]", told)
         self.assertIn("[`Item`]", self.words("docs/api/stream/count.md"))
 

@@ -13,7 +13,7 @@ from legend import FIELDS, LEGEND, NAME, PHASES, WITH_MEANING, arguments, fields
 from repository import FACADE, TOP, read_text, version
 from sources import EXTENSIONS, LINKED, MAKERS, MODULES, Sources, called, first_sentence, head_of_impl, plain, relative
 from vocabulary import PLAIN, WIDTH, Word, bullet, cited, definitions, imported, libraries, wrapped
-from words import WRITTEN, Words
+from words import STD, WRITTEN, Words
 
 # The clause of a call that lends what it has: the field that is lent, and what `self` is after that.
 WRITES_BACK = re.compile(r"^ensures\* (\w+) .*record self\.old \{ (\w+) = (record)?", re.S)
@@ -82,6 +82,8 @@ ABOUT_MARKS = (
     "A mark is a trait that states a property of a type. A type's entry has the impl of each of its marks, whose bounds the type's arguments must meet. The"
     " entry of a mark says what the mark means. [TABLES](../TABLES.md#which-marks-a-type-carries) says more, and has the rows of std's types."
 )
+# Words that stand in most contracts, so that no page lists them.
+IN_MOST = ("requires", "ensures", "result", "Self", "record", "entry", "old", "new", "now")
 # How a contract is read.
 ABOUT_CONTRACTS = "\n".join(
     map(
@@ -92,6 +94,7 @@ ABOUT_CONTRACTS = "\n".join(
             " that is not named, and `{A = T}` says which type an argument of a definition is.",
             "`[]`, `x ∷ xs` and `xs ++ ys` are lists, and `λ x. e` is a function. `p.0` and `p.1` are the parts of a pair.",
             "`T.run` is a member of the type `T`, by a trait that it has. `F.FnMut` is the contract of the closures of the type `F`.",
+            f"[These words]({relative(INDEX, STD)}) stand in most contracts: {', '.join(f'`{it}`' for it in IN_MOST)}.",
             "What only guides the search for proofs is left out: words that are always true, as `Seen`, and where a search begins. The source has it. A"
             " clause on what is written through a reference is a sentence below the contract.",
             "A sentence under \"In words\" says what a clause says. In it, the items of a stream are those before its end, if it ends, and the value of a"
@@ -232,7 +235,7 @@ class Reference:
         own = [it for name, it in told.items() if isinstance(it, Word) and name not in IN_WORDS]
         if own:
             yield "\n".join(bullet(f"{self.words.link(it, page.file)}: {first_sentence(it.says)}") for it in own)
-        if others := [self.words.link_from(page.file, name, it) for name, it in told.items() if it and it not in own]:
+        if others := [self.words.link_from(page.file, name, it) for name, it in told.items() if it and it not in own and name not in IN_MOST]:
             yield wrapped(f"{'Also ' if own else ''}{', '.join(others)}.")
 
     def faults(self):

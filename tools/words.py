@@ -78,8 +78,8 @@ class Words:
 
     def std(self):
         """Returns the page of the words that are no definitions of the library."""
-        names = sorted(self.others, key=lambda it: (it.lower(), it))
-        return "\n\n".join([WRITTEN.rstrip(), "# Words of std and of the language", ABOUT_STD, *(f"## `{it}`\n\n{wrapped(self.others[it])}" for it in names)]) + "\n"
+        told = [f"## `{it}`\n\n{wrapped(self.others[it])}" for it in sorted(self.others, key=lambda it: (it.lower(), it))]
+        return "\n\n".join([WRITTEN.rstrip(), "# Words of std and of the language", ABOUT_STD, *told]) + "\n"
 
     def index(self, files):
         """Returns the list of the pages."""
