@@ -38,9 +38,17 @@ USES = "Uses"
 USED = re.compile(r"use Rattle\.(?P<crate>\w+)\.specs\.(?P<module>[\w.]+)\.\{(?P<names>[^}]*)\}")
 
 
+# What stands in backquotes.
+QUOTED = re.compile(r"`[^`]*`")
+
+
 def wrapped(text, indent=""):
-    """Returns a paragraph, in lines that are not too long; the later ones begin with the indent."""
-    return "\n".join(textwrap.wrap(" ".join(text.split()), WIDTH, subsequent_indent=indent, break_long_words=False, break_on_hyphens=False))
+    """Returns a paragraph, in lines that are not too long; the later ones begin with the indent. No line ends within backquotes, if what is in them is
+    short enough."""
+    text = " ".join(text.split())
+    kept = QUOTED.sub(lambda it: it[0].replace(" ", "\0") if len(it[0]) < WIDTH // 2 else it[0], text)
+    lines = textwrap.wrap(kept, WIDTH, subsequent_indent=indent, break_long_words=False, break_on_hyphens=False)
+    return "\n".join(lines).replace("\0", " ")
 
 
 def bullet(text):
