@@ -5,9 +5,12 @@ import unittest.mock
 
 import contracts
 import examples
+import words
 from reference import Reference
 from sources import Sources
 from tool_tests import failures
+from vocabulary import Word
+from words import Words
 
 OTHER = """ghost use Rattle.lite_halves.specs.Counts.{HalfCounts};
 
@@ -283,6 +286,21 @@ class TwoModules(unittest.TestCase):
             pages = dict(Reference(self.sources).pages())
         self.assertIn("\n## method `Or::first`\n", pages["docs/api/stream/or_first.md"])
         self.assertIn("\nMethods: [`first`](or_first.md#method-orfirst), [`or`](or_or.md#method-oror).\n", pages["docs/api/stream/or.md"])
+
+    def test_the_index_of_modules_has_all_names(self):
+        told = self.pages["docs/api/README.md"].partition("\n## All names\n\n")[2]
+        for link in ("[`future::or`](future/or.md#fn-or)", "[`stream::or`](stream/or.md#fn-or)", "[`future::Or`](future/or.md#struct-or)"):
+            self.assertIn(link, told)
+        self.assertNotIn("Or::first", told)
+
+    def test_a_definition_stands_with_its_module_and_links_to_others(self):
+        told = " ".join(self.pages["docs/api/words/lite_views/Views.md"].partition("\n## `ListsAs`\n")[2].split())
+        self.assertTrue(told.startswith("(`Lists`) The items of `s` are `xs`, as [`Lists`](#lists) says it:"))
+
+    def test_words_that_differ_in_their_case_have_anchors_of_their_own(self):
+        every = {("lite_read", "Texts", it): Word(it, "lite_read", "Texts", "It says.") for it in ("Reading", "reading")}
+        pages = Words(every, every.values(), {})
+        self.assertEqual([pages.link(it, words.STD).partition("#")[2] for it in every.values()], ["reading)", "reading-1)"])
 
     def test_an_index_has_each_call_with_a_sentence_and_its_type(self):
         told = self.pages["docs/api/stream/README.md"]

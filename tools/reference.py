@@ -1,5 +1,6 @@
 """The pages of docs/api: for each public item its signature, its comment, an example, its contract and a table of polls, by its module and its title."""
 import functools
+import itertools
 import os
 import re
 import textwrap
@@ -548,7 +549,16 @@ class Reference:
         rows = [f"[`{called(module)}`]({relative(INDEX, index_of(module))}): {self.about(module)}" for module in filter(self.sources.items_of, MODULES)]
         rows.append(f"[Words of contracts]({relative(INDEX, words.INDEX)}): their definitions.")
         listed = "\n".join(map(bullet, rows))
-        return f"{WRITTEN}\n# {FACADE} {version()}\n\nThe public items, each with its contract, by their modules:\n\n{listed}\n\n{ABOUT}"
+        names = "\n\n".join(["## All names", *self.all_names()])
+        return f"{WRITTEN}\n# {FACADE} {version()}\n\nThe public items, each with its contract, by their modules:\n\n{listed}\n\n{ABOUT}\n{names}\n"
+
+    def all_names(self):
+        """Yields links to all calls, types and traits, but methods of types and of traits, in the order of their names: a paragraph for each letter."""
+        page = Page("", INDEX)
+        items = [(it, module) for module in MODULES for it in self.shown(module) if not it.owner or it.owner.name in EXTENSIONS]
+        items.sort(key=lambda it: (it[0].name.lower(), it[1], it[0].title))
+        for _, there in itertools.groupby(items, key=lambda it: it[0].name[0].lower()):
+            yield wrapped(", ".join(page.link(self.sources.page_of(it, module), f"`{module}::{it.title}`", it.anchor) for it, module in there))
 
     def pages(self):
         """Yields the path of each page, and its text."""
