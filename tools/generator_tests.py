@@ -133,6 +133,8 @@ pub fn count<S: Stream<Item = S::Item>>(stream: S) -> CountFuture<S>
 }
 """,
     ),
+    ("futures_lite", "laws.rt", "//! Laws.\npub use lite_theorems::collect_or;\n"),
+    ("lite_theorems", "lib.rt", "use lite_stream::Or;\n/// Collects.\npub fn collect_or<S, T>(both: Or<S, T>) -> usize {\n}\n"),
     ("lite_base", "lib.rt", "pub mod future;\npub use future::either::Other;\n/// Is in no group.\npub fn stray() -> u8 {\n}\n"),
     ("lite_base", "future.rt", "pub mod either;\npub mod make;\npub use either::Or;\n"),
     ("lite_base", "future/either.rt", OTHER),
@@ -270,6 +272,10 @@ class TwoModules(unittest.TestCase):
 
     def test_a_method_that_returns_its_own_type_has_a_link_to_it(self):
         self.assertIn("Type of the result: [`Or`](#struct-or).", self.entry("stream", "method `Or::or`"))
+
+    def test_a_type_has_links_to_the_laws_that_name_it(self):
+        self.assertIn("\nMore is proved by [`laws::collect_or`](../laws/collect_or.md#fn-collect_or).\n", self.entry("stream", "struct `Or`"))
+        self.assertNotIn("More is proved", self.entry("future", "struct `Or`"))
 
     def test_a_link_leads_to_the_page_that_has_the_item(self):
         self.assertIn("an [`or`](#fn-or). It needs no [`Other`](../future/other.md#trait-other).", self.entry("stream", "method `Or::first`"))

@@ -473,12 +473,23 @@ class Reference:
 
     def about_types(self, item, page):
         """Yields links to the types and the traits on other pages that an item's signature names, but the type of its result."""
-        source = self.sources.by_path[item.path]
-        found = filter(None, (self.sources.resolve(source, it) for it in dict.fromkeys(re.findall(r"[A-Z]\w*", f"{item.head} {item.impl}"))))
-        others = [it for it in found if it not in page.items and it is not self.sources.made_by(item) and self.pages_with(it)]
+        others = [it for it in self.named_by(item) if it not in page.items and it is not self.sources.made_by(item) and self.pages_with(it)]
         links = [self.link_from(page, it, f"`{'' if page.module in self.pages_with(it) else f'{self.pages_with(it)[0]}::'}{it.title}`") for it in others]
         if links:
             yield wrapped(f"In the signature: {', '.join(links)}.")
+
+    def about_laws(self, item, page):
+        """Yields links from a type to the calls of `laws` whose signatures name it: their contracts say more of it."""
+        found = [it for it in self.shown("laws") if it.kind == "fn" and it not in page.items and item in self.named_by(it)]
+        if is_type(item) and found:
+            yield wrapped(f"More is proved by {in_a_row([self.link_from(page, it, f'`laws::{it.title}`') for it in found])}.")
+
+    @functools.cache
+    def named_by(self, item):
+        """Returns the items that a signature names."""
+        source = self.sources.by_path[item.path]
+        found = (self.sources.resolve(source, it) for it in dict.fromkeys(re.findall(r"[A-Z]\w*", f"{item.head} {item.impl}")))
+        return [it for it in found if it]
 
     def about_borrows(self, item):
         """Yields what the clauses of an item on a borrow in its result say, in words."""
@@ -497,7 +508,7 @@ class Reference:
         parts += self.about_types(item, page)
         parts += [laid_out(self.with_links(self.says_of(item, page.module), item, page))] if item.says else []
         parts += self.about_result(item, page) if item.kind == "fn" else self.about_fields(item, page)
-        parts += self.about_marks(item, page) if item.kind != "fn" else []
+        parts += [*self.about_marks(item, page), *self.about_laws(item, page)] if item.kind != "fn" else []
         others = [self.link_from(page, it, f"`{it.name}`") for it in self.parts_of(item, page.module) if it not in page.items]
         parts += [wrapped(f"Methods: {', '.join(others)}.")] if others else []
         parts += [f"Example:\n\n{code([it], 'rust')}" for it in item.examples]
