@@ -88,9 +88,18 @@ def clauses_of(item):
     return [it for it in map(printed, [*item.asks, *item.gives]) if it.strip()]
 
 
+# How a sentence names what a method is called on, by the trait of the method; in the rules it is OWN.
+OWN, OWN_OF = "\0", {
+    "FutureExt": "this future",
+    "AsyncReadExt": "this reader",
+    "AsyncBufReadExt": "this reader",
+    "AsyncWriteExt": "this writer",
+}
+
+
 def named(value):
-    """Returns how a sentence names a stream or a future."""
-    return {"self": "this stream", "self.old": "this stream", "self.entry": "this stream", "result": "the result"}.get(value, f"`{value}`")
+    """Returns how a sentence names a stream, a future, a reader or a writer."""
+    return {"self": OWN, "self.old": OWN, "self.entry": OWN, "result": "the result"}.get(value, f"`{value}`")
 
 
 def arguments(text):
@@ -119,12 +128,27 @@ PREMISES = {
     ("NeverReady", 2): lambda run, s: f"every poll of {named(s)} returns `Pending`",
     ("AtOnce", 3): lambda run, s, v: f"the first poll of {named(s)} returns {shown(v)}",
     ("GoesOn", 3): lambda run, s, x: f"{named(s)} yields {shown(x)} over and over",
+    ("Knows", 3): lambda reads, known, x: f"it is known that {named(x)} will give `bytes`",
+    ("Stores", 3): lambda writes, stored, x: f"it is known that {named(x)} keeps `kept`",
     ("HasValue", 3): lambda run, f, v: f"the value of {named(f)} is {shown(v)}",
 }
+# The bytes of which these premises say what they are, by the names that sentences have for them.
+BYTES = ((re.compile(r"\bKnows \S+ (\S+) (\S+) →"), "left", "bytes"), (re.compile(r"\bStores \S+ (\S+) (\S+) →"), "kept", "kept"))
+# What a part of the conclusion says that is about a future's value `Ok` and what the future left, by the side of an equality before `≡`.
+LEFT_BY_OK = (
+    (r"f\.(\w+)\.now", "`{0}` is"),
+    (r"f\.(\w+)\.now\.items", "the items of `{0}` are"),
+    (r"string_bytes f\.(\w+)\.now", "the bytes of `{0}` are"),
+    (r"\w+\.known\.left f\.(\w+)\.now", "the {0} will still give"),
+    (r"\w+\.stored\.kept f\.(\w+)\.now", "the {0} keeps"),
+    (r"n", "the value in the `Ok` is"),
+)
+IF_OK = re.compile(r"WhenLeft .* \(λ f r\. IfOk r \(λ \w+\. (?P<fact>.*)\)\)")
 # What their conclusions say.
 CONCLUSIONS = {
     ("ListsAs", 3): lambda run, s, xs: f"the items of {named(s)} are {shown(xs)}",
     ("ValueIs", 3): lambda run, f, v: f"the value of {named(f)} is {shown(v)}",
+    ("OkListsAs", 4): lambda run, s, f, xs: f"{shown(f)} of what the `Ok` items of {named(s)} hold is {shown(xs)}, up to an error",
     ("Fronts", 3): lambda run, s, xs: f"{named(s)} yields nothing but {shown(xs)}, in order and from its beginning, also after an end",
     **{it: PREMISES[it] for it in (("AtOnce", 3), ("GoesOn", 3), ("NeverReady", 2))},
 }
@@ -164,9 +188,9 @@ def left_behind(fact):
     if found := re.fullmatch(r"\(v ≡ (.*)\)", fact, re.S):
         return f"the value of the result is {shown(found[1])}"
     if word == "RestIs" and len(given) == 3:
-        return f"this stream is left with the items of {shown(given[2])} behind the first one, if there is one"
+        return f"{OWN} is left with the items of {shown(given[2])} behind the first one, if there is one"
     if word == "RestIfFound" and len(given) == 4:
-        return f"this stream is left with the items {shown(given[3])} if the value is `Some`"
+        return f"{OWN} is left with the items {shown(given[3])} if the value is `Some`"
     return None
 
 
@@ -190,6 +214,22 @@ def of_value(fact):
     return None
 
 
+def left_by_ok(fact):
+    """Returns what an equality on what a future left says, or None."""
+    this, is_equal, that = bare(fact).partition(" ≡ ")
+    found = next(((form, it) for form, it in ((re.fullmatch(form, this), it) for form, it in LEFT_BY_OK) if form), None)
+    return f"{found[1].format(*found[0].groups())} {shown(that)}" if is_equal and found else None
+
+
+def with_names(body):
+    """Returns a clause's body with names for the bytes that a reader is known to give, and a writer to keep."""
+    for form, member, name in BYTES:
+        if found := form.search(body):
+            value = re.escape(f"{found[1]}.{member} {found[2]}")
+            body = re.sub(rf"\({value}\)|{value}(?![\w.])", name, body)
+    return body
+
+
 def conclusion(fact):
     """Returns what each part of a conclusion says; None for a part without a rule."""
     if found := SHORTER.fullmatch(fact):
@@ -203,20 +243,25 @@ def in_a_row(texts):
     return f"{', '.join(most)} and {last}" if most else last
 
 
-def sentence(clause):
-    """Returns what a printed clause says in a sentence, with its name before it; None if a part of it has no rule."""
+def sentence(clause, own="this stream"):
+    """Returns what a printed clause says in a sentence, with its name before it; None if a part of it has no rule. `own` is the value of the method."""
     found = CLAUSE.match(clause)
     if not found or found["kind"] != "ensures" or not found["name"]:
         return None
-    *premises, last = parts(" ".join(found["body"].split()), "→")
+    *premises, last = parts(with_names(" ".join(found["body"].split())), "→")
     given = [premise(it) for it in premises if not (BINDERS.match(it) and all(BINDERS.match(word) for word in parts(it)))]
-    then = [it for fact in parts(last, "×") for it in conclusion(fact)]
+    if is_ok := IF_OK.fullmatch(last):
+        given, then = [*given, "the result returns `Ok`"], list(map(left_by_ok, parts(is_ok["fact"], "×")))
+    else:
+        then = [it for fact in parts(last, "×") for it in conclusion(fact)]
     if None in given or None in then:
         return None
     text = f"if {in_a_row(given)}, then {in_a_row(then)}." if given else f"{in_a_row(then)}."
-    return f"`{found['name']}`: {text[0].upper() if text[0] != '`' else text[0]}{text[1:]}"
+    text = text.replace(OWN, own)
+    return f"`{found['name']}`: {text[0].upper()}{text[1:]}"
 
 
 def sentences(item):
     """Returns what the clauses of an item's contract say, for those of a form that has a rule."""
-    return list(filter(None, map(sentence, clauses_of(item))))
+    own = OWN_OF.get(item.owner.name if item.owner else "", "this stream")
+    return list(filter(None, (sentence(it, own) for it in clauses_of(item))))

@@ -189,6 +189,14 @@ CLAUSES = (
         "ensures* after { Afterwards (λ new. (new ≡ old) × Kept new) }",
         None,
     ),
+    (
+        "ensures piece { Knows Self.reads Self.known self.old → WhenLeft E (Reads Self.reads) result (λ f. ⊤)"
+        " (λ f r. IfOk r (λ n. (f.buf.now.items ≡ take 3 (Self.known.left self.old)) × (n ≡ 3))) }",
+        "ensures piece { Knows Self.reads Self.known self.old → WhenLeft E (Reads Self.reads) result (λ f. ⊤)"
+        " (λ f r. IfOk r (λ n. (f.buf.now.items ≡ take 3 (Self.known.left self.old)) × (n ≡ 3))) }",
+        "`piece`: If it is known that this stream will give `bytes` and the result returns `Ok`, then the items of `buf` are `take 3 bytes` and the value in"
+        " the `Ok` is `3`.",
+    ),
     ("ensures* back { sem 𝓛 (Lends (the_row R.row) R.row self.entry result\n    (λ w. record self.old { inner = w })) }", "", None),
 )
 
@@ -196,6 +204,10 @@ CLAUSES = (
 class Clauses(unittest.TestCase):
     def test_what_guides_the_search_is_not_printed(self):
         self.assertEqual([contracts.printed(clause) for clause, _, _ in CLAUSES], [it for _, it, _ in CLAUSES])
+
+    def test_a_sentence_names_what_the_method_is_called_on(self):
+        told = contracts.sentence("ensures never { NeverReady Self.run self }", "this future")
+        self.assertEqual(told, "`never`: Every poll of this future returns `Pending`.")
 
     def test_a_clause_of_a_form_with_a_rule_has_a_sentence(self):
         self.assertEqual([contracts.sentence(printed) for _, printed, _ in CLAUSES], [it for _, _, it in CLAUSES])

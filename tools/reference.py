@@ -99,7 +99,7 @@ ABOUT_CONTRACTS = "\n".join(
             "What only guides the search for proofs is left out: words that are always true, as `Seen`, and where a search begins. The source has it. A"
             " clause on what is written through a reference is a sentence below the contract.",
             "A sentence under \"In words\" says what a clause says. In it, the items of a stream are those before its end, if it ends, and the value of a"
-            " future is what a wait for it returns, if it returns `Ok`.",
+            " future is what a wait for it returns, if it returns `Ok`. `bytes` are those that a reader will give, and `kept` those that a writer keeps.",
             "Below the entries of a page stand its words, with links to their definitions. A definition names its arguments as its own source does.",
         ),
     )
