@@ -6,6 +6,7 @@ import lookup
 import markers
 import original_examples
 import originals
+import pictures
 import properties
 import speed
 import vocabulary
@@ -20,6 +21,7 @@ def files():
     """Yields the path of each file that has generated text, and what it has to be."""
     yield from Reference().pages()
     yield speed.PLOT, speed.plot()
+    yield pictures.FILE, pictures.by_item()[pictures.SHOWN].svg()
     yield vocabulary.PAGE, vocabulary.glossary()
     yield original_examples.PAGE, original_examples.page()
     for file, text in examples.proofs().items():

@@ -1,11 +1,16 @@
 """Tests of the generator of docs/api, over sources of their own. `tools/lists` runs them."""
 import re
 import unittest
+import unittest.mock
 
+import contracts
 import examples
+import words
 from reference import Reference
 from sources import Sources
 from tool_tests import failures
+from vocabulary import Word
+from words import Words
 
 OTHER = """ghost use Rattle.lite_halves.specs.Counts.{HalfCounts};
 
@@ -42,8 +47,9 @@ pub use lite_stream::Or;
         "futures_lite",
         "future.rt",
         """//! Futures.
-pub use lite_base::{Or, Other};
-pub use lite_base::make::or;
+pub use lite_base::future::either::{Or, Other};
+pub use lite_base::future::make::or;
+pub use lite_base::stray;
 """,
     ),
     ("lite_stream", "lib.rt", "mod or;\npub use or::Or;\npub mod count;\npub mod make;\n"),
@@ -106,7 +112,8 @@ where
         "count.rt",
         """/// A future of what a folder makes of a stream.
 pub struct Consume<S, F> {
-    stream: S,
+    /// The stream that is polled.
+    pub stream: S,
     folder: F,
 }
 
@@ -126,11 +133,14 @@ pub fn count<S: Stream<Item = S::Item>>(stream: S) -> CountFuture<S>
 }
 """,
     ),
-    ("lite_base", "lib.rt", "mod other;\npub mod make;\npub use other::{Or, Other};\n"),
-    ("lite_base", "other.rt", OTHER),
+    ("futures_lite", "laws.rt", "//! Laws.\npub use lite_theorems::collect_or;\n"),
+    ("lite_theorems", "lib.rt", "use lite_stream::Or;\n/// Collects.\npub fn collect_or<S, T>(both: Or<S, T>) -> usize {\n}\n"),
+    ("lite_base", "lib.rt", "pub mod future;\npub use future::either::Other;\n/// Is in no group.\npub fn stray() -> u8 {\n}\n"),
+    ("lite_base", "future.rt", "pub mod either;\npub mod make;\npub use either::Or;\n"),
+    ("lite_base", "future/either.rt", OTHER),
     (
         "lite_base",
-        "make.rt",
+        "future/make.rt",
         """use super::Or;
 /// Returns a future of either.
 ///
@@ -146,18 +156,83 @@ pub fn or<F>(first: F) -> Or<F> {
 )
 
 
+# Clauses, each with how it is printed and what it says in words.
+CLAUSES = (
+    (
+        "ensures lists { OfItems Self.run self (λ xs. length xs < 2 ^ 64 → ListsAs (Takes Self.run) result (take n xs)) }",
+        "ensures lists { (xs : List _) → Lists Self.run self xs → length xs < 2 ^ 64 → ListsAs (Takes Self.run) result (take n xs) }",
+        "`lists`: If the items of this stream are `xs` and `xs` has fewer than 2^64 items, then the items of the result are `take n xs`.",
+    ),
+    (
+        "ensures value { (xs : List A) → Lists S.run other xs\n    → Seen {Y = B} other (Ok x)\n"
+        "    × ValueIs {A = Unit {0}} S.runs result (last_or None xs) }",
+        "ensures value { (xs : List A) → Lists S.run other xs\n    → ValueIs {A = Unit {0}} S.runs result (last_or None xs) }",
+        "`value`: If the items of `other` are `xs`, then the value of the result is `last_or None xs`.",
+    ),
+    (
+        "ensures on { (x : A) → FoundBy (replicate (f n) x) self x\n    (GoesOn Self.run self x → Unruled result x) }",
+        "ensures on { (x : A) → GoesOn Self.run self x → Unruled result x }",
+        None,
+    ),
+    (
+        "ensures same { (filter test xs ≡ filter test xs) × ListsAs S.run result (filter test xs) × Unruled result }",
+        "ensures same { ListsAs S.run result (filter test xs) × Unruled result }",
+        None,
+    ),
+    (
+        "ensures left { WhenLeft E S.runs result (λ f. ⊤) (λ f v. (v ≡ slice_get xs n) × RestIs S.run f.stream.now (drop n xs)) }",
+        "ensures left { WhenLeft E S.runs result (λ f. ⊤) (λ f v. (v ≡ slice_get xs n) × RestIs S.run f.stream.now (drop n xs)) }",
+        "`left`: The value of the result is `slice_get xs n` and this stream is left with the items of `drop n xs` behind the first one, if there is one.",
+    ),
+    (
+        "ensures* after { sem 𝓛 (Afterwards Self.row self.entry (λ new. (new ≡ old) × Kept new)) }",
+        "ensures* after { Afterwards (λ new. (new ≡ old) × Kept new) }",
+        None,
+    ),
+    (
+        "ensures piece { Knows Self.reads Self.known self.old → WhenLeft E (Reads Self.reads) result (λ f. ⊤)"
+        " (λ f r. IfOk r (λ n. (f.buf.now.items ≡ take 3 (Self.known.left self.old)) × (n ≡ 3))) }",
+        "ensures piece { Knows Self.reads Self.known self.old → WhenLeft E (Reads Self.reads) result (λ f. ⊤)"
+        " (λ f r. IfOk r (λ n. (f.buf.now.items ≡ take 3 (Self.known.left self.old)) × (n ≡ 3))) }",
+        "`piece`: If it is known that this stream will give `bytes` and the result returns `Ok`, then the items of `buf` are `take 3 bytes` and the value in"
+        " the `Ok` is `3`.",
+    ),
+    ("ensures* back { sem 𝓛 (Lends (the_row R.row) R.row self.entry result\n    (λ w. record self.old { inner = w })) }", "", None),
+)
+
+
+class Clauses(unittest.TestCase):
+    def test_what_guides_the_search_is_not_printed(self):
+        self.assertEqual([contracts.printed(clause) for clause, _, _ in CLAUSES], [it for _, it, _ in CLAUSES])
+
+    def test_a_sentence_names_what_the_method_is_called_on(self):
+        told = contracts.sentence("ensures never { NeverReady Self.run self }", "this future")
+        self.assertEqual(told, "`never`: Every poll of this future returns `Pending`.")
+
+    def test_a_clause_of_a_form_with_a_rule_has_a_sentence(self):
+        self.assertEqual([contracts.sentence(printed) for _, printed, _ in CLAUSES], [it for _, _, it in CLAUSES])
+
+
 class TwoModules(unittest.TestCase):
     def setUp(self):
         self.sources = Sources(TEXTS)
         self.pages = dict(Reference(self.sources).pages())
 
     def entry(self, module, heading):
-        return self.pages[f"docs/api/{module}.md"].partition(f"### {heading}\n")[2].partition("\n### ")[0]
+        pages = [text for file, text in self.pages.items() if file.startswith(f"docs/api/{module}/")]
+        found = [it.partition(f"\n## {heading}\n") for it in pages]
+        return "".join(it[2].partition("\n## ")[0] for it in found)
+
+    def headings(self, page):
+        return re.findall(r"^## (?!Words$)(.*)$", self.pages[page], re.M)
+
+    def words(self, page):
+        return " ".join(self.pages[page].partition("\n## Words\n")[2].split())
 
     def test_an_item_is_told_by_its_own_source(self):
         self.assertIn("The stream of both.", self.entry("stream", "struct `Or`"))
         self.assertIn("The future of either.", self.entry("future", "struct `Or`"))
-        self.assertIn("crates/lite_base/src/make.rt", self.entry("future", "fn `or`"))
+        self.assertIn("crates/lite_base/src/future/make.rt", self.entry("future", "fn `or`"))
         self.assertNotIn("let _ =", self.entry("stream", "fn `or`"))
 
     def test_a_method_is_of_the_type_of_its_module(self):
@@ -179,20 +254,28 @@ class TwoModules(unittest.TestCase):
     def test_a_type_names_the_fields_that_contracts_name(self):
         self.assertIn("Fields that contracts name: `first: S`.", self.entry("stream", "struct `Or`"))
 
+    def test_the_public_fields_of_a_struct_are_shown(self):
+        told = self.entry("stream", "struct `Consume`")
+        self.assertIn("struct Consume<S, F> {\n    /// The stream that is polled.\n    pub stream: S,\n    // some fields are private\n}\n", told)
+        self.assertIn("\nstruct Or<S, T>\n", self.entry("stream", "struct `Or`"))
+
+    def test_an_item_of_no_group_is_named(self):
+        told = [what for _, what in Reference(self.sources).faults() if "fits no group" in what]
+        self.assertEqual(told, ["`future::stray` fits no group of docs/api (GROUPS in tools/reference.py)"])
+
     def test_a_type_with_a_model_names_the_fields_of_the_model(self):
         self.assertIn("Fields that contracts name: `calls: ℕ`, `bytes: ℕ`, `made: List Note`. They are those of", self.entry("future", "struct `Or`"))
 
     def test_an_alias_names_the_fields_that_contracts_name(self):
         self.assertIn("Fields that contracts name: `folder: Count<u8>`, `stream: S`, `count: N` of its `Count`.", self.entry("stream", "type `CountFuture`"))
 
-    def test_an_entry_names_the_fields_that_no_other_entry_names_or_that_the_table_explains_otherwise(self):
+    def test_an_entry_names_the_fields_that_no_entry_of_the_page_names(self):
         self.assertIn("Field in this contract: `count: N` of `Count`.", self.entry("stream", "fn `count`"))
         self.assertNotIn("in this contract", self.entry("stream", "method `Or::or`"))
 
-    def test_a_mark_stands_with_the_bounds_of_its_impl(self):
-        self.assertIn("must meet:\n\n- `Counted`: `impl<S: Counted, T> Counted for Or<S, T>`\n", self.entry("stream", "struct `Or`"))
-        told = " ".join(self.entry("future", "fn `or`").split())
-        self.assertIn("`CalmFuture`. It has it if its type arguments meet the bounds of the impl, in [its entry](#struct-or).", told)
+    def test_a_mark_stands_with_the_bounds_of_its_impl_in_the_entry_of_the_type(self):
+        self.assertIn("each with its impl:\n\n- `Counted`: `impl<S: Counted, T> Counted for Or<S, T>`\n", self.entry("stream", "struct `Or`"))
+        self.assertIn("Type of the result, with its marks: [`Or`](#struct-or).", self.entry("future", "fn `or`"))
 
     def test_a_mark_of_the_tables_without_an_impl_is_named(self):
         told = [what for _, what in Reference(self.sources).faults()]
@@ -202,26 +285,61 @@ class TwoModules(unittest.TestCase):
     def test_a_method_that_returns_its_own_type_has_a_link_to_it(self):
         self.assertIn("Type of the result: [`Or`](#struct-or).", self.entry("stream", "method `Or::or`"))
 
-    def test_a_link_leads_to_the_page_that_has_the_item(self):
-        self.assertIn("an [`or`](#fn-or). It needs no [`Other`](future.md#trait-other).", self.entry("stream", "method `Or::first`"))
-        self.assertIn("From other modules: [`future::Other`](future.md#trait-other).", self.entry("stream", "fn `or`"))
-        self.assertNotIn("From other modules", self.entry("future", "fn `or`"))
+    def test_a_type_has_links_to_the_laws_that_name_it(self):
+        self.assertIn("\nMore is proved by [`laws::collect_or`](../laws/collect_or.md#fn-collect_or).\n", self.entry("stream", "struct `Or`"))
+        self.assertNotIn("More is proved", self.entry("future", "struct `Or`"))
 
-    def test_a_summary_is_a_sentence(self):
-        self.assertIn("- [`or`](#fn-or): Returns a stream of both: the items of each.\n", self.pages["docs/api/stream.md"])
+    def test_a_link_leads_to_the_page_that_has_the_item(self):
+        self.assertIn("an [`or`](#fn-or). It needs no [`Other`](../future/other.md#trait-other).", self.entry("stream", "method `Or::first`"))
+        self.assertIn("In the signature: [`future::Other`](../future/other.md#trait-other).", self.entry("stream", "fn `or`"))
+        self.assertNotIn("In the signature", self.entry("future", "fn `or`"))
+
+    def test_a_page_has_a_call_and_the_type_that_it_returns(self):
+        self.assertEqual(self.headings("docs/api/stream/or.md"), ["fn `or`", "fn `swap`", "struct `Or`", "method `Or::first`", "method `Or::or`"])
+        self.assertEqual(self.headings("docs/api/stream/count.md"), ["fn `count`", "type `CountFuture`"])
+        self.assertEqual(self.headings("docs/api/future/other.md"), ["trait `Other`"])
+
+    def test_each_method_of_a_type_with_many_has_a_page(self):
+        with unittest.mock.patch("sources.MANY", 2):
+            pages = dict(Reference(self.sources).pages())
+        self.assertIn("\n## method `Or::first`\n", pages["docs/api/stream/or_first.md"])
+        self.assertIn("\nMethods: [`first`](or_first.md#method-orfirst), [`or`](or_or.md#method-oror).\n", pages["docs/api/stream/or.md"])
+
+    def test_the_index_of_modules_has_all_names(self):
+        told = self.pages["docs/api/README.md"].partition("\n## All names\n\n")[2]
+        for link in ("[`future::or`](future/or.md#fn-or)", "[`stream::or`](stream/or.md#fn-or)", "[`future::Or`](future/or.md#struct-or)"):
+            self.assertIn(link, told)
+        self.assertNotIn("Or::first", told)
+
+    def test_a_definition_stands_with_its_module_and_links_to_others(self):
+        told = " ".join(self.pages["docs/api/words/lite_views/Views.md"].partition("\n## `ListsAs`\n")[2].split())
+        self.assertTrue(told.startswith("(`Lists`) The items of `s` are `xs`, as [`Lists`](#lists) says it:"))
+
+    def test_words_that_differ_in_their_case_have_anchors_of_their_own(self):
+        every = {("lite_read", "Texts", it): Word(it, "lite_read", "Texts", "It says.") for it in ("Reading", "reading")}
+        pages = Words(every, every.values(), {})
+        self.assertEqual([pages.link(it, words.STD).partition("#")[2] for it in every.values()], ["reading)", "reading-1)"])
+
+    def test_an_index_has_each_call_with_a_sentence_and_its_type(self):
+        told = self.pages["docs/api/stream/README.md"]
+        self.assertIn("- [`count`](count.md#fn-count): Returns a future of the number of items.\n- ", told.replace("\n\n", "\n"))
+        self.assertIn("- [`or`](or.md#fn-or): Returns a stream of both: the items of each.\n", told)
+        self.assertIn("- [`Or`](or.md#struct-or): The stream of both. With [`first`](or.md#method-orfirst) and [`or`](or.md#method-oror).\n", told)
+        self.assertIn("- Types of results: [`CountFuture`](count.md#type-countfuture).\n", told)
 
     def test_a_word_of_a_contract_that_nothing_explains_is_named(self):
         told = [what for _, what in Reference(self.sources).faults() if "`stream::Or::or`" in what]
         words = [re.search(r"the word \.?(\w+) ", it)[1] for it in told]
         self.assertEqual(words, ["Strange", "unheard", "unknown"])
 
-    def test_a_word_that_no_entry_explains_is_in_the_table(self):
-        told = self.pages["docs/api/stream.md"].partition("## Words of contracts")[2]
-        self.assertIn("| `IfOk` | `IfOk r (λ v. B)`:", told)
-        for word in ("length", "Self", "Item"):
-            self.assertIn(f"| `{word}` |", told)
-        for word in ("size", "first", "n", "it", "S"):
-            self.assertNotIn(f"| `{word}` |", told)
+    def test_a_word_that_no_entry_explains_is_below_the_entries(self):
+        told = self.words("docs/api/stream/or.md")
+        for word in ("IfOk", "length"):
+            self.assertIn(f"[`{word}`](../words/std.md#{word.lower()})", told)
+            self.assertIn(f"\n## `{word}`\n\n", self.pages["docs/api/words/std.md"])
+        for word in ("size", "first", "n", "it", "S", "Item", "Self"):
+            self.assertNotIn(f"[`{word}`]", told)
+        self.assertIn("[`Item`]", self.words("docs/api/stream/count.md"))
 
     def test_an_item_without_an_example_is_named(self):
         told = [what for _, what in examples.faults(self.sources)]
@@ -235,4 +353,5 @@ class TwoModules(unittest.TestCase):
 
 def faults():
     """Yields each test that fails."""
-    yield from failures(TwoModules, "tools/generator_tests.py")
+    for case in (Clauses, TwoModules):
+        yield from failures(case, "tools/generator_tests.py")

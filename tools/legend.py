@@ -2,6 +2,7 @@
 import functools
 import re
 
+from contracts import clauses_of
 from repository import TOP, files_of, read_text
 from vocabulary import MEMBER, TRAIT, libraries
 
@@ -23,8 +24,8 @@ FIELD = re.compile(rf"^ +(?:pub(?:\([^)]*\))? )?({NAME}) ?: ", re.M)
 
 
 def text_of(item):
-    """Returns an item's contract without the comments in it and the names of its clauses."""
-    return CLAUSE_NAME.sub(r"\1 {", re.sub(r"//.*", "", "\n".join([*item.asks, *item.gives])))
+    """Returns an item's contract as it is printed, without the comments in it and the names of its clauses."""
+    return CLAUSE_NAME.sub(r"\1 {", re.sub(r"//.*", "", "\n".join(clauses_of(item))))
 
 
 def arguments(text):

@@ -146,19 +146,17 @@ def own_crates():
 
 
 @functools.cache
-def page(module):
-    """Returns the page of docs/api of a module, which a copy of the library lacks."""
-    path = f"docs/api/{module}.md"
-    return path, set(read_text(f"{TOP}/{path}").splitlines()) if os.path.isfile(f"{TOP}/{path}") else set()
+def headings(page):
+    """Returns the lines of a page of docs/api, which a copy of the library lacks."""
+    return set(read_text(f"{TOP}/{page}").splitlines()) if os.path.isfile(f"{TOP}/{page}") else set()
 
 
-def entries_of_item(item, at, module=None, reach=0):
-    """Yields the entry of a public item of a crate's module, which is named as callers name it, and those of its variants; with a page of docs/api, if
+def entries_of_item(item, at, page="", reach=0):
+    """Yields the entry of a public item of a crate's module, which is named as callers name it, and those of its variants; with its page of docs/api, if
     there is one."""
     crate, *inner = at.split("::")
-    path, headings = page(module) if module else ("", ())
     found = {"head": item.head, "says": first_sentence(item.says) if item.says else "", "comment": item.says, "contract": [*item.asks, *item.gives]}
-    found["places"] = [f"{path}#{item.anchor}"] * (f"### {item.heading}" in headings) + [f"{item.path}:{item.line}"]
+    found["places"] = [f"{page}#{item.anchor}"] * (f"## {item.heading}" in headings(page)) + [f"{item.path}:{item.line}"]
     variants = [it.strip() for it in item.variants if it.strip() and not it.strip().startswith("//")]
     found["body"] = [*(" ".join(it.split()) for it in (*item.asks, *item.gives)), *variants]
     declared, title = f"use Rattle.{'.'.join([crate, 'specs.declared', *inner, item.name])}", f"{at}::{item.title}"
@@ -188,7 +186,7 @@ def sources_of(crates):
 def items_of_library():
     """Returns the public items of the facade and of the crates beside it."""
     every = sources_of(libraries())
-    found = [entry for module in MODULES for it in every.items_of(module).values() for entry in entries_of_item(it, called(module), module)]
+    found = [entry for module in MODULES for it in every.items_of(module).values() for entry in entries_of_item(it, called(module), every.page_of(it, module))]
     found += [it for module in MODULES for it in passed_from_kit(every, every.source_of(module), called(module))]
     root = every.by_module.get((FACADE, ()))
     if root:

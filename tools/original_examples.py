@@ -9,14 +9,16 @@ import examples
 import originals
 from originals import link_to
 from repository import TOP, read_text
-from sources import MODULES, Sources
+from sources import MODULES
 
 PAGE = "docs/EXAMPLES.md"
 LIST = "tools/original-examples.txt"
 LINE = re.compile(r"(?P<name>[\w:!]+)(?: = (?P<here>[\w:]+))?(?:: (?P<note>.*))?")
 NAME = re.compile(r"fn (\w+)")
 PROVED, IN_PART, TESTED, ABSENT = STATES = ("proved", "proved in part", "tested", "not here")
-INTRODUCTION = """# The examples of futures-lite
+INTRODUCTION = """<!-- tools/documents writes this file. -->
+
+# The examples of futures-lite
 
 This page has a line for each example in the documentation of futures-lite 2.6.1. An example that is here stands in the
 comment of its item, and in the item's entry in [docs/api](api/).
@@ -54,8 +56,7 @@ class Row:
 
 def rows():
     """Returns a row for each line of the list."""
-    sources = Sources()
-    items = {module: sources.items_of(module) for module in MODULES}
+    items = {module: originals.sources().items_of(module) for module in MODULES}
     notes = {f"{module}::{title}": note for module, title, note in originals.lines() if module and note}
     return [Row(it, items, notes) for it in read_text(f"{TOP}/{LIST}").splitlines() if it and not it.startswith("#")]
 

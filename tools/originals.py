@@ -2,9 +2,9 @@
 
 A line is `MODULE::TITLE`, or `MODULE::TITLE: NOTE`, with what differs or why it is not here. An item that is here is found by its name.
 """
+import functools
 import re
 
-from reference import linked
 from repository import TOP, read_text
 from sources import Sources
 
@@ -20,9 +20,14 @@ def lines():
             yield (found["module"], found["title"], found["note"]) if found else (None, line, None)
 
 
+@functools.cache
+def sources():
+    return Sources()
+
+
 def link_to(item):
     """Returns a link from a page in docs/ to the entry of an item."""
-    return linked(item, f"`{item.title}`").replace("](#", f"](api/{item.module}.md#")
+    return sources().link_to(item, PAGE, f"`{item.title}`")
 
 
 def row(item, title, note):
@@ -32,28 +37,27 @@ def row(item, title, note):
 
 def tables():
     """Returns the table of each module, by the name of its marker."""
-    sources, found = Sources(), {}
+    found = {}
     for module, title, note in lines():
         if module:
-            found.setdefault(module, []).append(row(sources.items_of(module).get(title), title, note))
+            found.setdefault(module, []).append(row(sources().items_of(module).get(title), title, note))
     return {module: "\n".join(["\n\n| futures-lite | Here | What differs |", "|---|---|---|", *rows]) + "\n\n" for module, rows in found.items()}
 
 
 def added():
     """Returns the items of each module that futures-lite has not, by the name of their marker."""
-    sources, there = Sources(), {(module, title) for module, title, _ in lines()}
+    there = {(module, title) for module, title, _ in lines()}
     found = {}
     for module in ("future", "stream", "io"):
-        items = [it for title, it in sources.items_of(module).items() if not it.owner and (module, title) not in there]
+        items = [it for title, it in sources().items_of(module).items() if not it.owner and (module, title) not in there]
         found[f"{module} added"] = ", ".join(map(link_to, items))
     return found
 
 
 def faults():
     """Yields each line that is none, and each name that is not here without a note that says why."""
-    sources = Sources()
     for module, title, note in lines():
         if not module:
             yield "tools/original.txt", f"this is no line of it: {title}"
-        elif not note and title not in sources.items_of(module):
+        elif not note and title not in sources().items_of(module):
             yield "tools/original.txt", f"`{module}::{title}` is not here, and no note says why"

@@ -1,6 +1,6 @@
-"""Pictures of what adapters return: a row for each source with what it returned in each poll, and a row with what came out.
+"""Tables of what adapters return: a row for each source with what it returned in each poll, and a row with what came out. One is also a picture.
 
-A picture is made from a case of the mode `polls` in cases/pictures.txt, whose answers `tools/replay` holds to the program.
+A table is made from a case of the mode `polls` in cases/pictures.txt, whose answers `tools/replay` holds to the program.
 """
 import functools
 import html
@@ -8,10 +8,10 @@ import os
 import re
 
 from repository import TOP, read_text
-from vocabulary import snake
 
 CASES = f"{TOP}/cases/pictures.txt"
-FOLDER = "pictures"
+# The item of which README.md has a picture.
+SHOWN, FILE = "stream::StreamExt::zip", "docs/pictures/stream_stream_ext_zip.svg"
 # The line over a case says which item it shows, and how its nest is written as a call.
 ABOUT = re.compile(r"# (?P<item>\w+::[\w:]+): `(?P<call>.*)`")
 ANSWER = re.compile(r"(\S+?),\(((?:\d+,)*)\)")
@@ -28,7 +28,7 @@ def pair_of(word):
     return f"({int(word) // 1000}, {int(word) % 1000})" if word.isdigit() else word
 
 
-class Picture:
+class Table:
     """The polls of a nest over scripts."""
 
     def __init__(self, item, call, case, answers):
@@ -44,10 +44,6 @@ class Picture:
             for number, script in enumerate(scripts)
         ]
 
-    @property
-    def file(self):
-        return f"{FOLDER}/{snake(self.item.replace('::', '_')).replace('__', '_')}.svg"
-
     def rows(self):
         """Yields the label and the cells of each row."""
         for name, cells in zip(NAMES, self.given):
@@ -55,14 +51,14 @@ class Picture:
         yield self.call, [[pair_of(it) if self.item.endswith(PAIRS) else it] for it in self.out]
 
     def lines(self):
-        """Returns the picture as text, one column a poll."""
+        """Returns the table, one column a poll."""
         rows = [("poll", [str(number + 1) for number in range(len(self.out))]), *((label, [" ".join(it) for it in cells]) for label, cells in self.rows())]
         label = max(len(it) for it, _ in rows)
         widths = [max(len(cells[at]) for _, cells in rows) for at in range(len(self.out))]
         return [f"{name:<{label}} | {' | '.join(f'{it:<{width}}' for it, width in zip(cells, widths))}".rstrip() for name, cells in rows]
 
     def svg(self):
-        """Returns the picture as SVG: items as ovals, `Pending` as a dash, the end of the stream as a bar."""
+        """Returns the table as SVG: items as ovals, `Pending` as a dash, the end of the stream as a bar."""
         rows = list(self.rows())
         label = max(len(it) for it, _ in rows) * LABEL + 2 * MARGIN
         slots = [max(1, *(len(cells[at]) for _, cells in rows)) for at in range(len(self.out))]
@@ -99,12 +95,12 @@ def shape(word, x, y, is_out):
 
 @functools.cache
 def by_item():
-    """Returns the pictures by their items: the module of the facade and the title."""
+    """Returns the tables by their items: the module of the facade and the title."""
     found, about = {}, None
     for line in read_text(CASES).splitlines() if os.path.isfile(CASES) else ():
         if it := ABOUT.match(line):
             about = it
         elif " => " in line and about:
-            found[about["item"]] = Picture(about["item"], about["call"], *line.split(" => "))
+            found[about["item"]] = Table(about["item"], about["call"], *line.split(" => "))
             about = None
     return found

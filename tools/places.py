@@ -1,4 +1,4 @@
-"""What has to be in the places that docs/CONTRIBUTING.md names: pictures, contracts of marks, cases or tests, and rows of tables."""
+"""What has to be in the places that docs/CONTRIBUTING.md names: tables of polls, contracts of marks, cases or tests, and rows of tables."""
 import functools
 import glob
 import re
@@ -6,11 +6,11 @@ import re
 from repository import BESIDE, FACADE, TOP, crates_in, files_of, read_text, with_below
 from sources import MODULES, Sources
 
-PICTURES, NESTS, TABLES, MARKS_MET = "cases/pictures.txt", "docs/NESTS.md", "docs/TABLES.md", "crates/marks_met"
+POLLS, NESTS, TABLES, MARKS_MET = "cases/pictures.txt", "docs/NESTS.md", "docs/TABLES.md", "crates/marks_met"
 # The parts of pages whose tables have a row of each call of streams: a heading, and one behind the part.
 PARTS_OF = {NESTS: ("## What each call adds", "\n# "), TABLES: ("## What a poll requires", "\n## ")}
-# Adapters without a picture: their sources are no scripts, or they never end.
-NO_PICTURE = {"StreamExt::cloned", "StreamExt::copied", "StreamExt::cycle"}
+# Adapters without a table of polls: their sources are no scripts, or they never end.
+NO_POLLS = {"StreamExt::cloned", "StreamExt::copied", "StreamExt::cycle"}
 # Calls without a row: what waits for others, what has no value, and what stands in the row of another call, as `iter_vec` in that of `iter`.
 NO_ROW = {
     NESTS: {"block_on", "StreamExt::for_each", "race_with_seed"},
@@ -37,12 +37,12 @@ def lacking(place, wanted, there, exceptions, what):
         yield "tools/places.py", f"`{name}` needs no exception, or is none: {place}"
 
 
-def pictures(streams):
-    """Each adapter, a method that returns a stream of the library, has a picture."""
+def polls(streams):
+    """Each adapter, a method that returns a stream of the library, has a table of polls."""
     returned = {it.title: re.search(r"-> (?:Result<)?(\w+)", it.head) for it in calls_of_streams() if it.owner}
     adapters = {title for title, found in returned.items() if found and found[1] in streams}
-    there = set(re.findall(r"^# stream::([\w:]+): `", read_text(f"{TOP}/{PICTURES}"), re.M))
-    yield from lacking(PICTURES, adapters, there, NO_PICTURE, "there is no picture of")
+    there = set(re.findall(r"^# stream::([\w:]+): `", read_text(f"{TOP}/{POLLS}"), re.M))
+    yield from lacking(POLLS, adapters, there, NO_POLLS, "there is no table of the polls of")
 
 
 def marks_met(marks):

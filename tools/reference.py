@@ -1,18 +1,21 @@
-"""The pages of docs/api: for each public item its signature, its comment, an example, its contract and a picture, by its module and its title."""
+"""The pages of docs/api: for each public item its signature, its comment, an example, its contract and a table of polls, by its module and its title."""
 import functools
+import itertools
+import os
 import re
 import textwrap
 
 import pictures
 import properties
+import words
+from contracts import IN_WORDS, clauses_of, in_a_row, sentences
 from examples import CLAUSES, GHOST
 from legend import FIELDS, LEGEND, NAME, PHASES, WITH_MEANING, arguments, fields, legend, members, text_of, unexplained
 from repository import FACADE, TOP, read_text, version
-from sources import LINKED, MODULES, Sources, called, first_sentence, head_of_impl, plain
-from vocabulary import PLAIN, WIDTH, bullet, cited, definitions, imported, libraries, table, wrapped
+from sources import EXTENSIONS, LINKED, MAKERS, MODULES, Sources, called, first_sentence, head_of_impl, plain, relative
+from vocabulary import PLAIN, WIDTH, Word, bullet, cited, definitions, imported, libraries, wrapped
+from words import STD, WRITTEN, Words
 
-# The sentence of a type's comment that says which calls return it.
-MAKERS = re.compile(r"(Returned|Made) by \[`[^.]*\.")
 # The clause of a call that lends what it has: the field that is lent, and what `self` is after that.
 WRITES_BACK = re.compile(r"^ensures\* (\w+) .*record self\.old \{ (\w+) = (record)?", re.S)
 AFTERWARDS = re.compile(r"^ensures\* (\w+) .*\(Afterwards ", re.S)
@@ -20,12 +23,19 @@ IMPL = re.compile(r"^impl\b(?P<types>[^{]*?)\s(?P<trait>\w+)(?:<[^{]*?>)?\s+for\
 ALIAS = re.compile(r"type \w+(?:<.*?>)? = (?P<type>\w+)(?P<arguments><.*>)?")
 INDEX = "docs/api/README.md"
 TRAITS = "Traits"
-# The groups of a page, with where the code of their items stands; the longest path decides.
+# The groups of a page, with where the code of their items stands, or the item in a file; the longest path decides.
 GROUPS = {
     "future": {
-        "Waiting on this thread": ("lite_base/src/future/block_on.rt", "lite_base/src/future/waits.rt"),
-        "Making a future": ("lite_base/src/future",),
-        "Combining futures": tuple(f"lite_base/src/future/{it}.rt" for it in ("or", "race", "zip", "try_zip")),
+        "Waiting on this thread": (
+            "futures_lite/src/future.rt block_on",
+            "futures_lite/src/future.rt wait_for",
+            "lite_base/src/future/block_on.rt",
+            "lite_base/src/future/waits.rt",
+        ),
+        "Making a future": tuple(f"lite_base/src/future/{it}.rt" for it in ("pending", "poll_fn", "ready", "yield_now")),
+        "Combining futures": tuple(
+            f"lite_base/src/future/{it}.rt" for it in ("budgeted", "either", "fuse", "or", "poll_once", "race", "zip", "try_zip")
+        ),
     },
     "stream": {
         "Sources": ("lite_source",),
@@ -44,9 +54,9 @@ GROUPS = {
         "Halves and journals": ("lite_halves",),
     },
     "framed": {
-        "Frames of a reader": ("framed",),
-        "Codecs": ("framed/src/length_delimited.rt", "framed/src/line_delimited.rt", "framed/src/frame_error.rt", "framed/src/prompt_decoder.rt"),
-        "Parts of a codec": ("framed/src/delimiter.rt", "framed/src/head.rt", "framed/src/hexadecimal.rt"),
+        "Frames of a reader": tuple(f"framed/src/{it}.rt" for it in ("collect", "framed_read", "next_frame", "send", "send_all")),
+        "Codecs": ("framed/src/length_delimited.rt", "framed/src/line_delimited.rt", "framed/src/frame_error.rt"),
+        "Parts of a codec": tuple(f"framed/src/{it}.rt" for it in ("delimiter", "head", "hexadecimal")),
         "Serving": ("framed/src/server.rt", "framed/src/service.rt", "framed/src/serve_error.rt"),
     },
     "laws": {
@@ -55,9 +65,6 @@ GROUPS = {
         "Laws as calls": ("lite_base", "lite_bridge", "lite_buffered", "lite_io_base"),
     },
 }
-EXTENSIONS = ("StreamExt", "FutureExt", "AsyncReadExt", "AsyncBufReadExt", "AsyncWriteExt", "AsyncSeekExt")
-# What the comment over a definition begins with that says nothing to a reader of a contract.
-FOR_THE_PROVER = "Always true."
 ABOUT_EXAMPLES = (
     "An example is the body of a function `fn example(rt: HostRuntime) -> Result<(), Fail>`: `rt` is the runtime that `main` is given, `Poll` is `futures_lite::Poll`, and `?` returns"
     " an allocation failure or an I/O error. `tools/tests` runs each of them. A function of an example that has an `ensures` is proved with no proof"
@@ -72,38 +79,54 @@ def laid_out(comment):
     return "\n\n".join(f"**{it.removeprefix('# ')}**" if it.startswith("# ") else it if re.match(r"[-*|`\d]", it) else wrapped(it) for it in parts)
 
 
-def linked(item, text, page=""):
-    """Returns a link to an item's entry, on the same page if none is named."""
-    return f"[{text}]({page}#{item.anchor})"
-
-
-def listed(item):
-    """Returns an item's line in the contents."""
-    return bullet(f"{linked(item, f'`{item.title}`')}{': ' if item.says else ''}{first_sentence(item.says)}")
-
 ABOUT_MARKS = (
-    "A mark is a trait that states a property of a type. `yes` means that a type has it, if the type's arguments meet the bounds of the impl. The type's"
-    " entry has the impl with its bounds. The entry of a mark says what the mark means. [TABLES](../TABLES.md#which-marks-a-type-carries) says more, and"
-    " has the rows of std's types."
+    "A mark is a trait that states a property of a type. A type's entry has the impl of each of its marks, whose bounds the type's arguments must meet. The"
+    " entry of a mark says what the mark means. [TABLES](../TABLES.md#which-marks-a-type-carries) says more, and has the rows of std's types."
 )
-# How a contract is read, for someone who has this page alone.
+# Words that stand in most contracts, so that no page lists them.
+IN_MOST = ("requires", "ensures", "result", "Self", "record", "entry", "old", "new", "now")
+# How a contract is read.
 ABOUT_CONTRACTS = "\n".join(
-    [
-        "In a contract:\n",
-        *map(
-            bullet,
-            (
-                "`≡` is equal, `×` and, `⊎` or, `¬` not, `A → B` if A then B, `⊤` true, `⊥` false.",
-                "`(x : A) → B` says that B holds for each `x` of the type A, and `(x : A) × B` that it holds for one. `_` stands for a type or a value"
-                " that is not named, and `{A = T}` says which type an argument of a definition is.",
-                "`[]`, `x ∷ xs` and `xs ++ ys` are lists, and `λ x. e` is a function. `p.0` and `p.1` are the parts of a pair.",
-                "`T.run` is a member of the type `T`, by a trait that it has. `F.FnMut` is the contract of the closures of the type `F`.",
-                "The words are explained below the contract, or under [Words of contracts](#words-of-contracts). A definition's comment names its"
-                " arguments as its own source does.",
-            ),
+    map(
+        bullet,
+        (
+            "`≡` is equal, `×` and, `⊎` or, `¬` not, `A → B` if A then B, `⊤` true, `⊥` false.",
+            "`(x : A) → B` says that B holds for each `x` of the type A, and `(x : A) × B` that it holds for one. `_` stands for a type or a value"
+            " that is not named, and `{A = T}` says which type an argument of a definition is.",
+            "`[]`, `x ∷ xs` and `xs ++ ys` are lists, and `λ x. e` is a function. `p.0` and `p.1` are the parts of a pair.",
+            "`T.run` is a member of the type `T`, by a trait that it has. `F.FnMut` is the contract of the closures of the type `F`.",
+            f"[These words]({relative(INDEX, STD)}) stand in most contracts: {', '.join(f'`{it}`' for it in IN_MOST)}.",
+            "What only guides the search for proofs is left out: words that are always true, as `Seen`, and where a search begins. The source has it. A"
+            " clause on what is written through a reference is a sentence below the contract.",
+            "A sentence under \"In words\" says what a clause says. In it, the items of a stream are those before its end, if it ends, and the value of a"
+            " future is what a wait for it returns, if it returns `Ok`. `bytes` are those that a reader will give, and `kept` those that a writer keeps.",
+            "Below the entries of a page stand its words, with links to their definitions. A definition names its arguments as its own source does.",
         ),
-    ]
+    )
 )
+# The parts of the index: how entries are read.
+ABOUT = f"""## How to read an entry
+
+{wrapped(ABOUT_EXAMPLES)}
+
+{wrapped(ABOUT_MARKS)}
+
+In a contract:
+
+{ABOUT_CONTRACTS}
+"""
+
+
+class Page:
+    """A page of docs/api: its module, its file, and the items that have an entry there."""
+
+    def __init__(self, module, file):
+        self.module, self.file, self.items = module, file, []
+        self.name = os.path.splitext(os.path.basename(file))[0]
+
+    def link(self, to, text, anchor=""):
+        """Returns a link from the page to a file or a heading of it."""
+        return f"[{text}]({relative(self.file, to, anchor)})"
 
 
 class Reference:
@@ -111,7 +134,7 @@ class Reference:
 
     def __init__(self, sources=None):
         self.sources = sources or Sources()
-        self.words = {(it.crate, it.module, it.name): it for crate in libraries() for it in definitions(crate)}
+        self.every = {(it.crate, it.module, it.name): it for crate in libraries() for it in definitions(crate)}
         self.pictures = pictures.by_item()
         # The marks of each type in the tables, by the trait that it has.
         self.tables = {}
@@ -136,45 +159,35 @@ class Reference:
         """Returns where the ghost names of a source are from."""
         return imported(self.sources.by_path[path].text)
 
-    def made_by(self, item):
-        """Returns the item that a call's result is made of."""
-        source = self.sources.by_path[item.path]
-        found = re.search(r"\) -> (.*?)(?: where |$)", item.head)
-        named = (self.sources.resolve(source, name) for name in re.findall(r"\w+", found[1] if found else ""))
-        return next((it for it in named if it and it.kind not in ("trait", "fn")), None)
-
     def group(self, item, module):
-        """Returns the group of an item on its module's page."""
+        """Returns the group of an item on its module's page; None if it fits none."""
         is_of_any = (item.owner or item).name.endswith("Ext")
         if item.kind == "trait" or item.owner and item.owner.kind == "trait" and not is_of_any:
             return TRAITS
-        made = self.made_by(item) if item.kind == "fn" and (not item.owner or is_of_any) else None
-        for at in filter(None, (made, item.owner, item)):
-            there = [(len(place), name) for name, places in GROUPS[module].items() for place in places if at.path.startswith(f"crates/{place}")]
+        for at in (self.sources.home(item, module), item):
+            place = f"{at.path} {at.name}".removeprefix("crates/")
+            there = [(len(start), name) for name, places in GROUPS[module].items() for start in places if place.startswith(start)]
             if there:
                 return max(there)[1]
-        return next(iter(GROUPS[module]))
+        return None
 
     def groups(self, module):
-        """Returns the items of a module's page by their groups: calls before types, each type with its methods."""
-        items = sorted(self.shown(module), key=lambda it: (is_type(it.owner or it), it.title.lower(), it.title))
+        """Returns the items of a module by their groups."""
+        items = sorted(self.shown(module), key=in_order)
         return {name: [it for it in items if self.group(it, module) == name] for name in (TRAITS, *GROUPS[module])}
 
-    def words_of(self, item):
-        """Returns the definitions that an item's contract names, but those that only guide the prover, and those that their comments name."""
-        names = dict.fromkeys(cited_in(item, self.names_in(item.path)))
-        found = [self.words[it] for it in names if it in self.words and it[1] not in PLAIN]
-        found = [it for it in found if not it.says.startswith(FOR_THE_PROVER)]
-        for word in found:
-            found += [it for it in self.named_in(word) if it not in found]
-        return found
+    def pages_of(self, module):
+        """Returns the pages of a module by their files, each with its items."""
+        pages = {}
+        for item in sorted(self.shown(module), key=in_order):
+            file = self.sources.page_of(item, module)
+            pages.setdefault(file, Page(module, file)).items.append(item)
+        return pages
 
-    @functools.cache
-    def named_in(self, word):
-        """Returns the definitions that a definition's comment names: those of its own file, and those that this imports."""
-        where = imported(read_text(f"{TOP}/{word.path}"))
-        at = [(*where.get(name, (word.crate, word.module)), name) for name in dict.fromkeys(re.findall(r"`([\w'-]+)`", word.says))]
-        return [self.words[it] for it in at if it in self.words and self.words[it] is not word]
+    def words_of(self, item):
+        """Returns the definitions that an item's contract names, but those that say nothing of one call."""
+        names = dict.fromkeys(cited_in(item, self.names_in(item.path)))
+        return [self.every[it] for it in names if it in self.every and it[1] not in PLAIN]
 
     def unexplained(self, item):
         """Returns the words of an item's contract that its entry does not explain; a member of a type with the dot before it."""
@@ -182,81 +195,109 @@ class Reference:
         return [it for it in unexplained(item, [word.name for word in self.words_of(item)]) if not self.sources.resolve(source, it)]
 
     def meaning(self, word, item):
-        """Returns what a page says of a word of an item's contract that its entry does not explain; None if nothing does."""
+        """Returns the definition of a word of an item's contract, or what is said of a word that has none; None if nothing explains it."""
         name = word.removeprefix(".")
         if name in legend():
             return legend()[name]
         at = self.names_in(item.path).get(word)
-        defined = at and self.words.get((*at, word))
-        if defined:
-            return f"{defined.says} ([{defined.module}](../../{defined.path}))"
+        if at and (*at, word) in self.every:
+            return self.every[*at, word]
         traits = {}
         for trait, says in members().get(name, ()):
             traits.setdefault(says, []).append(f"`{trait}`")
         return " ".join(f"Of the trait{'s' * (len(of) > 1)} {in_a_row(of)}: {says}" for says, of in traits.items()) or None
 
     def of_examples(self, item):
-        """Yields the words of the clauses in an item's examples that an example need not import, each with what a page says of it, if anything."""
+        """Yields the words of the clauses in an item's examples that an example need not import, each with what `meaning` says of it."""
         said = set(re.findall(r"[\w']+", " ".join(clause for it in item.examples for clause in CLAUSES.findall(it))))
         for where, words in GHOST.items():
             for word in (it for it in words if it in said):
-                own = None if where.startswith("Rattle.std.") else next((it for it in self.words.values() if it.name == word), None)
-                yield word, f"{own.says} ([{own.module}](../../{own.path}))" if own else legend().get(word)
+                own = None if where.startswith("Rattle.std.") else next((it for it in self.every.values() if it.name == word), None)
+                yield word, own or legend().get(word)
 
-    @functools.cache
-    def rows_of(self, module):
-        """Returns what the table of a page says of each word that its contracts and its examples have, and that their entries do not explain."""
-        rows = {word: says for it in self.shown(module) for word, says in self.of_examples(it)}
-        return rows | {word.removeprefix("."): self.meaning(word, it) for it in self.shown(module) for word in self.unexplained(it)}
+    def told(self, item):
+        """Returns what explains each word of an item's contract and of its examples."""
+        return {
+            **{it.name: it for it in self.words_of(item)},
+            **dict(self.of_examples(item)),
+            **{word.removeprefix("."): self.meaning(word, item) for word in self.unexplained(item)},
+        }
 
-    def legend_of(self, module):
-        """Returns the table of words of a page."""
-        rows = self.rows_of(module)
-        return table(["Word", "Meaning"], [[f"`{word}`", rows[word]] for word in sorted(rows, key=lambda it: (it.lower(), it)) if rows[word]])
+    @functools.cached_property
+    def words(self):
+        """The pages of words: the definitions that entries name, and the words that are none."""
+        found = [it for module in MODULES for item in self.shown(module) for it in self.told(item).items()]
+        others = {name: says for name, says in found if isinstance(says, str)}
+        return Words(self.every, [it for _, it in found if isinstance(it, Word)], others)
+
+    def legend_of(self, page):
+        """Yields the words of a page: definitions with their first sentences, then those that "In words" says, and the words of std and of the language."""
+        told = dict(sorted((it for item in page.items for it in self.told(item).items()), key=lambda it: (it[0].lower(), it[0])))
+        own = [it for name, it in told.items() if isinstance(it, Word) and name not in IN_WORDS]
+        if own:
+            yield "\n".join(bullet(f"{self.words.link(it, page.file)}: {first_sentence(it.says)}") for it in own)
+        if others := [self.words.link_from(page.file, name, it) for name, it in told.items() if it and it not in own and name not in IN_MOST]:
+            yield wrapped(f"{'Also ' if own else ''}{', '.join(others)}.")
 
     def faults(self):
+        """Yields each word of a contract that nothing explains, each explanation that is of no word, and what an entry or an index would lack."""
+        yield from self.faults_of_words()
+        for module in MODULES:
+            for item in self.shown(module):
+                for what in self.faults_of_item(item, module):
+                    yield f"{item.path}:{item.line}", what
+
+    def faults_of_words(self):
         """Yields each word of a contract that nothing explains, and each explanation that is of no word."""
         used = set()
         for module in MODULES:
             for title, item in self.sources.items_of(module).items():
-                told = {**{word: self.meaning(word, item) for word in self.unexplained(item)}, **dict(self.of_examples(item))}
-                used.update(word.removeprefix(".") for word in told)
+                told = self.told(item)
+                # (tools/find tells also what a source has and no page)
+                used.update([*told, *re.findall(NAME, "\n".join(item.gives))])
                 for word, says in told.items():
                     if not says:
                         yield f"{item.path}:{item.line}", f"nothing explains the word {word} of the contract of `{module}::{title}`; {LEGEND} may"
-            for item in filter(is_type, self.shown(module)):
-                for mark in self.marks_of(item):
-                    if not self.heads.get((mark, self.based(item))):
-                        yield f"{item.path}:{item.line}", f"the impl of {mark} for `{module}::{item.name}` is not found"
         for word in legend():
             if word not in used:
                 yield LEGEND, f"no contract of docs/api has the word {word}"
+
+    def faults_of_item(self, item, module):
+        """Yields what an item's entry, or the index of a module, would lack."""
+        if not self.group(item, module):
+            yield f"`{module}::{item.title}` fits no group of docs/api (GROUPS in tools/reference.py)"
+        for mark in self.marks_of(item) if is_type(item) else ():
+            if not self.heads.get((mark, self.based(item))):
+                yield f"the impl of {mark} for `{module}::{item.name}` is not found"
+        if any("(Lends" in it and not WRITES_BACK.search(it) for it in item.gives):
+            yield f"docs/api does not say what is written through the result of `{module}::{item.title}`"
 
     def pages_with(self, item):
         """Returns the modules on whose pages an item has an entry."""
         return [module for module in MODULES if any(it is item for it in self.shown(module))]
 
-    def link_from(self, module, item, text):
-        """Returns a link to an item from a page, on the same page if it has an entry there; None if no page has one."""
+    def link_from(self, page, item, text):
+        """Returns a link from a page to an item's entry, in its own module if that has one; None if no page has one."""
         there = self.pages_with(item)
-        return there and (linked(item, text) if module in there else linked(item, text, f"{there[0]}.md")) or None
+        module = page.module if page.module in there else there[0] if there else None
+        return module and page.link(self.sources.page_of(item, module), text, item.anchor)
 
     def meant(self, text, path, item, module):
-        """Returns the item that a link in an item's comment means: by its path, by its name on the page, or by its name in the source."""
+        """Returns the item that a link in an item's comment means: by its path, by its name in the module, or by its name in the source."""
         name, last = text.rstrip("()"), "::".join((path or text).rstrip("()").split("::")[-2:])
         items = {it.title: it for it in self.shown(module)}
         titles = (last, name, *(f"{ext}::{name}" for ext in EXTENSIONS), f"{(item.owner or item).name}::{name}")
         source = self.sources.by_path[item.path]
         return next((items[it] for it in titles if it in items), None) or self.sources.resolve(source, name) or self.sources.resolve(source, last.rpartition("::")[2])
 
-    def with_links(self, comment, item, module):
+    def with_links(self, comment, item, page):
         """Returns an item's comment with links to the entries of the items that it links to, and of the marks that it names."""
 
         def entry(found):
-            it = self.meant(found[1], found[2], item, module)
-            return it and self.link_from(module, it, f"`{found[1]}`") or f"`{found[1]}`"
+            it = self.meant(found[1], found[2], item, page.module)
+            return it and self.link_from(page, it, f"`{found[1]}`") or f"`{found[1]}`"
 
-        return re.sub(r"(?<!\[)`(\w+)`", lambda it: self.mark_link(it[1], module) if it[1] in self.law_marks() else it[0], LINKED.sub(entry, comment))
+        return re.sub(r"(?<!\[)`(\w+)`", lambda it: self.mark_link(it[1], page) if it[1] in self.law_marks() else it[0], LINKED.sub(entry, comment))
 
     @functools.cache
     def law_marks(self):
@@ -264,18 +305,18 @@ class Reference:
         marks = {mark for rows in self.tables.values() for _, marks in rows for mark in marks}
         return {name: it for name, it in self.sources.items_of("laws").items() if name in marks}
 
-    def mark_link(self, mark, module):
+    def mark_link(self, mark, page):
         """Returns a link from a page to the entry of a mark."""
-        items = {name: it for page in MODULES for name, it in self.sources.items_of(page).items()}
-        return mark in items and self.link_from(module, items[mark], f"`{mark}`") or f"`{mark}`"
+        items = {name: it for module in MODULES for name, it in self.sources.items_of(module).items()}
+        return mark in items and self.link_from(page, items[mark], f"`{mark}`") or f"`{mark}`"
 
     @functools.cache
     def makers(self, item, module):
-        """Returns the calls on a page whose results are made of a type."""
-        return [it for it in self.shown(module) if it.kind == "fn" and it.owner is not item and self.made_by(it) is item]
+        """Returns the calls of a module whose results are made of a type."""
+        return [it for it in self.shown(module) if it.kind == "fn" and it.owner is not item and self.sources.made_by(it) is item]
 
     def says_of(self, item, module):
-        """Returns an item's comment; that of a type names each call on the page that returns it."""
+        """Returns an item's comment; that of a type names each call of the module that returns it."""
         made = MAKERS.search(item.says) if is_type(item) else None
         calls = self.makers(item, module) if made else []
         if not calls:
@@ -303,7 +344,7 @@ class Reference:
         source = self.sources.by_path[item.path]
         found = re.search(rf"\bModel for {item.name}\b.*?ghost Value = \{{ (\w+)", source.text, re.S)
         at = found and self.names_in(item.path).get(found[1])
-        word = at and self.words.get((*at, found[1]))
+        word = at and self.every.get((*at, found[1]))
         return word if word and fields_of_record(word) else None
 
     def fields_of(self, item):
@@ -355,96 +396,100 @@ class Reference:
         found = (mark for kind in properties.PROPERTIES for marks in self.tables[kind] if self.impls.get((kind, marks[0])) is item for mark in marks[1])
         return list(dict.fromkeys(found))
 
-    def about_result(self, item, module):
-        """Yields what a page says of the type that a call returns, in the call's entry."""
-        made = self.made_by(item)
-        if made and made.kind in ("struct", "type") and made is not item.owner and self.sources.items_of(module).get(made.name) is made:
-            says = re.sub(r"(?:Returned|Made) by [^.]*\.\s?", "", made.says)
-            yield laid_out(f"{linked(made, f'`{made.name}`')}: {self.with_links(says, made, module)}")
-            yield from self.about_marks(made, module)
-        elif made and made is item.owner and module in self.pages_with(made):
-            yield f"Type of the result: {linked(made, f'`{made.name}`')}."
+    def about_result(self, item, page):
+        """Yields a link from a call's entry to that of the type that it returns, which has the type's marks."""
+        made = self.sources.made_by(item)
+        if made and made.kind in ("struct", "type") and self.pages_with(made):
+            marks = ", with its marks" if self.marks_of(made) and made is not item.owner else ""
+            yield f"Type of the result{marks}: {self.link_from(page, made, f'`{made.name}`')}."
 
-    def about_marks(self, item, module, is_own=False):
-        """Yields which marks a type may have; in its own entry each with the impl."""
+    def about_marks(self, item, page):
+        """Yields which marks a type may have, each with the impl."""
         marks, base = self.marks_of(item), self.based(item)
-        there = self.pages_with(base)
-        if marks and there:
-            section = f"{'' if module in there else f'{there[0]}.md'}#marks"
-            alias = "" if base is item else f" It is an alias of {self.link_from(module, base, f'`{base.name}`')}, whose entry has the impls."
-            links = ", ".join(self.mark_link(it, module) for it in marks)
+        if marks and self.pages_with(base):
+            about = page.link(INDEX, "Marks", "how-to-read-an-entry")
+            links = ", ".join(self.mark_link(it, page) for it in marks)
             heads = [(mark, head) for mark in marks for head in self.heads.get((mark, base), ())]
-            if "<" not in base.head:
-                yield wrapped(f"[Marks]({section}) of `{item.name}`: {links}.{alias}")
-            elif is_own and base is item and heads:
-                yield f"[Marks]({section}) of `{item.name}`, each with its impl, whose bounds the type arguments must meet:"
-                yield "\n".join(f"- {self.mark_link(mark, module)}: `{head}`" for mark, head in heads)
+            if base is not item:
+                yield wrapped(f"{about}: {links}, as {self.link_from(page, base, f'`{base.name}`')} has them, whose alias it is.")
+            elif "<" not in base.head:
+                yield wrapped(f"{about}: {links}.")
             else:
-                given = f"It has {'it' if len(marks) == 1 else 'each of them'} if its type arguments meet the bounds of the impl"
-                where = "" if alias else f", in {self.link_from(module, base, 'its entry')}"
-                yield wrapped(f"[Marks]({section}) of `{item.name}`: {links}. {given}{where}.{alias}")
+                yield f"{about}, each with its impl:"
+                yield "\n".join(f"- {self.mark_link(mark, page)}: `{head}`" for mark, head in heads)
 
-    def about_fields(self, item, module):
-        """Yields the fields of a type that contracts on the page name; of a type that has a model, the model's."""
+    def about_fields(self, item, page):
+        """Yields the fields of a type that contracts of the module name; of a type that has a model, the model's."""
         model = item.kind == "struct" and self.model_of(item)
         if model:
             told = ", ".join(f"`{name}: {of}`" for name, of in fields_of_record(model).items())
-            there = f"`{model.name}` ([{model.module}](../../{model.path}))"
+            there = f"`{model.name}` ({page.link(model.path, model.module)})"
             yield wrapped(f"Fields that contracts name: {told}. They are those of its model {there}: {model.says}")
             return
-        told = self.fields_of_alias(item, module) if item.kind == "type" else self.fields_named(item, module)
+        told = self.fields_of_alias(item, page) if item.kind == "type" else self.fields_named(item, page.module)
         if told:
             yield wrapped(f"Fields that contracts name: {', '.join(told)}.")
 
     def fields_named(self, item, module):
-        """Returns the fields of a type that contracts on a page name."""
+        """Returns the fields of a type that contracts of a module name."""
         names = [it for it in self.shown(module) if self.based(it) is item]
         calls = [*(call for it in names for call in self.makers(it, module)), *self.sources.methods.get(item, ())]
         named = {name for it in calls for name in re.findall(r"(?<=\.)\w+|\w+(?= = )", text_of(it))}
         return [f"`{name}: {of}`" for name, of in self.fields_of(item).items() if name in named]
 
-    def fields_of_alias(self, item, module):
-        """Returns the fields that contracts on a page name of the type that an alias is for, and of those that this is made of."""
+    def fields_of_alias(self, item, page):
+        """Returns the fields that contracts of a page's module name of the type that an alias is for, and of those that this is made of."""
         alias, base = ALIAS.match(item.head), self.based(item)
         given = (alias and alias["arguments"] or "")[1:-1]
         parameters = [it.partition(":")[0] for it in arguments((re.search(r"<(.*)>", base.head) or ["", ""])[1])]
         of = dict(zip(parameters, arguments(given)))
-        found = dict.fromkeys(it for call in self.makers(item, module) for it in self.fields_in(call))
+        found = dict.fromkeys(it for call in self.makers(item, page.module) for it in self.fields_in(call))
         typed = {name: of.get(it, it) for name, it in self.fields_of(base).items()}
         own = [f"`{name}: {typed[name]}`" for type_, name in found if type_ is base]
         inner = [it for it in found if it[0] in self.types_in(item, given)]
-        return [*own, *self.by_type(inner, module, "its ")]
+        return [*own, *self.by_type(inner, page, "its ")]
 
-    def by_type(self, found, module, whose=""):
+    def by_type(self, found, page, whose=""):
         """Returns fields of types, those of one type together, with a link to its entry."""
         types = {}
         for type_, name in found:
             types.setdefault(type_, []).append(f"`{name}: {self.fields_of(type_)[name]}`" if type_ else f"`{name}`")
-        owners = {it: f"{whose}{self.link_from(module, it, f'`{it.name}`') or f'`{it.name}`'}" if it else "a private type" for it in types}
+        owners = {it: f"{whose}{self.link_from(page, it, f'`{it.name}`') or f'`{it.name}`'}" if it else "a private type" for it in types}
         return [f"{in_a_row(names)} of {owners[it]}" for it, names in types.items()]
 
-    def about_words(self, item, module):
-        """Yields what some words of an item's contract mean in it: fields of the library's types, if the page's table says something else of them or
-        if no entry of the page has the type, and members of the item's own trait, if the table says something else of them."""
-        rows = self.rows_of(module)
-        differs = {it for it in rows if it not in WITH_MEANING}
-        shown = [it for it in self.fields_in(item) if it[1] in differs or it[0] and module not in self.pages_with(it[0])]
+    def about_words(self, item, page):
+        """Yields what some words of an item's contract mean in it: fields of the library's types, if another word has the name or if the page has no
+        entry of the type, and members of the item's own trait, if another word has the name."""
+        differs = {it for it in self.words.others if it not in WITH_MEANING}
+        there = [self.based(it) for it in page.items]
+        shown = [it for it in self.fields_in(item) if it[1] in differs or it[0] and it[0] not in there]
         if shown:
-            yield wrapped(f"Field{'s' * (len(shown) > 1)} in this contract: {', '.join(self.by_type(shown, module))}.")
+            yield wrapped(f"Field{'s' * (len(shown) > 1)} in this contract: {', '.join(self.by_type(shown, page))}.")
         trait = item.owner.name if item.owner and item.owner.kind == "trait" else None
         for word in dict.fromkeys(re.findall(NAME, text_of(item))) if trait else ():
             says = dict(members().get(word, ())).get(trait)
             if says and word in legend():
                 yield wrapped(f"`{word}` is the member of `{trait}`: {says}")
 
-    def about_types(self, item, module):
-        """Yields links to the types and the traits of other pages that an item's signature names."""
-        source = self.sources.by_path[item.path]
-        found = filter(None, (self.sources.resolve(source, it) for it in dict.fromkeys(re.findall(r"[A-Z]\w*", f"{item.head} {item.impl}"))))
-        pages = [(self.pages_with(it), it) for it in found]
-        links = [linked(it, f"`{there[0]}::{it.title}`", f"{there[0]}.md") for there, it in pages if there and module not in there]
+    def about_types(self, item, page):
+        """Yields links to the types and the traits on other pages that an item's signature names, but the type of its result."""
+        others = [it for it in self.named_by(item) if it not in page.items and it is not self.sources.made_by(item) and self.pages_with(it)]
+        links = [self.link_from(page, it, f"`{'' if page.module in self.pages_with(it) else f'{self.pages_with(it)[0]}::'}{it.title}`") for it in others]
         if links:
-            yield wrapped(f"From other modules: {', '.join(links)}.")
+            yield wrapped(f"In the signature: {', '.join(links)}.")
+
+    def about_laws(self, item, page):
+        """Yields links from a type to the calls of `laws` whose signatures name it: their contracts say more of it."""
+        found = [it for it in self.shown("laws") if it.kind == "fn" and it not in page.items and item in self.named_by(it)]
+        if is_type(item) and found:
+            yield wrapped(f"More is proved by {in_a_row([self.link_from(page, it, f'`laws::{it.title}`') for it in found])}.")
+
+    @functools.cache
+    def named_by(self, item):
+        """Returns the items that a signature names."""
+        source = self.sources.by_path[item.path]
+        found = (self.sources.resolve(source, it) for it in dict.fromkeys(re.findall(r"[A-Z]\w*", f"{item.head} {item.impl}")))
+        return [it for it in found if it]
 
     def about_borrows(self, item):
         """Yields what the clauses of an item on a borrow in its result say, in words."""
@@ -455,75 +500,101 @@ class Reference:
             elif after := AFTERWARDS.search(clause):
                 yield wrapped(f"`{after[1]}` is about `self` once the borrow in `result` has ended: `new` is its value then.")
 
-    def entry(self, item, module):
+    def entry(self, item, page):
         """Returns the part of a page that is an item's."""
         head = textwrap.fill(item.head, WIDTH - 4, subsequent_indent="    ")
         within = [f"{item.impl} {{", textwrap.indent(head, "    "), "}"] if item.impl else [head]
-        parts = [f"### {item.heading}", code([f"{head} {{", *map(plain, item.variants), "}"] if item.variants else within)]
-        parts += self.about_types(item, module)
-        parts += [laid_out(self.with_links(self.says_of(item, module), item, module))] if item.says else []
-        parts += self.about_result(item, module) if item.kind == "fn" else self.about_fields(item, module)
-        parts += self.about_marks(item, module, is_own=True) if item.kind != "fn" else []
+        parts = [f"## {item.heading}", code([f"{head} {{", *map(plain, item.variants), "}"] if item.variants else within)]
+        parts += self.about_types(item, page)
+        parts += [laid_out(self.with_links(self.says_of(item, page.module), item, page))] if item.says else []
+        parts += self.about_result(item, page) if item.kind == "fn" else self.about_fields(item, page)
+        parts += [*self.about_marks(item, page), *self.about_laws(item, page)] if item.kind != "fn" else []
+        others = [self.link_from(page, it, f"`{it.name}`") for it in self.parts_of(item, page.module) if it not in page.items]
+        parts += [wrapped(f"Methods: {', '.join(others)}.")] if others else []
         parts += [f"Example:\n\n{code([it], 'rust')}" for it in item.examples]
-        picture = self.pictures.get(f"{module}::{item.title}")
-        parts += [f"Polled so (`P` is `Pending`, `E` the end of the stream):\n\n{code(picture.lines())}\n\nThe same [as a picture](../{picture.file})."] if picture else []
-        parts += [f"Contract:\n\n{code([*item.asks, *item.gives])}"] if item.asks or item.gives else []
-        parts += [*self.about_borrows(item), *self.about_words(item, module)]
-        words = [bullet(f"`{it.name}` ([{it.module}](../../{it.path})): {it.says}") for it in self.words_of(item)]
-        parts += ["\n".join(words)] if words else []
-        return "\n\n".join([*parts, f"Code: [{item.path}](../../{item.path})."])
+        polls = self.pictures.get(f"{page.module}::{item.title}")
+        parts += [f"Polled so (`P` is `Pending`, `E` the end of the stream):\n\n{code(polls.lines())}"] if polls else []
+        if clauses := clauses_of(item):
+            parts += ["\n".join(["In words:\n", *map(bullet, sentences(item))])] if sentences(item) else []
+            parts += [f"Contract:\n\n{code(clauses)}"]
+        parts += [*self.about_borrows(item), *self.about_words(item, page)]
+        return "\n\n".join([*parts, f"Code: {page.link(item.path, item.path)}."])
 
-    def marks(self, module):
-        """Yields the tables of the marks of a module's types, each row with its type's entry, and then the aliases of the types."""
-        items = {id(it): it for it in self.sources.items_of(module).values()}
-        for head, *rows in tables_of_marks():
-            found = [(self.impls.get((head[0].strip("`"), re.match(r"\w*", row[0].strip("`"))[0])), row) for row in rows]
-            here = [[linked(it, row[0]), *row[1:]] for it, row in found if id(it) in items]
-            if here:
-                heads = [head[0], *(self.mark_link(it.strip("`"), module) for it in head[1:])]
-                yield "\n".join(f"| {' | '.join(row)} |" for row in [heads, ["---"] * len(heads), *here])
-            for type_ in (it for it, _ in found if id(it) in items):
-                names = [it for it in items.values() if it is not type_ and self.based(it) is type_]
-                if names:
-                    yield wrapped(f"The row of `{type_.name}` is also that of its aliases: {', '.join(linked(it, f'`{it.name}`') for it in names)}.")
+    def page(self, page):
+        """Returns the text of a page."""
+        index, about = page.link(index_of(page.module), "Index"), page.link(INDEX, "How to read an entry", "how-to-read-an-entry")
+        parts = [WRITTEN.rstrip(), f"# `{called(page.module)}`: {page.name}", f"{index}. {about}."]
+        parts += [self.entry(it, page) for it in page.items]
+        words = list(self.legend_of(page))
+        return "\n\n".join([*parts, *(["## Words", *words] if words else [])]) + "\n"
 
-    def page(self, module):
-        source = self.sources.source_of(module)
-        parts = [f"# `{called(module)}`", source.text.splitlines()[0].removeprefix("//! "), wrapped(ABOUT_EXAMPLES), ABOUT_CONTRACTS, "## Contents"]
-        groups = {name: items for name, items in self.groups(module).items() if items}
-        for name, items in groups.items():
-            parts.append("\n".join([f"**{name}**\n", *map(listed, items)]))
-        for name, items in groups.items():
-            parts += [f"## {name}", *(self.entry(it, module) for it in items)]
-        parts += ["## Words of contracts", self.legend_of(module).rstrip()]
-        marks = list(self.marks(module))
-        about = wrapped(ABOUT_MARKS)
-        return "\n\n".join([*parts, *(["## Marks", about, *marks] if marks else [])]) + "\n"
+    def listed(self, item, page):
+        """Returns an item's line in the index of its module, with its methods."""
+        says = f"{self.link_from(page, item, f'`{item.title}`')}{': ' if item.says else ''}{first_sentence(item.says)}"
+        parts = [self.link_from(page, it, f"`{it.name}`") for it in self.parts_of(item, page.module)]
+        return bullet(f"{says} With {in_a_row(parts)}." if parts else says)
+
+    def parts_of(self, item, module):
+        """Returns the methods of a type, and the methods and types of a trait, that have entries."""
+        is_of_any = item.name in EXTENSIONS
+        return [] if is_of_any else sorted((it for it in self.shown(module) if it.owner is item), key=in_order)
+
+    def index_of(self, module):
+        """Returns the index of a module: its items by their groups, a call in the place that the original's documentation has for it."""
+        page = Page(module, index_of(module))
+        parts = [WRITTEN.rstrip(), f"# `{called(module)}`", self.about(module)]
+        for name, items in self.groups(module).items():
+            whole = [it for it in items if not (it.owner and it.owner.name not in EXTENSIONS)]
+            results = [it for it in whole if is_type(it) and MAKERS.search(it.says) and not self.parts_of(it, module)]
+            lines = [self.listed(it, page) for it in whole if it not in results]
+            lines += [bullet(f"Types of results: {', '.join(self.link_from(page, it, f'`{it.name}`') for it in results)}.")] if results else []
+            parts += [f"## {name}", "\n".join(lines)] if lines else []
+        return "\n\n".join(parts) + "\n"
+
+    def about(self, module):
+        """Returns what a module says of itself."""
+        return wrapped(self.sources.source_of(module).text.splitlines()[0].removeprefix("//! "))
 
     def index(self):
-        """Returns the page that lists the others."""
-        told = {module: self.sources.source_of(module).text.splitlines()[0].removeprefix("//! ") for module in filter(self.sources.items_of, MODULES)}
-        rows = "\n".join(bullet(f"[`{called(module)}`]({module}.md): {says}") for module, says in told.items())
-        return f"# {FACADE} {version()}\n\nThe public items, each with its contract:\n\n{rows}\n"
+        """Returns the page that lists the modules, and says how entries are read."""
+        rows = [f"[`{called(module)}`]({relative(INDEX, index_of(module))}): {self.about(module)}" for module in filter(self.sources.items_of, MODULES)]
+        rows.append(f"[Words of contracts]({relative(INDEX, words.INDEX)}): their definitions.")
+        listed = "\n".join(map(bullet, rows))
+        names = "\n\n".join(["## All names", *self.all_names()])
+        return f"{WRITTEN}\n# {FACADE} {version()}\n\nThe public items, each with its contract, by their modules:\n\n{listed}\n\n{ABOUT}\n{names}\n"
+
+    def all_names(self):
+        """Yields links to all calls, types and traits, but methods of types and of traits, in the order of their names: a paragraph for each letter."""
+        page = Page("", INDEX)
+        items = [(it, module) for module in MODULES for it in self.shown(module) if not it.owner or it.owner.name in EXTENSIONS]
+        items.sort(key=lambda it: (it[0].name.lower(), it[1], it[0].title))
+        for _, there in itertools.groupby(items, key=lambda it: it[0].name[0].lower()):
+            yield wrapped(", ".join(page.link(self.sources.page_of(it, module), f"`{module}::{it.title}`", it.anchor) for it, module in there))
 
     def pages(self):
-        """Yields the path of each page and each picture, and its text."""
+        """Yields the path of each page, and its text."""
         yield INDEX, self.index()
         for module in filter(self.sources.items_of, MODULES):
-            yield f"docs/api/{module}.md", self.page(module)
-        for picture in self.pictures.values():
-            yield f"docs/{picture.file}", picture.svg()
+            yield index_of(module), self.index_of(module)
+            for file, page in self.pages_of(module).items():
+                yield file, self.page(page)
+        yield from self.words.pages()
+
+
+def index_of(module):
+    """Returns the file of a module's index."""
+    return f"docs/api/{module}/README.md"
+
+
+def in_order(item):
+    """Returns the place of an item among those of its group: calls before types, a method of every stream or reader as its trait has it."""
+    is_of_any = item.owner and item.owner.name in EXTENSIONS
+    return is_type(item.owner or item), bool(is_of_any), item.line if is_of_any else 0, item.title.lower(), item.title
 
 
 def tables_of_marks():
     """Returns the tables of marks, each with its head, as cells."""
     return [properties.rows(kind) for kind in properties.PROPERTIES]
-
-
-def in_a_row(texts):
-    """Returns the texts with commas between them, and `and` before the last."""
-    *most, last = texts
-    return f"{', '.join(most)} and {last}" if most else last
 
 
 @functools.cache

@@ -6,10 +6,16 @@ import re
 import textwrap
 
 from repository import BESIDE, FACADE, TOP, files_of, read_text
-from vocabulary import libraries
+from vocabulary import libraries, snake
 
 # The modules of the facade, and the crates beside it.
 MODULES = ("future", "stream", "io", "laws", *BESIDE)
+
+
+def relative(here, to, anchor=""):
+    """Returns how a link in a file names another file, or a heading of one; of the file itself the heading alone."""
+    file = "" if here == to else os.path.relpath(to, os.path.dirname(here))
+    return f"{file}#{anchor}" if anchor else file
 
 
 def called(module):
@@ -24,6 +30,14 @@ USE = re.compile(r"^(?P<public>pub )?use (?P<tree>[^;]*);", re.M | re.S)
 # The parameters of an impl, which may hold arguments of their own.
 PARAMETERS = re.compile(r"^<(?:[^<>]|<(?:[^<>]|<[^<>]*>)*>)*>")
 EXAMPLES = "# Examples"
+# What stands behind the public fields of a struct that has others.
+MORE_FIELDS = "    // some fields are private"
+# The traits that every stream, future, reader or writer has.
+EXTENSIONS = ("StreamExt", "FutureExt", "AsyncReadExt", "AsyncBufReadExt", "AsyncWriteExt", "AsyncSeekExt")
+# The sentence of a type's comment that says which calls return it.
+MAKERS = re.compile(r"(Returned|Made) by \[`[^.]*\.")
+# How many methods of a type are too many for one page of docs/api.
+MANY = 9
 # A link in a comment.
 LINKED = re.compile(r"\[`([^`]*)`\](?:\(([^)]*)\))?")
 
@@ -42,9 +56,10 @@ class Item:
         made = re.search(r"(?:Made|Returned) by \[`(?:\w+::)*(\w+)`\]", self.says)
         self.made_by = made and made[1]
         self.asks, self.gives = ([it for it in clauses(said) if it.startswith(word)] for word in ("requires", "ensures"))
-        # The variants of an enum, or the ghost members of a trait, with their comments; of a method the head of the impl that it stands in, with its bounds.
+        # The variants of an enum, the public fields of a struct, or the ghost members of a trait, with their comments; of a method the head of the impl
+        # that it stands in, with its bounds.
         self.variants, self.impl = [], ""
-        # The fields of a struct, with their types.
+        # All fields of a struct, with their types.
         self.fields = {}
 
     @property
@@ -143,16 +158,25 @@ def field_in(line):
     return found and found.groups()
 
 
-def ghosts_in(lines):
-    """Returns the lines of the ghost members of a trait, each with its comment."""
+def with_comments(lines, is_shown):
+    """Returns the lines of a block that are shown, each with the comment over it."""
     found, comment = [], []
     for line in lines:
         comment = [*comment, line] if line.startswith("    ///") else comment
-        if line.startswith("    ghost ") and not line.startswith("    ghost use "):
+        if is_shown(line):
             found += [*comment, line]
         if not line.startswith("    ///"):
             comment = []
     return found
+
+
+def is_ghost(line):
+    """Tells whether a line of a trait declares a ghost member."""
+    return line.startswith("    ghost ") and not line.startswith("    ghost use ")
+
+
+def is_public_field(line):
+    return line.startswith("    pub ") and bool(field_in(line))
 
 
 def block_below(lines, at):
@@ -200,9 +224,12 @@ def items_in(path, lines):
                 if item.kind == "enum":
                     item.variants = block_below(lines, at)
                 if item.kind == "trait" and lines[at].endswith("{"):
-                    item.variants = ghosts_in(block_below(lines, at))
+                    item.variants = with_comments(block_below(lines, at), is_ghost)
                 if item.kind == "struct" and lines[at].endswith("{"):
                     item.fields = dict(filter(None, map(field_in, block_below(lines, at))))
+                    item.variants = with_comments(block_below(lines, at), is_public_field)
+                    if item.variants and len(item.fields) > sum(map(is_public_field, item.variants)):
+                        item.variants.append(MORE_FIELDS)
                 item.impl = impl if inner else ""
                 yield item, block if inner else None
             comment = []
@@ -277,3 +304,32 @@ class Sources:
         for it in found:
             it.module = module
         return {it.title: it for it in sorted(found, key=lambda it: (it.title.lower(), it.title))}
+
+    def made_by(self, item):
+        """Returns the item that a call's result is made of."""
+        source = self.by_path[item.path]
+        found = re.search(r"\) -> (.*?)(?: where |$)", item.head)
+        named = (self.resolve(source, name) for name in re.findall(r"\w+", found[1] if found else ""))
+        return next((it for it in named if it and it.kind not in ("trait", "fn")), None)
+
+    def home(self, item, module):
+        """Returns the item that another one of a module belongs to: the type that it returns, if that names its calls, or its type or trait."""
+        if item.owner and item.owner.name not in EXTENSIONS:
+            return item.owner
+        made = self.made_by(item) if item.kind == "fn" else None
+        return made if made and MAKERS.search(made.says) and self.items_of(module).get(made.name) is made else item
+
+    def page_of(self, item, module):
+        """Returns the page of docs/api that has an item's entry: that of the call, of the type or of the trait that the item belongs to. Of a type with many
+        methods each has a page of its own."""
+        home = self.home(item, module)
+        if item.owner is home and len(self.methods[home]) >= MANY:
+            return f"docs/api/{module}/{snake(home.name)}_{item.name}.md"
+        name = snake(home.name)
+        short = name.removesuffix("_future")
+        is_of_call = any(it.kind == "fn" and it.name == short for it in self.items_of(module).values())
+        return f"docs/api/{module}/{short if is_of_call else name}.md"
+
+    def link_to(self, item, here, text):
+        """Returns a link from a file to the entry of an item of the module that was looked through last."""
+        return f"[{text}]({relative(here, self.page_of(item, item.module), item.anchor)})"

@@ -3,14 +3,17 @@ import glob
 import os
 import re
 
+from contracts import printed
 from repository import TOP, read_text
 
-ENTRY = re.compile(r"^### (?P<kind>\w+) `(?P<title>[\w:]+)`\n(?P<text>.*?)(?=^###? |\Z)", re.M | re.S)
+ENTRY = re.compile(r"^## (?P<kind>\w+) `(?P<title>[\w:]+)`\n(?P<text>.*?)(?=^## |\Z)", re.M | re.S)
 CODE = re.compile(r"^Code: \[(crates/[\w/.]+)\]", re.M)
 EXAMPLE = re.compile(r"^Example:\n\n```rust\n(.*?)^```$", re.M | re.S)
 CONTRACT = re.compile(r"^Contract:\n\n```text\n(.*?)^```$", re.M | re.S)
-DEFINITION = re.compile(r"^- `(?P<name>[^`]+)`\s\(\[(?P<module>[^\]]+)\]\(\.\./\.\./(?P<path>[^)]+)\)\):\s?(?P<says>.*(?:\n  .*)*)$", re.M)
-MARK = re.compile(r"^\| \[`?(?P<type>\w+)[^\]]*\]\(#(?P<anchor>[\w-]+)\) \|", re.M)
+# A word of a page, and its definition on the page that the link leads to.
+WORD = re.compile(r"\[`(?P<name>[^`]+)`\]\((?P<file>\.\./words/\w+/[^)#]+\.md)#[^)]*\)(?::\s(?P<says>(?:.*(?:\n  .*)*)))?")
+DEFINITION = re.compile(r"^## `(?P<name>[^`]+)`\n\n(?:\(`[\w.]+`\)\s)?(?P<says>.*?)\n(?=\n## |\Z)", re.M | re.S)
+SOURCE = re.compile(r"\[Source\]\((?:\.\./)+(?P<path>[^)]+)\)")
 MADE_BY = re.compile(r"(?:Made|Returned) by `(?:\w+::)*(\w+)`")
 
 
@@ -54,49 +57,61 @@ class Entry:
                 yield "its example does not call it"
         if self.contract and not self.is_whole():
             yield "its contract is not what stands between its signature and its body"
-        told = list(DEFINITION.finditer(self.text))
-        for found in told:
-            others = " ".join(it["says"] for it in told if it is not found)
-            if not (self.is_meant(found) or f"`{found['name']}`" in others and self.is_in_its_file(found)):
-                yield f"the definition of {found['name']} is not one that its contract means or that another definition names"
 
     def is_whole(self):
         """Tells whether the contract stands in the source, from the signature's end to the body or the next item."""
-        source, said = bare(self.code), bare(self.contract)
+        source, said = bare(printed(self.code)), bare(self.contract)
         at = source.find(said)
         return at > 0 and source[at + len(said)] in "{;" and not re.search(r"(?:requires|ensures)\w*\{[^{}]*\}$", source[:at])
 
-    def is_in_its_file(self, found):
-        """Tells whether a definition stands in its file with the comment that is told."""
-        name = re.escape(found["name"])
-        spec = read_text(f"{TOP}/{found['path']}") if os.path.isfile(f"{TOP}/{found['path']}") else ""
-        above = re.search(rf"((?:^ *--.*\n)*)^ *(?:pub )?(?:abbrev|unfoldable|record|data) (?:pub )?(?:record |data )?{name}(?=[\s:({{])", spec, re.M)
-        return above and " ".join(line.lstrip(" -") for line in above[1].splitlines()) == " ".join(found["says"].split())
-
-    def is_meant(self, found):
-        """Tells whether a definition stands in its file, and the contract names it and the contract's source imports it from there."""
-        crate, _, module = found["path"].removeprefix("crates/").removesuffix(".antt").partition("/specs/")
-        module, name = module.replace("/", "."), re.escape(found["name"])
+    def means(self, name, path):
+        """Tells whether the contract, or an example, names a definition, and the source or one with its clauses imports it from its file."""
+        crate, _, module = path.removeprefix("crates/").removesuffix(".antt").partition("/specs/")
+        module, name = module.replace("/", "."), re.escape(name)
         uses = f"{TOP}/crates/{self.path.split('/')[1]}/specs/Uses.antt"
         imports = self.code + (read_text(uses) if os.path.isfile(uses) else "")
         named = rf"use Rattle\.{crate}\.specs\.{re.escape(module)}\.\{{[^}}]*(?<![\w'-]){name}(?![\w'-])"
         by_facade = rf"use Rattle\.futures_lite\.specs\.[\w.]+\.\{{[^}}]*(?<![\w'-]){name}(?![\w'-])"
         is_imported = re.search(named, imports) or re.search(by_facade, imports)
-        return self.is_in_its_file(found) and re.search(rf"(?<![\w'-]){name}(?![\w'-])", self.contract) and is_imported
+        whole = rf"(?<![\w'-]){name}(?![\w'-])"
+        return re.search(whole, self.contract) and is_imported or any(re.search(whole, it) for it in EXAMPLE.findall(self.text))
+
+
+def unlinked(text):
+    """Returns a text without its links, in one line."""
+    return " ".join(re.sub(r"\[(`[^`]+`)\]\([^)]*\)", r"\1", text).split())
+
+
+def faults_of_words(path, text):
+    """Yields each definition of a page that does not stand so in the file that the page names."""
+    source = SOURCE.search(text)
+    spec = read_text(f"{TOP}/{source['path']}") if source and os.path.isfile(f"{TOP}/{source['path']}") else ""
+    for found in DEFINITION.finditer(text):
+        name = re.escape(found["name"])
+        above = re.search(rf"((?:^ *--.*\n)*)^ *(?:pub )?(?:abbrev|unfoldable|record|data) (?:pub )?(?:record |data )?{name}(?=[\s:({{])", spec, re.M)
+        if not above or " ".join(line.lstrip(" -") for line in above[1].splitlines()) != unlinked(found["says"]):
+            yield path, f"{found['name']} does not stand so in the file that it names"
+
+
+def faults_of_page(path, text):
+    """Yields what is not so in the entries of a page, and each word that none of them has or that is told otherwise where its link leads."""
+    entries = [Entry(path, it) for it in ENTRY.finditer(text)]
+    for entry in entries:
+        for what in entry.faults():
+            yield path, f"{entry.title}: {what}"
+    for found in WORD.finditer(text.partition("\n## Words\n")[2]):
+        file = os.path.normpath(os.path.join(os.path.dirname(path), found["file"]))
+        there = read_text(f"{TOP}/{file}") if os.path.isfile(f"{TOP}/{file}") else ""
+        source, told = SOURCE.search(there), {it["name"]: unlinked(it["says"]) for it in DEFINITION.finditer(there)}
+        if not source or not any(it.means(found["name"], source["path"]) for it in entries):
+            yield path, f"the word {found['name']} is not one that a contract or an example here means"
+        elif not told.get(found["name"], "").startswith(unlinked(found["says"] or "").rstrip(".:")):
+            yield path, f"the word {found['name']} is told otherwise in {file}"
 
 
 def faults():
     """Yields what a reader of docs/api is told that is not so."""
-    for path in sorted(glob.glob("docs/api/*.md", root_dir=TOP)):
-        text = read_text(f"{TOP}/{path}")
-        entries = [Entry(path, it) for it in ENTRY.finditer(text)]
-        for entry in entries:
-            for what in entry.faults():
-                yield path, f"{entry.title}: {what}"
-        anchors = {re.sub(r"[^a-z0-9_-]", "", f"{it.kind} {it.title}".lower().replace(" ", "-")): it for it in entries}
-        for table in re.findall(r"^\| `\w+` \|.*(?:\n\|.*)*", text.partition("\n## Marks\n")[2], re.M):
-            trait = re.match(r"\| `(\w+)`", table)[1]
-            for row in MARK.finditer(table):
-                entry = anchors.get(row["anchor"])
-                if not entry or not re.search(rf"^impl\b[^{{]*?\b{trait}(?:<[^{{]*?>)?\s+for\s+{row['type']}\b", entry.code_of_crate(), re.M):
-                    yield path, f"a row of marks of {trait} leads to another type than the {row['type']} that is one"
+    for path in sorted(glob.glob("docs/api/*/*.md", root_dir=TOP)):
+        yield from faults_of_page(path, read_text(f"{TOP}/{path}"))
+    for path in sorted(glob.glob("docs/api/words/*/*.md", root_dir=TOP)):
+        yield from faults_of_words(path, read_text(f"{TOP}/{path}"))

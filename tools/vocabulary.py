@@ -38,9 +38,17 @@ USES = "Uses"
 USED = re.compile(r"use Rattle\.(?P<crate>\w+)\.specs\.(?P<module>[\w.]+)\.\{(?P<names>[^}]*)\}")
 
 
+# What stands in backquotes.
+QUOTED = re.compile(r"`[^`]*`")
+
+
 def wrapped(text, indent=""):
-    """Returns a paragraph, in lines that are not too long; the later ones begin with the indent."""
-    return "\n".join(textwrap.wrap(" ".join(text.split()), WIDTH, subsequent_indent=indent, break_long_words=False, break_on_hyphens=False))
+    """Returns a paragraph, in lines that are not too long; the later ones begin with the indent. No line ends within backquotes, if what is in them is
+    short enough."""
+    text = " ".join(text.split())
+    kept = QUOTED.sub(lambda it: it[0].replace(" ", "\0") if len(it[0]) < WIDTH // 2 else it[0], text)
+    lines = textwrap.wrap(kept, WIDTH, subsequent_indent=indent, break_long_words=False, break_on_hyphens=False)
+    return "\n".join(lines).replace("\0", " ")
 
 
 def bullet(text):
@@ -292,30 +300,15 @@ def about_crate(crate):
     return " ".join(line.removeprefix("//! ") for line in lines)
 
 
-def words_of(crate):
-    """Yields the part of the glossary that is a crate's: the definitions of each file of its specs/, with the comments over them."""
-    for module, words in itertools.groupby(definitions(crate), key=lambda it: it.module):
-        words = list(words)
-        about = head_of(words[0].path)
-        yield wrapped(f"**{link(words[0].path, module.replace('.', '/'))}**{': ' if about else ''}{about}") + "\n"
-        for it in words:
-            module = module_for_programs(it)
-            yield bullet(f"`{it.name}`{f' (`{module}`)' if module else ''}: {it.says}")
-        yield ""
-
-
 def table(head, rows):
     lines = [head, ["---"] * len(head), *rows]
     return "".join(f"| {' | '.join(row)} |\n" for row in lines).replace("| --- |", "|---|").replace(" --- |", "---|")
 
 
 def glossary():
-    """Returns what the page has to be: its head as it stands, the table of calls, and the definitions."""
+    """Returns what the page has to be: its head as it stands, and the table of calls."""
     head = read_text(f"{TOP}/{PAGE}").partition(HEAD_ENDS)[0]
-    calls_told = table(["Call", "Kind", "Code", "Definition", "Laws"], sorted(rows_of_calls()))
-    told = {crate: "\n".join(words_of(crate)) for crate in libraries()}
-    words_told = "\n".join(f"## `{crate}`\n\n{wrapped(about_crate(crate))}\n\n{words}" for crate, words in told.items() if words)
-    return f"{head}{HEAD_ENDS}\n{calls_told}\n{words_told.rstrip()}\n"
+    return f"{head}{HEAD_ENDS}\n<!-- tools/documents writes this table. -->\n\n{table(['Call', 'Kind', 'Code', 'Definition', 'Laws'], sorted(rows_of_calls()))}"
 
 
 def faults():
