@@ -312,7 +312,7 @@ class TwoModules(unittest.TestCase):
         self.assertNotIn("Or::first", told)
 
     def test_a_definition_stands_with_its_module_and_links_to_others(self):
-        told = " ".join(self.pages["docs/api/words/lite_views/Views.md"].partition("\n## `ListsAs`\n")[2].split())
+        told = " ".join(self.pages["docs/api/words/lite_views.md"].partition("\n### `ListsAs`\n")[2].split())
         self.assertTrue(told.startswith("(`Lists`) The items of `s` are `xs`, as [`Lists`](#lists) says it:"))
 
     def test_words_that_differ_in_their_case_have_anchors_of_their_own(self):
@@ -336,7 +336,7 @@ class TwoModules(unittest.TestCase):
         told = self.words("docs/api/stream/or.md")
         for word in ("IfOk", "length"):
             self.assertIn(f"[`{word}`](../words/std.md#{word.lower()})", told)
-            self.assertIn(f"\n## `{word}`\n\n", self.pages["docs/api/words/std.md"])
+            self.assertIn(f"\n### `{word}`\n\n", self.pages["docs/api/words/std.md"])
         for word in ("size", "first", "n", "it", "S", "Item", "Self"):
             self.assertNotIn(f"[`{word}`]", told)
         self.assertIn("[`Item`]", self.words("docs/api/stream/count.md"))

@@ -11,8 +11,10 @@ CODE = re.compile(r"^Code: \[(crates/[\w/.]+)\]", re.M)
 EXAMPLE = re.compile(r"^Example:\n\n```rust\n(.*?)^```$", re.M | re.S)
 CONTRACT = re.compile(r"^Contract:\n\n```text\n(.*?)^```$", re.M | re.S)
 # A word of a page, and its definition on the page that the link leads to.
-WORD = re.compile(r"\[`(?P<name>[^`]+)`\]\((?P<file>\.\./words/\w+/[^)#]+\.md)#[^)]*\)(?::\s(?P<says>(?:.*(?:\n  .*)*)))?")
-DEFINITION = re.compile(r"^## `(?P<name>[^`]+)`\n\n(?:\(`[\w.]+`\)\s)?(?P<says>.*?)\n(?=\n## |\Z)", re.M | re.S)
+WORD = re.compile(r"\[`(?P<name>[^`]+)`\]\((?P<file>\.\./words/(?!std\.)\w+\.md)#[^)]*\)(?::\s(?P<says>(?:.*(?:\n  .*)*)))?")
+DEFINITION = re.compile(r"^### `(?P<name>[^`]+)`\n\n(?:\(`[\w.]+`\)\s)?(?P<says>.*?)\n(?=\n##|\Z)", re.M | re.S)
+# The part of a page of definitions on one file, and that file.
+PART = re.compile(r"^## `specs/.*?(?=^## |\Z)", re.M | re.S)
 SOURCE = re.compile(r"\[Source\]\((?:\.\./)+(?P<path>[^)]+)\)")
 MADE_BY = re.compile(r"(?:Made|Returned) by `(?:\w+::)*(\w+)`")
 
@@ -82,12 +84,17 @@ def unlinked(text):
     return " ".join(re.sub(r"\[(`[^`]+`)\]\([^)]*\)", r"\1", text).split())
 
 
+def definitions(text):
+    """Yields each definition of a page, and the file that its part of the page names."""
+    for part in PART.findall(text):
+        source = SOURCE.search(part)
+        yield from ((found, source["path"] if source else "") for found in DEFINITION.finditer(part))
+
+
 def faults_of_words(path, text):
     """Yields each definition of a page that does not stand so in the file that the page names."""
-    source = SOURCE.search(text)
-    spec = read_text(f"{TOP}/{source['path']}") if source and os.path.isfile(f"{TOP}/{source['path']}") else ""
-    for found in DEFINITION.finditer(text):
-        name = re.escape(found["name"])
+    for found, file in definitions(text):
+        spec, name = read_text(f"{TOP}/{file}") if file and os.path.isfile(f"{TOP}/{file}") else "", re.escape(found["name"])
         above = re.search(rf"((?:^ *--.*\n)*)^ *(?:pub )?(?:abbrev|unfoldable|record|data) (?:pub )?(?:record |data )?{name}(?=[\s:({{])", spec, re.M)
         if not above or " ".join(line.lstrip(" -") for line in above[1].splitlines()) != unlinked(found["says"]):
             yield path, f"{found['name']} does not stand so in the file that it names"
@@ -102,16 +109,18 @@ def faults_of_page(path, text):
     for found in WORD.finditer(text.partition("\n## Words\n")[2]):
         file = os.path.normpath(os.path.join(os.path.dirname(path), found["file"]))
         there = read_text(f"{TOP}/{file}") if os.path.isfile(f"{TOP}/{file}") else ""
-        source, told = SOURCE.search(there), {it["name"]: unlinked(it["says"]) for it in DEFINITION.finditer(there)}
-        if not source or not any(it.means(found["name"], source["path"]) for it in entries):
+        told = {it["name"]: (unlinked(it["says"]), source) for it, source in definitions(there)}
+        says, source = told.get(found["name"], ("", ""))
+        if not source or not any(it.means(found["name"], source) for it in entries):
             yield path, f"the word {found['name']} is not one that a contract or an example here means"
-        elif not told.get(found["name"], "").startswith(unlinked(found["says"] or "").rstrip(".:")):
+        elif not says.startswith(unlinked(found["says"] or "").rstrip(".:")):
             yield path, f"the word {found['name']} is told otherwise in {file}"
 
 
 def faults():
     """Yields what a reader of docs/api is told that is not so."""
-    for path in sorted(glob.glob("docs/api/*/*.md", root_dir=TOP)):
+    pages = glob.glob("docs/api/*/*.md", root_dir=TOP)
+    for path in sorted(it for it in pages if not it.startswith("docs/api/words/")):
         yield from faults_of_page(path, read_text(f"{TOP}/{path}"))
-    for path in sorted(glob.glob("docs/api/words/*/*.md", root_dir=TOP)):
+    for path in sorted(glob.glob("docs/api/words/*.md", root_dir=TOP)):
         yield from faults_of_words(path, read_text(f"{TOP}/{path}"))

@@ -1,4 +1,4 @@
-"""The pages of docs/api/words: each definition that a contract or a program can name, by its module, and the words of std and of the language."""
+"""The pages of docs/api/words: each definition that a contract or a program can name, a page for each crate, and the words of std and of the language."""
 import collections
 import functools
 import itertools
@@ -23,7 +23,12 @@ ABOUT = (
 
 def file_of(word):
     """Returns the page of a definition."""
-    return f"{FOLDER}/{word.crate}/{word.module}.md"
+    return f"{FOLDER}/{word.crate}.md"
+
+
+def heading_of(path):
+    """Returns the heading of the part of a page on a file of specs/."""
+    return f"`{path.split('/', 2)[2]}`"
 
 
 def anchor_of(name):
@@ -71,22 +76,25 @@ class Words:
         return wrapped(f"(`{module}`) {text}" if module else text)
 
     def page(self, file, words):
-        """Returns the page of a module."""
-        path = words[0].path
-        parts = [f"# Words of `{words[0].crate}`: {words[0].module}", wrapped(f"{head_of(path)} [Source]({relative(file, path)}).".strip())]
-        return "\n\n".join([WRITTEN.rstrip(), *parts, *(f"## `{it.name}`\n\n{self.says(it)}" for it in words)]) + "\n"
+        """Returns the page of a crate, of which each module has a part."""
+        parts = [WRITTEN.rstrip(), f"# Words of `{words[0].crate}`", wrapped(about_crate(words[0].crate))]
+        for path, there in itertools.groupby(words, key=lambda it: it.path):
+            parts += [f"## {heading_of(path)}", wrapped(f"{head_of(path)} [Source]({relative(file, path)}).".strip())]
+            parts += [f"### `{it.name}`\n\n{self.says(it)}" for it in there]
+        return "\n\n".join(parts) + "\n"
 
     def std(self):
         """Returns the page of the words that are no definitions of the library."""
-        told = [f"## `{it}`\n\n{wrapped(self.others[it])}" for it in sorted(self.others, key=lambda it: (it.lower(), it))]
+        told = [f"### `{it}`\n\n{wrapped(self.others[it])}" for it in sorted(self.others, key=lambda it: (it.lower(), it))]
         return "\n\n".join([WRITTEN.rstrip(), "# Words of std and of the language", ABOUT_STD, *told]) + "\n"
 
     def index(self, files):
         """Returns the list of the pages."""
         parts = [WRITTEN.rstrip(), "# Words of contracts", wrapped(ABOUT), wrapped(f"[Words of std and of the language]({relative(INDEX, STD)}).")]
-        for crate, there in itertools.groupby(files.items(), key=lambda it: it[1][0].crate):
-            rows = [f"[{words[0].module}]({relative(INDEX, file)}): {in_a_line(words)}" for file, words in there]
-            parts.append("\n\n".join([f"## `{crate}`", wrapped(about_crate(crate)), "\n".join(map(bullet, rows))]))
+        for file, words in files.items():
+            modules = itertools.groupby(words, key=lambda it: it.path)
+            rows = [f"[{heading_of(path)}]({relative(INDEX, file, anchor_of(heading_of(path)))}): {in_a_line(there)}" for path, there in modules]
+            parts.append("\n\n".join([f"## `{words[0].crate}`", wrapped(about_crate(words[0].crate)), "\n".join(map(bullet, rows))]))
         return "\n\n".join(parts) + "\n"
 
     def pages(self):
