@@ -9,6 +9,7 @@ import subprocess
 import tempfile
 import textwrap
 
+import properties
 from repository import read_text
 from sources import MODULES, USE as SOURCE_USE, Sources, called, leaves
 from vocabulary import snake
@@ -16,9 +17,10 @@ from vocabulary import snake
 # The crate that the tests are compiled in, and its line for crates.txt.
 NAME = "examples"
 LINE = f"{NAME} tests_may=Threads+Wait: futures_lite framed futures bytes tokio_util rand_core rand_pcg"
-# The crates in crates.txt that have the functions with clauses: one a module, and one for the methods of `StreamExt`. They are proved side by side.
-EXTENSION = "StreamExt"
-PROVED = {it: f"proved_examples_{snake(it)}" for it in (*MODULES, EXTENSION)}
+# The crates in crates.txt that have the functions with clauses: one a module, and two for the methods of `StreamExt`. They are proved side by side.
+EXTENSION, ADAPTERS, CONSUMING = "StreamExt", "adapters", "consuming"
+PROVED = {it: f"proved_examples_{it}" for it in (*MODULES, ADAPTERS, CONSUMING)}
+ABOUT = {ADAPTERS: f"`{EXTENSION}` that return a stream", CONSUMING: f"`{EXTENSION}` that consume a stream"}
 # What an example may name with no import of its own: the words of a clause, and what a function that waits takes.
 GHOST = {
     "Rattle.std.specs.Prelude": (
@@ -99,13 +101,21 @@ def merged(uses):
 
 
 @functools.cache
+def part_of(item, module):
+    """Returns the crate's part that an item's examples belong to: its module, or the kind of a method of `StreamExt`."""
+    if not item.owner or item.owner.name != EXTENSION:
+        return module
+    result = re.search(r"-> (?:Result<)?(\w+)", item.head)
+    return ADAPTERS if result and result[1] in properties.of_kind("Stream") else CONSUMING
+
+
 def proofs():
     """Returns the files of the crates of proofs, by their paths below crates/, as `rt fmt` lays them out."""
     functions, uses = {it: [] for it in PROVED}, {it: [] for it in PROVED}
     for module in MODULES:
         for item, number, block in blocks(module):
             found = proved_in(block)
-            part = EXTENSION if item.owner and item.owner.name == EXTENSION else module
+            part = part_of(item, module)
             uses[part] += USE.findall(block) if found else []
             # (two examples may have functions of one name)
             functions[part] += [re.sub(r"^fn (\w+)", rf"pub fn {name_of(item, number)}_\1", it, flags=re.M) for it in found]
@@ -113,7 +123,7 @@ def proofs():
     for part, crate in PROVED.items():
         if functions[part]:
             text, there = "\n".join(functions[part]), merged(uses[part])
-            told = f"in the examples of the methods of `futures_lite::{part}`" if part == EXTENSION else f"in the examples of `futures_lite::{part}`"
+            told = f"in the examples of the methods of {ABOUT[part]}" if part in ABOUT else f"in the examples of `futures_lite::{part}`"
             head = f"//! The functions with clauses {told}.\n#![tactic(auto)]\n"
             files[f"{crate}/src/lib.rt"] = laid_out(f"{head}{imports(text, there)}{there}\n{text}")
     return files
