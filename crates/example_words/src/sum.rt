@@ -1,0 +1,51 @@
+//! The sum of the counts of one word.
+use crate::fault::LineError;
+use crate::record::{Record, push_record};
+use std::alloc::{AllocError, Global};
+use std::cmp::Ordering;
+
+/// The word of the last record, and the sum of its counts. The sum is 0 before the first record.
+#[derive(Drop)]
+pub struct Sum {
+    word: Vec<u8>,
+    count: u64,
+}
+
+impl Sum {
+    /// Returns the sum before the first record.
+    pub fn new(alloc: Global) -> Sum {
+        Sum {
+            word: Vec::new(alloc),
+            count: 0,
+        }
+    }
+
+    /// Adds a record. If it begins another word, the line of the word before is appended to `text`.
+    pub fn add(&mut self, record: Record<'_>, text: &mut Vec<u8>) -> Result<(), LineError> {
+        match record.word.cmp(self.word.as_slice()) {
+            Ordering::Less => Err(LineError::OutOfOrder),
+            Ordering::Equal => {
+                let Some(count) = self.count.checked_add(record.count) else {
+                    return Err(LineError::TooLarge);
+                };
+                self.count = count;
+                Ok(())
+            }
+            Ordering::Greater => {
+                self.finish(text)?;
+                self.word.clear();
+                self.word.extend_from_slice(record.word)?;
+                self.count = record.count;
+                Ok(())
+            }
+        }
+    }
+
+    /// Appends the line of the word to `text`, if there was a record.
+    pub fn finish(&self, text: &mut Vec<u8>) -> Result<(), AllocError> {
+        if self.count == 0 {
+            return Ok(());
+        }
+        push_record(text, &self.word, self.count)
+    }
+}
