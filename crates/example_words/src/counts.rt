@@ -1,4 +1,13 @@
 //! How often each word was counted.
+ghost use Rattle.std.specs.Prelude.{◌≡◌, ◌+◌, ◌<◌, [], IfOk, List, OnOk, if◌then◌else◌, map, ℕ};
+ghost use Rattle.std.specs.Cmp.Lexicographic.{slice_cmp};
+ghost use Rattle.std.specs.List.{All};
+ghost use Rattle.std.specs.List.Sorted.{IsStrictlySortedBy};
+ghost use Rattle.std.specs.Ordering.{nat_cmp};
+ghost use Rattle.std.specs.Str.{bytes_eq};
+ghost use Rattle.example_words.specs.Words.{counts};
+ghost use Rattle.example_words.specs.Records.{counted, record_lines, total};
+
 use crate::fault::LineError;
 use crate::record::push_record;
 use crate::words::next_word;
@@ -14,7 +23,9 @@ pub struct Counts {
 
 impl Counts {
     /// Returns counts of no words.
-    pub fn new(alloc: Global) -> Counts {
+    pub fn new(alloc: Global) -> Counts
+        ensures { counted result ≡ [] }
+    {
         Counts {
             alloc,
             counts: BTreeMap::new(alloc),
@@ -26,7 +37,11 @@ impl Counts {
     /// # Errors
     ///
     /// A count passes 64 bits, or memory for a new word was refused. Words before it are counted.
-    pub fn add_line(&mut self, line: &[u8]) -> Result<(), LineError> {
+    pub fn add_line(&mut self, line: &[u8]) -> Result<(), LineError>
+        ensures counts { OnOk result ((w : List ℕ) →
+            total (counted self.new) w ≡ total (counted self.old) w + counts line.now w) }
+        ensures positive { OnOk result (All (λ r. 0 < r.1) (counted self.old) → All (λ r. 0 < r.1) (counted self.new)) }
+    {
         let mut rest = line;
         while let Some((word, behind)) = next_word(rest) {
             self.add(word)?;
@@ -36,7 +51,11 @@ impl Counts {
     }
 
     // Counts a word once more. Nothing is allocated for a word that was counted before.
-    fn add(&mut self, word: &[u8]) -> Result<(), LineError> {
+    fn add(&mut self, word: &[u8]) -> Result<(), LineError>
+        ensures counts { OnOk result ((w : List ℕ) →
+            total (counted self.new) w ≡ total (counted self.old) w + (if bytes_eq w word.now then 1 else 0)) }
+        ensures positive { OnOk result (All (λ r. 0 < r.1) (counted self.old) → All (λ r. 0 < r.1) (counted self.new)) }
+    {
         if let Some(count) = self.counts.get_mut(word) {
             let Some(more) = count.checked_add(1) else {
                 return Err(LineError::TooLarge);
@@ -52,7 +71,10 @@ impl Counts {
     }
 
     /// Returns the text of the counts, a line for each word.
-    pub fn text(&self) -> Result<Vec<u8>, AllocError> {
+    pub fn text(&self) -> Result<Vec<u8>, AllocError>
+        ensures lines { IfOk result (λ text. text.items ≡ record_lines (counted self.now)) }
+        ensures sorted { IfOk result (λ _. IsStrictlySortedBy (slice_cmp nat_cmp) (map (λ r. r.0) (counted self.now))) }
+    {
         let mut text = Vec::new(self.alloc);
         for (word, count) in self.counts.iter() {
             push_record(&mut text, word, *count)?;

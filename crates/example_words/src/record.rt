@@ -1,4 +1,7 @@
 //! A word and its count as a line.
+ghost use Rattle.std.specs.Prelude.{◌≡◌, ◌∷◌, ◌++◌, ◌<◌, [], IfOk, IfSome, OnOk, decimal};
+ghost use Rattle.example_words.specs.Records.{record_line};
+
 use crate::fault::LineError;
 use crate::words::is_word;
 use itoa::Buffer;
@@ -14,7 +17,9 @@ pub struct Record<'a> {
 }
 
 /// Appends the line of a word and its count.
-pub fn push_record(text: &mut Vec<u8>, word: &[u8], count: u64) -> Result<(), AllocError> {
+pub fn push_record(text: &mut Vec<u8>, word: &[u8], count: u64) -> Result<(), AllocError>
+    ensures { OnOk result (text.new.items ≡ text.old.items ++ record_line (word.now, count)) }
+{
     let mut buffer = Buffer::new();
     text.extend_from_slice(word)?;
     text.extend_from_slice(b"\t")?;
@@ -23,25 +28,45 @@ pub fn push_record(text: &mut Vec<u8>, word: &[u8], count: u64) -> Result<(), Al
 }
 
 /// Returns the record of a line, which has its newline.
-pub fn parse_record(line: &[u8]) -> Result<Record<'_>, LineError> {
-    let Some(record) = line.strip_suffix(b"\n") else {
+#[tactic(auto, using(crate::specs::Laws::record_cut))]
+pub fn parse_record(line: &[u8]) -> Result<Record<'_>, LineError>
+    ensures line { IfOk result (λ r. line.now ≡ record_line (r.word.now, r.count)) }
+    ensures positive { IfOk result (λ r. 0 < r.count) }
+{
+    let Some(record) = without_newline(line) else {
         return Err(LineError::CutOff);
     };
-    let Some(tab) = record.iter().position(|byte| *byte == b'\t') else {
+    let Some((word, digits)) = split_at_tab(record) else {
         return Err(LineError::NoTab);
     };
-    let word = &record[..tab];
     if !is_word(word) {
         return Err(LineError::NoWord);
     }
-    match parse_count(&record[tab + 1..]) {
+    match parse_count(digits) {
         Some(count) => Ok(Record { word, count }),
         None => Err(LineError::NoCount),
     }
 }
 
+// Returns what is before the newline at the end of the line.
+fn without_newline(line: &[u8]) -> Option<&[u8]>
+    ensures { IfSome result (λ front. line.now ≡ front.now ++ 10 ∷ []) }
+{
+    line.strip_suffix(b"\n")
+}
+
+// Returns what is before the first tab, and what is behind it.
+fn split_at_tab(record: &[u8]) -> Option<(&[u8], &[u8])>
+    ensures { IfSome result (λ r. record.now ≡ r.0.now ++ 9 ∷ r.1.now) }
+{
+    let tab = record.iter().position(|byte| *byte == b'\t')?;
+    Some((&record[..tab], &record[tab + 1..]))
+}
+
 // Returns the count that these digits are, if it is written as `push_record` writes it, and not 0.
-fn parse_count(digits: &[u8]) -> Option<u64> {
+fn parse_count(digits: &[u8]) -> Option<u64>
+    ensures { IfSome result (λ n. (digits.now ≡ decimal n) × (0 < n)) }
+{
     let Ok(text) = str::from_utf8(digits) else {
         return None;
     };

@@ -1,4 +1,7 @@
 //! The sum of the counts of one word.
+ghost use Rattle.std.specs.Prelude.{◌≡◌, ◌∷◌, ◌++◌, ◌<◌, [], List, OnOk};
+ghost use Rattle.example_words.specs.Records.{Counted, Holds, pending, record_lines};
+
 use crate::fault::LineError;
 use crate::record::{Record, push_record};
 use std::alloc::{AllocError, Global};
@@ -13,7 +16,9 @@ pub struct Sum {
 
 impl Sum {
     /// Returns the sum before the first record.
-    pub fn new(alloc: Global) -> Sum {
+    pub fn new(alloc: Global) -> Sum
+        ensures { pending result ≡ [] }
+    {
         Sum {
             word: Vec::new(alloc),
             count: 0,
@@ -21,28 +26,34 @@ impl Sum {
     }
 
     /// Adds a record. If it begins another word, the line of the word before is appended to `text`.
-    pub fn add(&mut self, record: Record<'_>, text: &mut Vec<u8>) -> Result<(), LineError> {
-        match record.word.cmp(self.word.as_slice()) {
-            Ordering::Less => Err(LineError::OutOfOrder),
-            Ordering::Equal => {
-                let Some(count) = self.count.checked_add(record.count) else {
-                    return Err(LineError::TooLarge);
-                };
-                self.count = count;
-                Ok(())
-            }
-            Ordering::Greater => {
-                self.finish(text)?;
-                self.word.clear();
-                self.word.extend_from_slice(record.word)?;
-                self.count = record.count;
-                Ok(())
+    pub fn add(&mut self, record: Record<'_>, text: &mut Vec<u8>) -> Result<(), LineError>
+        ensures { OnOk result ((more : List Counted) × (text.new.items ≡ text.old.items ++ record_lines more)
+            × ((done read : List Counted) → 0 < record.entry.count → Holds done self.old.word.items self.old.count read
+            → Holds (done ++ more) self.new.word.items self.new.count (read ++ (record.entry.word.now, record.entry.count) ∷ []))) }
+    {
+        if self.count > 0 {
+            match record.word.cmp(self.word.as_slice()) {
+                Ordering::Less => return Err(LineError::OutOfOrder),
+                Ordering::Equal => {
+                    let Some(count) = self.count.checked_add(record.count) else {
+                        return Err(LineError::TooLarge);
+                    };
+                    self.count = count;
+                    return Ok(());
+                }
+                Ordering::Greater => push_record(text, &self.word, self.count)?,
             }
         }
+        self.word.clear();
+        self.word.extend_from_slice(record.word)?;
+        self.count = record.count;
+        Ok(())
     }
 
     /// Appends the line of the word to `text`, if there was a record.
-    pub fn finish(&self, text: &mut Vec<u8>) -> Result<(), AllocError> {
+    pub fn finish(&self, text: &mut Vec<u8>) -> Result<(), AllocError>
+        ensures { OnOk result (text.new.items ≡ text.old.items ++ record_lines (pending self.now)) }
+    {
         if self.count == 0 {
             return Ok(());
         }
