@@ -146,8 +146,8 @@ trimmed_black (b ∷ bs) h = at (trimmed_black bs) (is_ascii_whitespace b) refl 
         → 0 < prefix_len black (drop (prefix_len is_ascii_whitespace (b ∷ bs)) (b ∷ bs))
     at rest true e h =
         let go : (0 < length (drop (prefix_len is_ascii_whitespace (b ∷ bs)) (b ∷ bs))
-            → 0 < prefix_len black (drop (prefix_len is_ascii_whitespace (b ∷ bs)) (b ∷ bs)))
-            = rw (e, one_more (prefix_len is_ascii_whitespace bs)) rest in
+        → 0 < prefix_len black (drop (prefix_len is_ascii_whitespace (b ∷ bs)) (b ∷ bs)))
+        = rw (e, one_more (prefix_len is_ascii_whitespace bs)) rest in
         go h
     at rest false e h =
         let same : drop (prefix_len is_ascii_whitespace (b ∷ bs)) (b ∷ bs) ≡ b ∷ bs = rw e refl in rw same (rw e (omega arith))
@@ -310,11 +310,14 @@ pub holds_same : (done read : List Counted) (word : List ℕ) (n m : ℕ) → 0 
 holds_same done read word n m some_yet h =
     let more : 0 < n + m = omega (arith, some_yet) in
     let table : IsTable (total read) (done ++ (word, n) ∷ []) = rw (held_is word n some_yet) at h.0 in
-    rw (append-nil done, held_is word (n + m) more) (record {
-      sorted = rw (names done (word, n + m), sym (names done (word, n))) table.sorted;
-      positive = All-append (λ r. 0 < r.1) done ((word, n + m) ∷ []) (All-front done ((word, n) ∷ []) table.positive) (one_positive word (n + m) more);
-      counted = λ w. same_total done read word n m w (table.counted w);
-    }, λ e. absurd (omega (arith, e, more)))
+    rw (append-nil done, held_is word (n + m) more) (
+      record {
+        sorted = rw (names done (word, n + m), sym (names done (word, n))) table.sorted;
+        positive = All-append (λ r. 0 < r.1) done ((word, n + m) ∷ []) (All-front done ((word, n) ∷ []) table.positive) (one_positive word (n + m) more);
+        counted = λ w. same_total done read word n m w (table.counted w);
+      },
+      λ e. absurd (omega (arith, e, more)),
+    )
 
 -- A record of a word behind it.
 pub holds_next : (done read : List Counted) (word next : List ℕ) (n m : ℕ) → 0 < n → 0 < m → slice_cmp nat_cmp word next ≡ Less
@@ -322,9 +325,11 @@ pub holds_next : (done read : List Counted) (word next : List ℕ) (n m : ℕ) �
 holds_next done read word next n m some_yet some_more less h =
     let table : IsTable (total read) (done ++ (word, n) ∷ []) = rw (held_is word n some_yet) at h.0 in
     let sorted = rw (names done (word, n)) at table.sorted in
-    rw (held_is next m some_more) (table_more (done ++ (word, n) ∷ []) read next m some_more
-    (rw (names (done ++ (word, n) ∷ []) (next, m), names done (word, n)) (sorted_more (map (λ r. r.0) done) word next sorted less)) table,
-    λ e. absurd (omega (arith, e, some_more)))
+    rw (held_is next m some_more) (
+      table_more (done ++ (word, n) ∷ []) read next m some_more
+          (rw (names (done ++ (word, n) ∷ []) (next, m), names done (word, n)) (sorted_more (map (λ r. r.0) done) word next sorted less)) table,
+      λ e. absurd (omega (arith, e, some_more)),
+    )
 
 -- A line is that of a record if it is a word, a tab, the digits of the count and a newline.
 pub record_cut : (line front word digits : List ℕ) (n : ℕ) → line ≡ front ++ 10 ∷ [] → front ≡ word ++ 9 ∷ digits
@@ -340,7 +345,7 @@ newline_at_end line front e f =
 -- What `strip_suffix` leaves of a line that ends in a newline.
 pub newline_left : (line : List ℕ) (r : Option (Bor (List ℕ)))
     → MatchOption r (bytes_eq (drop (length line - 1) line) (10 ∷ []) ≡ false)
-        (λ x. (bytes_eq (drop (length line - 1) line) (10 ∷ []) ≡ true) × (x.now ≡ take (length line - 1) line) × (length x.now + 1 ≡ length line))
+    (λ x. (bytes_eq (drop (length line - 1) line) (10 ∷ []) ≡ true) × (x.now ≡ take (length line - 1) line) × (length x.now + 1 ≡ length line))
     → IfSome r (λ front. line ≡ front.now ++ 10 ∷ [])
 newline_left line None h = tt
 newline_left line (Some x) h = newline_at_end line x.now h.0 h.1

@@ -1,4 +1,7 @@
 //! Lines of the input.
+ghost use Rattle.std.specs.Prelude.{IfOk};
+ghost use Rattle.example_words.specs.Runs.{ReadsLine};
+
 use crate::fault::WordsError;
 use futures_lite::future::BlockOn;
 use futures_lite::io::{AsyncBufRead, CountedRead, wait_read_until};
@@ -16,6 +19,7 @@ where
     R: Wait,
     T: AsyncBufRead + CountedRead,
     requires counts { T.ranks.counts reader.old }
+    ensures read { IfOk result (λ whole. ReadsLine T.reads reader.old line.new.items whole reader.new) }
     ensures again { T.ranks.counts reader.new }
 {
     line.clear();

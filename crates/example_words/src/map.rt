@@ -1,4 +1,7 @@
 //! Words become counts.
+ghost use Rattle.std.specs.Prelude.{IfOk};
+ghost use Rattle.example_words.specs.Runs.{HasCounted, Maps};
+
 use crate::counts::Counts;
 use crate::fault::WordsError;
 use crate::input::read_line;
@@ -21,6 +24,7 @@ where
     T: AsyncBufRead + CountedRead,
     O: AsyncWrite,
     requires counts { T.ranks.counts reader.old }
+    ensures { IfOk result (λ _. Maps T.reads O.writes reader.old output.old reader.new output.new) }
 {
     let counts = count_words(on, rt, reader)?;
     let text = counts.text()?;
@@ -33,6 +37,7 @@ where
     R: Wait + AllocGlobal,
     T: AsyncBufRead + CountedRead,
     requires counts { T.ranks.counts reader.old }
+    ensures { IfOk result (λ counts. HasCounted T.reads reader.old counts reader.new) }
 {
     let mut counts = Counts::new(rt.alloc());
     let mut line = Vec::new(rt.alloc());

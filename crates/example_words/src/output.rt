@@ -1,4 +1,7 @@
 //! Text of the output.
+ghost use Rattle.std.specs.Prelude.{IfOk};
+ghost use Rattle.example_words.specs.Runs.{Wrote, Written};
+
 use crate::fault::WordsError;
 use futures_lite::AsyncWrite;
 use futures_lite::future::BlockOn;
@@ -11,7 +14,9 @@ pub fn write<R: Wait, O: AsyncWrite>(
     rt: &R,
     output: &mut O,
     text: &[u8],
-) -> Result<(), WordsError> {
+) -> Result<(), WordsError>
+    ensures { IfOk result (λ _. Wrote O.writes output.old text.now output.new) }
+{
     match wait_write_all(on, rt, output, text) {
         Ok(Ok(())) => Ok(()),
         Ok(Err(e)) => Err(WordsError::Output(e)),
@@ -25,7 +30,9 @@ pub fn write_last<R: Wait, O: AsyncWrite>(
     rt: &R,
     output: &mut O,
     text: &[u8],
-) -> Result<(), WordsError> {
+) -> Result<(), WordsError>
+    ensures { IfOk result (λ _. Written O.writes output.old text.now output.new) }
+{
     write(on, rt, output, text)?;
     match wait_flush(on, rt, output) {
         Ok(Ok(())) => Ok(()),

@@ -1,4 +1,8 @@
 //! Counts become sums.
+ghost use Rattle.std.specs.Prelude.{◌≡◌, ◌∷◌, ◌++◌, ◌<◌, [], IfOk, List, OnOk};
+ghost use Rattle.example_words.specs.Records.{Counted, Holds, record_line, record_lines};
+ghost use Rattle.example_words.specs.Runs.{Reduces};
+
 use crate::fault::{LineError, WordsError};
 use crate::input::read_line;
 use crate::output::{write, write_last};
@@ -22,6 +26,7 @@ where
     T: AsyncBufRead + CountedRead,
     O: AsyncWrite,
     requires counts { T.ranks.counts reader.old }
+    ensures { IfOk result (λ _. Reduces T.reads O.writes reader.old output.old reader.new output.new) }
 {
     let mut sum = Sum::new(rt.alloc());
     let mut line = Vec::new(rt.alloc());
@@ -44,6 +49,10 @@ where
 }
 
 // Adds the record of a line to the sum. If it begins another word, the line of the word before is appended to `text`.
-fn add_line(sum: &mut Sum, line: &[u8], text: &mut Vec<u8>) -> Result<(), LineError> {
+fn add_line(sum: &mut Sum, line: &[u8], text: &mut Vec<u8>) -> Result<(), LineError>
+    ensures { OnOk result ((r : Counted) × (line.now ≡ record_line r) × (more : List Counted)
+        × (text.new.items ≡ text.old.items ++ record_lines more) × ((done read : List Counted)
+        → Holds done sum.old.word.items sum.old.count read → Holds (done ++ more) sum.new.word.items sum.new.count (read ++ r ∷ []))) }
+{
     sum.add(parse_record(line)?, text)
 }

@@ -20,15 +20,15 @@ pub returns-clause-counts : goal.returns-clause-counts
 returns-clause-counts c =
     let none : get_by (by_items c.in_ok-key.key) c.args.self.now.counts ≡ None = search rules in
     elim c.match-insert.branch [
-      in-Ok w ↦ rw (w.result-is, w.in-Ok.ensures.entries, c.get_mut.follows.holds-at-none, ← c.in_ok-key.ensures.items)
+      | in-Ok w ↦ rw (w.result-is, w.in-Ok.ensures.entries, c.get_mut.follows.holds-at-none, ← c.in_ok-key.ensures.items)
           (λ u. total_insert c.in_ok-key.key c.args.self.now.counts.entries u none)
-    | in-Err w ↦ rw w.result-is tt
+      | in-Err w ↦ rw w.result-is tt
     ]
 
 pub returns-clause-positive : goal.returns-clause-positive
 returns-clause-positive c =
     elim c.match-insert.branch [
-      in-Ok w ↦ rw (w.result-is, w.in-Ok.ensures.entries, c.get_mut.follows.holds-at-none)
+      | in-Ok w ↦ rw (w.result-is, w.in-Ok.ensures.entries, c.get_mut.follows.holds-at-none)
           (λ h. positive_insert c.in_ok-key.key c.args.self.now.counts.entries h)
-    | in-Err w ↦ rw w.result-is tt
+      | in-Err w ↦ rw w.result-is tt
     ]
