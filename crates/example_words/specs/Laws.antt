@@ -1,5 +1,5 @@
 -- Laws of words, counts and tables.
-use Rattle.std.proofs.Common.{◌≡◌, ℕ, ◌+◌, ◌<◌, ◌-◌, ◌≤◌, ◌∙◌, ◌⊎◌, None, Some, unwrap_or, inl, inr, Bool, true, false, cond, not, List, [], ◌∷◌, ◌++◌, ap, append-nil, append_assoc, arith, drop, flat_map, length, map, refl, rules, suc, sym, take, zero}
+use Rattle.std.proofs.Common.{◌≡◌, ap₂, ℕ, ◌+◌, ◌<◌, ◌-◌, ◌≤◌, ◌∙◌, ◌⊎◌, None, Some, unwrap_or, inl, inr, Bool, true, false, cond, not, List, [], ◌∷◌, ◌++◌, ap, append-nil, append_assoc, arith, drop, flat_map, length, map, refl, rules, suc, sym, take, zero}
 use Rattle.std.proofs.lemmas.Cmp.{nat_list_cmp_total}
 use Rattle.std.proofs.lemmas.Grind.{common_steps}
 use Rattle.std.proofs.lemmas.List.Elements.{All-append, All-cons, All-from_recursion, All-nil, filter-append, recursion_from_All}
@@ -15,6 +15,7 @@ use Rattle.std.proofs.lemmas.Map.Text.{is_eq-slice_cmp}
 use Rattle.std.proofs.lemmas.Slice.Eq.{bytes_eq-Decides}
 use Rattle.std.specs.Ordering.{is_eq, nat_cmp, ordering_reverse}
 use Rattle.std.proofs.Common.{Bor, IfSome, MatchOption, Option}
+use Rattle.std.specs.declared.cmp.Ordering.{Ordering}
 use Rattle.std.specs.declared.cmp.Ordering.TheVariants.{Equal, Greater, Less}
 use Rattle.std.specs.Prelude.{count_by, decimal, if◌then◌else◌, nat_eq, nat_lt}
 use Rattle.std.specs.Str.{IsTrimAsciiStart, bytes_eq}
@@ -355,3 +356,65 @@ words_equal a b h = (bytes_eq-Decides a b).0 (sym (is_eq-slice_cmp a b) ∙ ap i
 
 pub words_greater : (a b : List ℕ) → slice_cmp nat_cmp a b ≡ Greater → slice_cmp nat_cmp b a ≡ Less
 words_greater a b h = nat_list_cmp_total.antisymm b a ∙ ap ordering_reverse h
+
+-- What follows is for `one_table`.
+less_than_all : (w v : List ℕ) (ks : List (List ℕ)) → slice_cmp nat_cmp w v ≡ Less
+    → AllByRecursion (λ y. slice_cmp nat_cmp v y ≡ Less) ks → AllByRecursion (λ y. slice_cmp nat_cmp w y ≡ Less) ks
+less_than_all w v [] less h = tt
+less_than_all w v (k ∷ ks) less h = (nat_list_cmp_total.trans w v k less h.0, less_than_all w v ks less h.1)
+
+not_same : (w v : List ℕ) → slice_cmp nat_cmp w v ≡ Less → bytes_eq w v ≡ false
+not_same w v less = sym (is_eq-slice_cmp w v) ∙ ap is_eq less
+
+same_as_itself : (w : List ℕ) → bytes_eq w w ≡ true
+same_as_itself w = (bytes_eq-Decides w w).1 refl
+
+absent : (w : List ℕ) (rs : List Counted) → AllByRecursion (λ y. slice_cmp nat_cmp w y ≡ Less) (map (λ r. r.0) rs) → total rs w ≡ 0
+absent w [] h = total_none w
+absent w (r ∷ rs) h = rw (total_cons r rs w, not_same w r.0 h.0) (omega (arith, absent w rs h.1))
+
+present : (r : Counted) (rs : List Counted) → total (r ∷ rs) r.0 ≡ r.1 + total rs r.0
+present r rs = rw (total_cons r rs r.0, same_as_itself r.0) refl
+
+rest_total : (x y : Counted) (xs ys : List Counted) (w : List ℕ) → x.0 ≡ y.0 → x.1 ≡ y.1 → total (x ∷ xs) w ≡ total (y ∷ ys) w
+    → total xs w ≡ total ys w
+rest_total x y xs ys w word count h =
+    let left = total_cons x xs w in
+    let right : total (y ∷ ys) w ≡ (if bytes_eq w x.0 then x.1 else 0) + total ys w = rw (word, count) (total_cons y ys w) in
+    omega (arith, h, left, right)
+
+rows : (x y : Counted) (xs ys : List Counted) → x.0 ≡ y.0 → x.1 ≡ y.1 → xs ≡ ys → x ∷ xs ≡ y ∷ ys
+rows x y xs ys word count more =
+    let pair : x ≡ y = ap₂ (λ (a : List ℕ) (b : ℕ). (a, b)) word count in ap₂ (λ a b. a ∷ b) pair more
+
+same_tables : (xs ys : List Counted) → IsStrictlySortedBy (slice_cmp nat_cmp) (map (λ r. r.0) xs)
+    → IsStrictlySortedBy (slice_cmp nat_cmp) (map (λ r. r.0) ys) → AllByRecursion (λ r. 0 < r.1) xs → AllByRecursion (λ r. 0 < r.1) ys
+    → ((w : List ℕ) → total xs w ≡ total ys w) → xs ≡ ys
+unfolding IsStrictlySortedBy
+same_tables [] [] a b p q h = refl
+same_tables [] (y ∷ ys) a b p q h = absurd (omega (arith, h y.0, total_none y.0, present y ys, q.0))
+same_tables (x ∷ xs) [] a b p q h = absurd (omega (arith, h x.0, total_none x.0, present x xs, p.0))
+same_tables (x ∷ xs) (y ∷ ys) a b p q h = at (same_tables xs ys a.1 b.1 p.1 q.1) (slice_cmp nat_cmp x.0 y.0) refl
+  where
+    at : (((w : List ℕ) → total xs w ≡ total ys w) → xs ≡ ys) → (o : Ordering) → slice_cmp nat_cmp x.0 y.0 ≡ o → x ∷ xs ≡ y ∷ ys
+    at rest Less is =
+        let none = absent x.0 (y ∷ ys) (is, less_than_all x.0 y.0 (map (λ r. r.0) ys) is b.0) in
+        absurd (omega (arith, h x.0, none, present x xs, p.0))
+    at rest Greater is =
+        let less = words_greater x.0 y.0 is in
+        let none = absent y.0 (x ∷ xs) (less, less_than_all y.0 x.0 (map (λ r. r.0) xs) less a.0) in
+        absurd (omega (arith, h y.0, none, present y ys, q.0))
+    at rest Equal is =
+        let word : x.0 ≡ y.0 = words_equal x.0 y.0 is in
+        let here : total (y ∷ ys) x.0 ≡ y.1 + total ys x.0 = rw word (present y ys) in
+        let none : total xs x.0 ≡ 0 = absent x.0 xs a.0 in
+        let nor : total ys x.0 ≡ 0 = rw word (absent y.0 ys b.0) in
+        let count : x.1 ≡ y.1 = omega (arith, h x.0, present x xs, here, none, nor) in
+        let more : xs ≡ ys = rest (λ w. rest_total x y xs ys w word count (h w)) in
+        rows x y xs ys word count more
+
+-- Two tables of one function are equal.
+pub one_table : (f : List ℕ → ℕ) (xs ys : List Counted) → IsTable f xs → IsTable f ys → xs ≡ ys
+one_table f xs ys a b =
+    same_tables xs ys a.sorted b.sorted (recursion_from_All (λ r. 0 < r.1) xs a.positive) (recursion_from_All (λ r. 0 < r.1) ys b.positive)
+    (λ w. a.counted w ∙ sym (b.counted w))
