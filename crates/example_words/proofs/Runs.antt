@@ -13,9 +13,9 @@ use Rattle.futures_lite.specs.Marks.{ReadMark, WriteMark, bytes, bytes_taken}
 use Rattle.futures_lite.specs.Own.{MarkLaws, Runs}
 use Rattle.futures_lite.specs.Readers.{ToldStripped, Without}
 use Rattle.example_words.specs.Laws.{counts_append, counts_none, shards_make_whole, total_none}
-use Rattle.example_words.specs.Records.{Counted, Holds, IsTable, counted, held, pending, record_line, record_lines, total}
-use Rattle.example_words.specs.Runs.{HasCounted, Maps, ReadsAll, ReadsLine, Reduces, Written, Wrote}
-use Rattle.example_words.specs.Words.{WholeLines, counts}
+use Rattle.example_words.specs.Records.{Counted, TableSoFar, IsTable, counted_records, held_record, pending, record_line, record_lines, total_count}
+use Rattle.example_words.specs.Runs.{HasCounted, MapsText, ReadsAll, ReadsOneLine, Reduces, WritesFlushed, WritesText}
+use Rattle.example_words.specs.Words.{WholeLines, occurrences}
 use Rattle.example_words.specs.declared.counts.Counts.{Counts}
 use Rattle.example_words.specs.declared.sum.Sum.{Sum}
 
@@ -39,14 +39,14 @@ pub record CountsSoFar {T : Type 0} (reads : Runs ReadMark T) (x : T) (cs : Coun
   pub text : List ℕ
   pub told : ToldStripped reads x (bytes text) y
   pub lines : WholeLines text
-  pub positive : All (λ r. 0 < r.1) (counted cs)
-  pub right : (word : List ℕ) → total (counted cs) word ≡ counts text word
+  pub positive : All (λ r. 0 < r.1) (counted_records cs)
+  pub right : (word : List ℕ) → total_count (counted_records cs) word ≡ occurrences text word
 
 whole_lines : (text line front : List ℕ) → line ≡ front ++ 10 ∷ [] → WholeLines (text ++ line)
 whole_lines text line front e = inr (text ++ front, rw e (sym (append_assoc text front (10 ∷ []))))
 
 module _ {T : Type 0} (reads : Runs ReadMark T) (laws : MarkLaws reads) where
-  pub counts_start : (x : T) (cs : Counts) → counted cs ≡ [] → CountsSoFar reads x cs x
+  pub counts_start : (x : T) (cs : Counts) → counted_records cs ≡ [] → CountsSoFar reads x cs x
   counts_start x cs none = record {
     text = [];
     told = told_none laws x;
@@ -56,13 +56,13 @@ module _ {T : Type 0} (reads : Runs ReadMark T) (laws : MarkLaws reads) where
   }
 
   module _ (x y z : T) (cs ds : Counts) (line : List ℕ)
-      (more : (w : List ℕ) → total (counted ds) w ≡ total (counted cs) w + counts line w)
-      (keeps : All (λ r. 0 < r.1) (counted cs) → All (λ r. 0 < r.1) (counted ds)) (so_far : CountsSoFar reads x cs y) where
-    sums : (w : List ℕ) → total (counted ds) w ≡ counts (so_far.text ++ line) w
+      (more : (w : List ℕ) → total_count (counted_records ds) w ≡ total_count (counted_records cs) w + occurrences line w)
+      (keeps : All (λ r. 0 < r.1) (counted_records cs) → All (λ r. 0 < r.1) (counted_records ds)) (so_far : CountsSoFar reads x cs y) where
+    sums : (w : List ℕ) → total_count (counted_records ds) w ≡ occurrences (so_far.text ++ line) w
     sums w = omega (arith, more w, so_far.right w, counts_append so_far.text line w so_far.lines)
 
     -- One more line.
-    pub counts_line : ReadsLine reads y line true z → CountsSoFar reads x ds z
+    pub counts_line : ReadsOneLine reads y line true z → CountsSoFar reads x ds z
     counts_line read = record {
       text = so_far.text ++ line;
       told = more_told reads laws x y z so_far.text line so_far.told read.0;
@@ -72,7 +72,7 @@ module _ {T : Type 0} (reads : Runs ReadMark T) (laws : MarkLaws reads) where
     }
 
     -- The last line, which may be empty.
-    pub counts_last : ReadsLine reads y line false z → HasCounted reads x ds z
+    pub counts_last : ReadsOneLine reads y line false z → HasCounted reads x ds z
     counts_last read = record {
       text = so_far.text ++ line;
       read = last_told reads laws x y z so_far.text line so_far.told read.0;
@@ -82,21 +82,21 @@ module _ {T : Type 0} (reads : Runs ReadMark T) (laws : MarkLaws reads) where
 
   -- The text of the counts was written.
   pub mapped : {O : Type 0} (writes : Runs WriteMark O) (x y : T) (w v : O) (cs : Counts) (text : List ℕ) → HasCounted reads x cs y
-      → IsStrictlySortedBy (slice_cmp nat_cmp) (map (λ r. r.0) (counted cs)) → text ≡ record_lines (counted cs)
-      → Written writes w text v → Maps reads writes x w y v
+      → IsStrictlySortedBy (slice_cmp nat_cmp) (map (λ r. r.0) (counted_records cs)) → text ≡ record_lines (counted_records cs)
+      → WritesFlushed writes w text v → MapsText reads writes x w y v
   mapped writes x y w v cs text has sorted is written = record {
     text = has.text;
-    table = counted cs;
+    table = counted_records cs;
     read = has.read;
     is_table = record { sorted = sorted; positive = has.positive; counted = has.right };
     written = rw is at written;
   }
 
 module _ {O : Type 0} (writes : Runs WriteMark O) (laws : MarkLaws writes) where
-  more_wrote : (w u v : O) (p q : List ℕ) → Wrote writes w p u → Wrote writes u q v → Wrote writes w (p ++ q) v
+  more_wrote : (w u v : O) (p q : List ℕ) → WritesText writes w p u → WritesText writes u q v → WritesText writes w (p ++ q) v
   more_wrote w u v p q h k = (h.0 ++ k.0, laws.follows w u v h.0 k.0 h.1 k.1, rw (taken_both h.0 k.0, h.2, k.2) refl)
 
-  last_wrote : (w u v : O) (p q : List ℕ) → Wrote writes w p u → Written writes u q v → Written writes w (p ++ q) v
+  last_wrote : (w u v : O) (p q : List ℕ) → WritesText writes w p u → WritesFlushed writes u q v → WritesFlushed writes w (p ++ q) v
   last_wrote w u v p q h k = record {
     between = k.between;
     flush = k.flush;
@@ -122,7 +122,7 @@ line_ends r = grind (arith, common_steps)
 no_newline : (front : List ℕ) → [] ≡ front ++ 10 ∷ [] → ⊥
 no_newline front h = let long = ap length h ∙ length-append front (10 ∷ []) in omega (arith, long)
 
-empty_table : IsTable (total []) []
+empty_table : IsTable (total_count []) []
 unfolding IsStrictlySortedBy
 empty_table = record { sorted = tt; positive = All-nil (λ r. 0 < r.1); counted = λ word. refl }
 
@@ -137,8 +137,8 @@ pub record SumsSoFar {T O : Type 0} (reads : Runs ReadMark T) (writes : Runs Wri
   pub records : List Counted
   pub done : List Counted
   pub told : ToldStripped reads x (bytes (record_lines records)) y
-  pub holds : Holds done s.word.items s.count records
-  pub wrote : Wrote writes w (record_lines done) v
+  pub holds : TableSoFar done s.word.items s.count records
+  pub wrote : WritesText writes w (record_lines done) v
 
 module _ {T O : Type 0} (reads : Runs ReadMark T) (writes : Runs WriteMark O) (laws : MarkLaws reads) (rules : MarkLaws writes) where
   pub sums_start : (x : T) (w : O) (s : Sum) → pending s ≡ [] → SumsSoFar reads writes x w s x w
@@ -150,7 +150,7 @@ module _ {T O : Type 0} (reads : Runs ReadMark T) (writes : Runs WriteMark O) (l
     wrote = ([], rules.rests w, refl);
   }
 
-  line_told : (y z : T) (line : List ℕ) (r : Counted) (whole : Bool) → line ≡ record_line r → ReadsLine reads y line whole z
+  line_told : (y z : T) (line : List ℕ) (r : Counted) (whole : Bool) → line ≡ record_line r → ReadsOneLine reads y line whole z
       → ToldStripped reads y (bytes (record_line r)) z
   line_told y z line r true e read = rw e at read.0
   line_told y z line r false e read = absurd (without_last (r.0 ++ 9 ∷ decimal r.1) (rw (e, line_ends r) at read.1))
@@ -158,8 +158,8 @@ module _ {T O : Type 0} (reads : Runs ReadMark T) (writes : Runs WriteMark O) (l
   -- One more record.
   pub sums_line : (x y z : T) (w u v : O) (s t : Sum) (line text : List ℕ) (whole : Bool) (r : Counted) (more : List Counted)
       → line ≡ record_line r → text ≡ record_lines more
-      → ((done read : List Counted) → Holds done s.word.items s.count read → Holds (done ++ more) t.word.items t.count (read ++ r ∷ []))
-      → SumsSoFar reads writes x w s y u → ReadsLine reads y line whole z → Wrote writes u text v → SumsSoFar reads writes x w t z v
+      → ((done read : List Counted) → TableSoFar done s.word.items s.count read → TableSoFar (done ++ more) t.word.items t.count (read ++ r ∷ []))
+      → SumsSoFar reads writes x w s y u → ReadsOneLine reads y line whole z → WritesText writes u text v → SumsSoFar reads writes x w t z v
   sums_line x y z w u v s t line text whole r more e f step so_far read wrote = record {
     records = so_far.records ++ r ∷ [];
     done = so_far.done ++ more;
@@ -170,14 +170,14 @@ module _ {T O : Type 0} (reads : Runs ReadMark T) (writes : Runs WriteMark O) (l
         (more_wrote writes rules w u v (record_lines so_far.done) (record_lines more) so_far.wrote (rw f at wrote));
   }
 
-  end_told : (y z : T) (line : List ℕ) (whole : Bool) → length line ≡ 0 → ReadsLine reads y line whole z → ReadsAll reads y [] z
+  end_told : (y z : T) (line : List ℕ) (whole : Bool) → length line ≡ 0 → ReadsOneLine reads y line whole z → ReadsAll reads y [] z
   end_told y z [] true e read = absurd (no_newline read.1.0 read.1.1)
   end_told y z [] false e read = read.0
   end_told y z (b ∷ line) whole e read = absurd (omega arith)
 
   -- The end of the input.
   pub sums_end : (x y z : T) (w u v : O) (s : Sum) (line text : List ℕ) (whole : Bool) → length line ≡ 0 → text ≡ record_lines (pending s)
-      → SumsSoFar reads writes x w s y u → ReadsLine reads y line whole z → Written writes u text v → Reduces reads writes x w z v
+      → SumsSoFar reads writes x w s y u → ReadsOneLine reads y line whole z → WritesFlushed writes u text v → Reduces reads writes x w z v
   sums_end x y z w u v s line text whole e f so_far read written = record {
     records = so_far.records;
     table = so_far.done ++ pending s;

@@ -15,7 +15,7 @@ use Rattle.std.specs.Str.{bytes_eq}
 use Rattle.std.specs.declared.cmp.Ordering.{Ordering}
 use Rattle.std.specs.declared.cmp.Ordering.TheVariants.{Equal, Greater, Less}
 use Rattle.example_words.specs.Laws.{total_cons}
-use Rattle.example_words.specs.Records.{Counted, total}
+use Rattle.example_words.specs.Records.{Counted, total_count}
 
 -- The records of entries.
 abbrev pub records_of : List (Vec ℕ × ℕ) → List Counted
@@ -38,15 +38,15 @@ one_more false n = refl
 
 -- A word that is counted is counted once more.
 pub total_set : (word : List ℕ) (es : List (Vec ℕ × ℕ)) (v : ℕ) (u : List ℕ) → Some v ≡ lookup (at_word word) es
-    → total (records_of (set_value (at_word word) es (v + 1))) u ≡ total (records_of es) u + (if bytes_eq u word then 1 else 0)
+    → total_count (records_of (set_value (at_word word) es (v + 1))) u ≡ total_count (records_of es) u + (if bytes_eq u word then 1 else 0)
 total_set word [] v u h = search rules
 total_set word (e ∷ es) v u h = at (total_set word es v u) (at_word word e.0) refl h
   where
-    at : (Some v ≡ lookup (at_word word) es → total (records_of (set_value (at_word word) es (v + 1))) u
-        ≡ total (records_of es) u + (if bytes_eq u word then 1 else 0))
+    at : (Some v ≡ lookup (at_word word) es → total_count (records_of (set_value (at_word word) es (v + 1))) u
+        ≡ total_count (records_of es) u + (if bytes_eq u word then 1 else 0))
         → (b : Bool) → at_word word e.0 ≡ b → Some v ≡ cond b (Some e.1) (lookup (at_word word) es)
-        → total (records_of (cond b ((e.0, v + 1) ∷ es) (e ∷ set_value (at_word word) es (v + 1)))) u
-        ≡ total (records_of (e ∷ es)) u + (if bytes_eq u word then 1 else 0)
+        → total_count (records_of (cond b ((e.0, v + 1) ∷ es) (e ∷ set_value (at_word word) es (v + 1)))) u
+        ≡ total_count (records_of (e ∷ es)) u + (if bytes_eq u word then 1 else 0)
     at rest true is found =
         let same : word ≡ e.0.items = same_word word e.0 is in
         let count : e.1 ≡ v = search rules in
@@ -58,15 +58,15 @@ total_set word (e ∷ es) v u h = at (total_set word es v u) (at_word word e.0) 
 
 -- A new word is counted once.
 pub total_insert : (key : Vec ℕ) (es : List (Vec ℕ × ℕ)) (u : List ℕ) → lookup (λ k. is_eq (by_items key k)) es ≡ None
-    → total (records_of (insert_entry by_items es key 1)) u ≡ total (records_of es) u + (if bytes_eq u key.items then 1 else 0)
+    → total_count (records_of (insert_entry by_items es key 1)) u ≡ total_count (records_of es) u + (if bytes_eq u key.items then 1 else 0)
 total_insert key [] u h = rw (total_cons (key.items, 1) [] u) (omega arith)
 total_insert key (e ∷ es) u h = at (total_insert key es u) (by_items key e.0) h
   where
-    at : (lookup (λ k. is_eq (by_items key k)) es ≡ None → total (records_of (insert_entry by_items es key 1)) u
-        ≡ total (records_of es) u + (if bytes_eq u key.items then 1 else 0))
+    at : (lookup (λ k. is_eq (by_items key k)) es ≡ None → total_count (records_of (insert_entry by_items es key 1)) u
+        ≡ total_count (records_of es) u + (if bytes_eq u key.items then 1 else 0))
         → (o : Ordering) → cond (is_eq o) (Some e.1) (lookup (λ k. is_eq (by_items key k)) es) ≡ None
-        → total (records_of (match_ordering o ((key, 1) ∷ e ∷ es) ((e.0, 1) ∷ es) (e ∷ insert_entry by_items es key 1))) u
-        ≡ total (records_of (e ∷ es)) u + (if bytes_eq u key.items then 1 else 0)
+        → total_count (records_of (match_ordering o ((key, 1) ∷ e ∷ es) ((e.0, 1) ∷ es) (e ∷ insert_entry by_items es key 1))) u
+        ≡ total_count (records_of (e ∷ es)) u + (if bytes_eq u key.items then 1 else 0)
     at rest Less none = rw (total_cons (key.items, 1) (records_of (e ∷ es)) u) (omega arith)
     at rest Equal none = search rules
     at rest Greater none =

@@ -19,8 +19,8 @@ use Rattle.std.specs.declared.cmp.Ordering.{Ordering}
 use Rattle.std.specs.declared.cmp.Ordering.TheVariants.{Equal, Greater, Less}
 use Rattle.std.specs.Prelude.{count_by, decimal, if◌then◌else◌, nat_eq, nat_lt}
 use Rattle.std.specs.Str.{IsTrimAsciiStart, bytes_eq}
-use Rattle.example_words.specs.Records.{Counted, Holds, IsTable, MergesShards, held, record_line, total}
-use Rattle.example_words.specs.Words.{CutAtLines, WholeLines, counts, longer_first, pieces, words}
+use Rattle.example_words.specs.Records.{Counted, TableSoFar, IsTable, MergesShards, held_record, record_line, total_count}
+use Rattle.example_words.specs.Words.{CutAtLines, WholeLines, occurrences, longer_first, text_pieces, words}
 
 longer_append : (b : ℕ) (xs ys : List (List ℕ)) → 0 < length xs → longer_first b (xs ++ ys) ≡ longer_first b xs ++ ys
 longer_append b [] ys h = absurd (omega arith)
@@ -30,70 +30,71 @@ longer_some : (b : ℕ) (xs : List (List ℕ)) → 0 < length (longer_first b xs
 longer_some b [] = omega arith
 longer_some b (x ∷ xs) = omega arith
 
-pieces_some : (text : List ℕ) → 0 < length (pieces text)
+pieces_some : (text : List ℕ) → 0 < length (text_pieces text)
 pieces_some [] = omega arith
 pieces_some (b ∷ bs) = at (is_ascii_whitespace b)
   where
-    at : (white : Bool) → 0 < length (cond white ([] ∷ pieces bs) (longer_first b (pieces bs)))
+    at : (white : Bool) → 0 < length (cond white ([] ∷ text_pieces bs) (longer_first b (text_pieces bs)))
     at true = omega arith
-    at false = longer_some b (pieces bs)
+    at false = longer_some b (text_pieces bs)
 
-pieces_line : (front more : List ℕ) → pieces (front ++ 10 ∷ more) ≡ pieces front ++ pieces more
+pieces_line : (front more : List ℕ) → text_pieces (front ++ 10 ∷ more) ≡ text_pieces front ++ text_pieces more
 pieces_line [] more = refl
 pieces_line (b ∷ bs) more = at (pieces_line bs more) (is_ascii_whitespace b)
   where
-    at : pieces (bs ++ 10 ∷ more) ≡ pieces bs ++ pieces more → (white : Bool) → cond white ([] ∷ pieces (bs ++ 10 ∷ more)) (longer_first b (pieces (bs ++ 10 ∷ more)))
-        ≡ cond white ([] ∷ pieces bs) (longer_first b (pieces bs)) ++ pieces more
+    at : text_pieces (bs ++ 10 ∷ more) ≡ text_pieces bs ++ text_pieces more → (white : Bool) → cond white ([] ∷ text_pieces (bs ++ 10 ∷ more)) (longer_first b (text_pieces (bs ++ 10 ∷ more)))
+        ≡ cond white ([] ∷ text_pieces bs) (longer_first b (text_pieces bs)) ++ text_pieces more
     at rest true = ap (λ k. [] ∷ k) rest
-    at rest false = ap (longer_first b) rest ∙ longer_append b (pieces bs) (pieces more) (pieces_some bs)
+    at rest false = ap (longer_first b) rest ∙ longer_append b (text_pieces bs) (text_pieces more) (pieces_some bs)
 
+-- Whether a piece is not empty.
 abbrev some : List ℕ → Bool
 some piece = nat_lt 0 (length piece)
 
-words_line : (front more : List ℕ) → filter some (pieces (front ++ 10 ∷ more)) ≡ filter some (pieces front) ++ filter some (pieces more)
-words_line front more = ap (filter some) (pieces_line front more) ∙ filter-append some (pieces front) (pieces more)
+words_line : (front more : List ℕ) → filter some (text_pieces (front ++ 10 ∷ more)) ≡ filter some (text_pieces front) ++ filter some (text_pieces more)
+words_line front more = ap (filter some) (pieces_line front more) ∙ filter-append some (text_pieces front) (text_pieces more)
 
 -- The words of whole lines and then more text are the words of both, in order.
 pub words_append : (lines more : List ℕ) → WholeLines lines → words (lines ++ more) ≡ words lines ++ words more
 unfolding words
 words_append lines more (inl e) = rw e refl
 words_append lines more (inr (front, e)) =
-    let whole : words (front ++ 10 ∷ []) ≡ filter some (pieces front) = words_line front [] ∙ append-nil _ in
+    let whole : words (front ++ 10 ∷ []) ≡ filter some (text_pieces front) = words_line front [] ∙ append-nil _ in
     rw e (ap words (append_assoc front (10 ∷ []) more) ∙ words_line front more ∙ ap (λ ws. ws ++ words more) (sym whole))
 
 -- So the counts of whole lines and then more text are the sums of the counts of both.
 pub counts_append : (lines more word : List ℕ) → WholeLines lines
-    → counts (lines ++ more) word ≡ counts lines word + counts more word
-unfolding counts
+    → occurrences (lines ++ more) word ≡ occurrences lines word + occurrences more word
+unfolding occurrences
 counts_append lines more word h = ap (count_by (bytes_eq word)) (words_append lines more h) ∙ sum_by-append _ (words lines) (words more)
 
-pub counts_none : (word : List ℕ) → counts [] word ≡ 0
-unfolding counts words
+pub counts_none : (word : List ℕ) → occurrences [] word ≡ 0
+unfolding occurrences words
 counts_none word = refl
 
-pub total_none : (word : List ℕ) → total [] word ≡ 0
-unfolding total
+pub total_none : (word : List ℕ) → total_count [] word ≡ 0
+unfolding total_count
 total_none word = refl
 
-pub total_append : (xs ys : List Counted) (word : List ℕ) → total (xs ++ ys) word ≡ total xs word + total ys word
-unfolding total
+pub total_append : (xs ys : List Counted) (word : List ℕ) → total_count (xs ++ ys) word ≡ total_count xs word + total_count ys word
+unfolding total_count
 total_append xs ys word = sum_by-append _ xs ys
 
-pub total_one : (r : Counted) (word : List ℕ) → total (r ∷ []) word ≡ (if bytes_eq word r.0 then r.1 else 0)
-unfolding total
+pub total_one : (r : Counted) (word : List ℕ) → total_count (r ∷ []) word ≡ (if bytes_eq word r.0 then r.1 else 0)
+unfolding total_count
 total_one r word = omega arith
 
-pub total_cons : (r : Counted) (rs : List Counted) (u : List ℕ) → total (r ∷ rs) u ≡ (if bytes_eq u r.0 then r.1 else 0) + total rs u
-total_cons r rs u = total_append (r ∷ []) rs u ∙ ap (λ n. n + total rs u) (total_one r u)
+pub total_cons : (r : Counted) (rs : List Counted) (u : List ℕ) → total_count (r ∷ rs) u ≡ (if bytes_eq u r.0 then r.1 else 0) + total_count rs u
+total_cons r rs u = total_append (r ∷ []) rs u ∙ ap (λ n. n + total_count rs u) (total_one r u)
 
-total_moved : (xs ys : List Counted) (word : List ℕ) → IsPermutation xs ys → total ys word ≡ total xs word
-unfolding total
+total_moved : (xs ys : List Counted) (word : List ℕ) → IsPermutation xs ys → total_count ys word ≡ total_count xs word
+unfolding total_count
 total_moved xs ys word h = sum_by-IsPermutation _ xs ys h
 
 -- The counts of a text are the sums of those in the tables of its shards.
 pub shards_total : (shards : List (List ℕ)) (tables : List (List Counted)) → CutAtLines shards
-    → AllZip (λ shard table. IsTable (counts shard) table) shards tables
-    → (word : List ℕ) → total (flat_map (λ table. table) tables) word ≡ counts (concat shards) word
+    → AllZip (λ shard table. IsTable (occurrences shard) table) shards tables
+    → (word : List ℕ) → total_count (flat_map (λ table. table) tables) word ≡ occurrences (concat shards) word
 shards_total [] [] cut each word = total_none word ∙ sym (counts_none word)
 shards_total [] (table ∷ tables) cut each word = absurd each
 shards_total (shard ∷ shards) [] cut each word = absurd each
@@ -107,7 +108,7 @@ shards_total (shard ∷ next ∷ shards) (table ∷ tables) cut each word =
 
 -- The theorem of the shards: a table of records that were merged from tables of all shards of a text is the table of the text.
 pub shards_make_whole : (shards : List (List ℕ)) (read out : List Counted) → CutAtLines shards → MergesShards shards read
-    → IsTable (total read) out → IsTable (counts (concat shards)) out
+    → IsTable (total_count read) out → IsTable (occurrences (concat shards)) out
 shards_make_whole shards read out cut (tables, each, moved) table = record {
   sorted = table.sorted;
   positive = table.positive;
@@ -117,8 +118,9 @@ shards_make_whole shards read out cut (tables, each, moved) table = record {
 -- What is behind the first piece of a text.
 behind : List ℕ → List (List ℕ)
 behind [] = []
-behind (b ∷ bs) = pieces bs
+behind (b ∷ bs) = text_pieces bs
 
+-- Whether a byte is not white space.
 abbrev black : ℕ → Bool
 black b = not (is_ascii_whitespace b)
 
@@ -153,13 +155,13 @@ trimmed_black (b ∷ bs) h = at (trimmed_black bs) (is_ascii_whitespace b) refl 
     at rest false e h =
         let same : drop (prefix_len is_ascii_whitespace (b ∷ bs)) (b ∷ bs) ≡ b ∷ bs = rw e refl in rw same (rw e (omega arith))
 
-pieces_cut : (text : List ℕ) → pieces text ≡ take (prefix_len black text) text ∷ behind (drop (prefix_len black text) text)
+pieces_cut : (text : List ℕ) → text_pieces text ≡ take (prefix_len black text) text ∷ behind (drop (prefix_len black text) text)
 unfolding behind
 pieces_cut [] = refl
 pieces_cut (b ∷ bs) = at (pieces_cut bs) (is_ascii_whitespace b) refl
   where
-    at : pieces bs ≡ take (prefix_len black bs) bs ∷ behind (drop (prefix_len black bs) bs) → (white : Bool) → is_ascii_whitespace b ≡ white
-        → pieces (b ∷ bs) ≡ take (prefix_len black (b ∷ bs)) (b ∷ bs) ∷ behind (drop (prefix_len black (b ∷ bs)) (b ∷ bs))
+    at : text_pieces bs ≡ take (prefix_len black bs) bs ∷ behind (drop (prefix_len black bs) bs) → (white : Bool) → is_ascii_whitespace b ≡ white
+        → text_pieces (b ∷ bs) ≡ take (prefix_len black (b ∷ bs)) (b ∷ bs) ∷ behind (drop (prefix_len black (b ∷ bs)) (b ∷ bs))
     at rest true e = rw e refl
     at rest false e = rw (e, one_more (prefix_len black bs)) (ap (longer_first b) rest)
 
@@ -222,18 +224,18 @@ one_piece word w = omega arith
 
 -- The counts of a text are those of its first word and of what is behind it.
 pub counts_next : (text word rest w : List ℕ) → words text ≡ word ∷ words rest
-    → counts text w ≡ (if bytes_eq w word then 1 else 0) + counts rest w
-unfolding counts
+    → occurrences text w ≡ (if bytes_eq w word then 1 else 0) + occurrences rest w
+unfolding occurrences
 counts_next text word rest w h =
     ap (count_by (bytes_eq w)) h ∙ sum_by-append _ (word ∷ []) (words rest)
     ∙ ap (λ n. n + count_by (bytes_eq w) (words rest)) (one_piece word w)
 
-pub counts_no : (text w : List ℕ) → words text ≡ [] → counts text w ≡ 0
-unfolding counts
+pub counts_no : (text w : List ℕ) → words text ≡ [] → occurrences text w ≡ 0
+unfolding occurrences
 counts_no text w h = ap (count_by (bytes_eq w)) h
 
 -- Tables: one more record of the last word, or of a word behind it.
-held_is : (word : List ℕ) (n : ℕ) → 0 < n → held word n ≡ (word, n) ∷ []
+held_is : (word : List ℕ) (n : ℕ) → 0 < n → held_record word n ≡ (word, n) ∷ []
 held_is word n h = search rules
 
 all_more : {X : Type 0} (P : X → Type 0) (xs : List X) (x : X) → AllByRecursion P xs → P x → AllByRecursion P (xs ++ x ∷ [])
@@ -271,7 +273,7 @@ All-front xs ys h = All-from_recursion (λ r. 0 < r.1) xs (front xs (recursion_f
     front (z ∷ zs) k = (k.0, front zs k.1)
 
 split_total : (word : List ℕ) (n m : ℕ) (w : List ℕ)
-    → total ((word, n + m) ∷ []) w ≡ total ((word, n) ∷ []) w + total ((word, m) ∷ []) w
+    → total_count ((word, n + m) ∷ []) w ≡ total_count ((word, n) ∷ []) w + total_count ((word, m) ∷ []) w
 split_total word n m w =
     rw (total_one (word, n + m) w, total_one (word, n) w, total_one (word, m) w) (at (bytes_eq w word))
   where
@@ -279,18 +281,18 @@ split_total word n m w =
     at true = refl
     at false = omega arith
 
-same_total : (done read : List Counted) (word : List ℕ) (n m : ℕ) (w : List ℕ) → total (done ++ (word, n) ∷ []) w ≡ total read w
-    → total (done ++ (word, n + m) ∷ []) w ≡ total (read ++ (word, m) ∷ []) w
+same_total : (done read : List Counted) (word : List ℕ) (n m : ℕ) (w : List ℕ) → total_count (done ++ (word, n) ∷ []) w ≡ total_count read w
+    → total_count (done ++ (word, n + m) ∷ []) w ≡ total_count (read ++ (word, m) ∷ []) w
 same_total done read word n m w h =
     let one = split_total word n m w in
     omega (arith, h, one, total_append done ((word, n + m) ∷ []) w, total_append done ((word, n) ∷ []) w, total_append read ((word, m) ∷ []) w)
 
-held_none : (word : List ℕ) → held word 0 ≡ []
+held_none : (word : List ℕ) → held_record word 0 ≡ []
 held_none word = refl
 
 table_more : (done read : List Counted) (next : List ℕ) (m : ℕ) → 0 < m
-    → IsStrictlySortedBy (slice_cmp nat_cmp) (map (λ r. r.0) (done ++ (next, m) ∷ [])) → IsTable (total read) done
-    → IsTable (total (read ++ (next, m) ∷ [])) (done ++ (next, m) ∷ [])
+    → IsStrictlySortedBy (slice_cmp nat_cmp) (map (λ r. r.0) (done ++ (next, m) ∷ [])) → IsTable (total_count read) done
+    → IsTable (total_count (read ++ (next, m) ∷ [])) (done ++ (next, m) ∷ [])
 table_more done read next m some_more sorted table = record {
   sorted = sorted;
   positive = All-append (λ r. 0 < r.1) done ((next, m) ∷ []) table.positive (one_positive next m some_more);
@@ -298,19 +300,19 @@ table_more done read next m some_more sorted table = record {
 }
 
 -- The first record.
-pub holds_first : (done read : List Counted) (word next : List ℕ) (m : ℕ) → 0 < m → Holds done word 0 read
-    → Holds (done ++ []) next m (read ++ (next, m) ∷ [])
+pub holds_first : (done read : List Counted) (word next : List ℕ) (m : ℕ) → 0 < m → TableSoFar done word 0 read
+    → TableSoFar (done ++ []) next m (read ++ (next, m) ∷ [])
 holds_first done read word next m some_more h =
     let none : done ≡ [] = h.1 refl in
-    let table : IsTable (total read) [] = rw none at h.0 in
+    let table : IsTable (total_count read) [] = rw none at h.0 in
     rw (none, held_is next m some_more) (table_more [] read next m some_more (sorted_one next) table, λ e. refl)
 
 -- One more record of the same word.
-pub holds_same : (done read : List Counted) (word : List ℕ) (n m : ℕ) → 0 < n → Holds done word n read
-    → Holds (done ++ []) word (n + m) (read ++ (word, m) ∷ [])
+pub holds_same : (done read : List Counted) (word : List ℕ) (n m : ℕ) → 0 < n → TableSoFar done word n read
+    → TableSoFar (done ++ []) word (n + m) (read ++ (word, m) ∷ [])
 holds_same done read word n m some_yet h =
     let more : 0 < n + m = omega (arith, some_yet) in
-    let table : IsTable (total read) (done ++ (word, n) ∷ []) = rw (held_is word n some_yet) at h.0 in
+    let table : IsTable (total_count read) (done ++ (word, n) ∷ []) = rw (held_is word n some_yet) at h.0 in
     rw (append-nil done, held_is word (n + m) more) (
       record {
         sorted = rw (names done (word, n + m), sym (names done (word, n))) table.sorted;
@@ -322,9 +324,9 @@ holds_same done read word n m some_yet h =
 
 -- A record of a word behind it.
 pub holds_next : (done read : List Counted) (word next : List ℕ) (n m : ℕ) → 0 < n → 0 < m → slice_cmp nat_cmp word next ≡ Less
-    → Holds done word n read → Holds (done ++ (word, n) ∷ []) next m (read ++ (next, m) ∷ [])
+    → TableSoFar done word n read → TableSoFar (done ++ (word, n) ∷ []) next m (read ++ (next, m) ∷ [])
 holds_next done read word next n m some_yet some_more less h =
-    let table : IsTable (total read) (done ++ (word, n) ∷ []) = rw (held_is word n some_yet) at h.0 in
+    let table : IsTable (total_count read) (done ++ (word, n) ∷ []) = rw (held_is word n some_yet) at h.0 in
     let sorted = rw (names done (word, n)) at table.sorted in
     rw (held_is next m some_more) (
       table_more (done ++ (word, n) ∷ []) read next m some_more
@@ -369,18 +371,18 @@ not_same w v less = sym (is_eq-slice_cmp w v) ∙ ap is_eq less
 same_as_itself : (w : List ℕ) → bytes_eq w w ≡ true
 same_as_itself w = (bytes_eq-Decides w w).1 refl
 
-absent : (w : List ℕ) (rs : List Counted) → AllByRecursion (λ y. slice_cmp nat_cmp w y ≡ Less) (map (λ r. r.0) rs) → total rs w ≡ 0
+absent : (w : List ℕ) (rs : List Counted) → AllByRecursion (λ y. slice_cmp nat_cmp w y ≡ Less) (map (λ r. r.0) rs) → total_count rs w ≡ 0
 absent w [] h = total_none w
 absent w (r ∷ rs) h = rw (total_cons r rs w, not_same w r.0 h.0) (omega (arith, absent w rs h.1))
 
-present : (r : Counted) (rs : List Counted) → total (r ∷ rs) r.0 ≡ r.1 + total rs r.0
+present : (r : Counted) (rs : List Counted) → total_count (r ∷ rs) r.0 ≡ r.1 + total_count rs r.0
 present r rs = rw (total_cons r rs r.0, same_as_itself r.0) refl
 
-rest_total : (x y : Counted) (xs ys : List Counted) (w : List ℕ) → x.0 ≡ y.0 → x.1 ≡ y.1 → total (x ∷ xs) w ≡ total (y ∷ ys) w
-    → total xs w ≡ total ys w
+rest_total : (x y : Counted) (xs ys : List Counted) (w : List ℕ) → x.0 ≡ y.0 → x.1 ≡ y.1 → total_count (x ∷ xs) w ≡ total_count (y ∷ ys) w
+    → total_count xs w ≡ total_count ys w
 rest_total x y xs ys w word count h =
     let left = total_cons x xs w in
-    let right : total (y ∷ ys) w ≡ (if bytes_eq w x.0 then x.1 else 0) + total ys w = rw (word, count) (total_cons y ys w) in
+    let right : total_count (y ∷ ys) w ≡ (if bytes_eq w x.0 then x.1 else 0) + total_count ys w = rw (word, count) (total_cons y ys w) in
     omega (arith, h, left, right)
 
 rows : (x y : Counted) (xs ys : List Counted) → x.0 ≡ y.0 → x.1 ≡ y.1 → xs ≡ ys → x ∷ xs ≡ y ∷ ys
@@ -389,14 +391,14 @@ rows x y xs ys word count more =
 
 same_tables : (xs ys : List Counted) → IsStrictlySortedBy (slice_cmp nat_cmp) (map (λ r. r.0) xs)
     → IsStrictlySortedBy (slice_cmp nat_cmp) (map (λ r. r.0) ys) → AllByRecursion (λ r. 0 < r.1) xs → AllByRecursion (λ r. 0 < r.1) ys
-    → ((w : List ℕ) → total xs w ≡ total ys w) → xs ≡ ys
+    → ((w : List ℕ) → total_count xs w ≡ total_count ys w) → xs ≡ ys
 unfolding IsStrictlySortedBy
 same_tables [] [] a b p q h = refl
 same_tables [] (y ∷ ys) a b p q h = absurd (omega (arith, h y.0, total_none y.0, present y ys, q.0))
 same_tables (x ∷ xs) [] a b p q h = absurd (omega (arith, h x.0, total_none x.0, present x xs, p.0))
 same_tables (x ∷ xs) (y ∷ ys) a b p q h = at (same_tables xs ys a.1 b.1 p.1 q.1) (slice_cmp nat_cmp x.0 y.0) refl
   where
-    at : (((w : List ℕ) → total xs w ≡ total ys w) → xs ≡ ys) → (o : Ordering) → slice_cmp nat_cmp x.0 y.0 ≡ o → x ∷ xs ≡ y ∷ ys
+    at : (((w : List ℕ) → total_count xs w ≡ total_count ys w) → xs ≡ ys) → (o : Ordering) → slice_cmp nat_cmp x.0 y.0 ≡ o → x ∷ xs ≡ y ∷ ys
     at rest Less is =
         let none = absent x.0 (y ∷ ys) (is, less_than_all x.0 y.0 (map (λ r. r.0) ys) is b.0) in
         absurd (omega (arith, h x.0, none, present x xs, p.0))
@@ -406,9 +408,9 @@ same_tables (x ∷ xs) (y ∷ ys) a b p q h = at (same_tables xs ys a.1 b.1 p.1 
         absurd (omega (arith, h y.0, none, present y ys, q.0))
     at rest Equal is =
         let word : x.0 ≡ y.0 = words_equal x.0 y.0 is in
-        let here : total (y ∷ ys) x.0 ≡ y.1 + total ys x.0 = rw word (present y ys) in
-        let none : total xs x.0 ≡ 0 = absent x.0 xs a.0 in
-        let nor : total ys x.0 ≡ 0 = rw word (absent y.0 ys b.0) in
+        let here : total_count (y ∷ ys) x.0 ≡ y.1 + total_count ys x.0 = rw word (present y ys) in
+        let none : total_count xs x.0 ≡ 0 = absent x.0 xs a.0 in
+        let nor : total_count ys x.0 ≡ 0 = rw word (absent y.0 ys b.0) in
         let count : x.1 ≡ y.1 = omega (arith, h x.0, present x xs, here, none, nor) in
         let more : xs ≡ ys = rest (λ w. rest_total x y xs ys w word count (h w)) in
         rows x y xs ys word count more

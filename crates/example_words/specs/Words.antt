@@ -10,17 +10,17 @@ longer_first b [] = (b ∷ []) ∷ []
 longer_first b (piece ∷ more) = (b ∷ piece) ∷ more
 
 -- The pieces of a text between its bytes of white space. Those between two that are neighbours are empty.
-abbrev pub pieces : List ℕ → List (List ℕ)
-pieces [] = [] ∷ []
-pieces (b ∷ bs) = if is_ascii_whitespace b then [] ∷ pieces bs else longer_first b (pieces bs)
+abbrev pub text_pieces : List ℕ → List (List ℕ)
+text_pieces [] = [] ∷ []
+text_pieces (b ∷ bs) = if is_ascii_whitespace b then [] ∷ text_pieces bs else longer_first b (text_pieces bs)
 
 -- The words of a text are its pieces that are not empty.
 unfoldable pub words : List ℕ → List (List ℕ)
-words text = filter (λ piece. nat_lt 0 (length piece)) (pieces text)
+words text = filter (λ piece. nat_lt 0 (length piece)) (text_pieces text)
 
 -- How often a word is in a text.
-unfoldable pub counts : List ℕ → List ℕ → ℕ
-counts text word = count_by (bytes_eq word) (words text)
+unfoldable pub occurrences : List ℕ → List ℕ → ℕ
+occurrences text word = count_by (bytes_eq word) (words text)
 
 -- The text is whole lines: it is empty, or its last byte is a newline.
 abbrev pub WholeLines : List ℕ → Type 0

@@ -1,6 +1,6 @@
 //! Lines of the input.
 ghost use Rattle.std.specs.Prelude.{IfOk};
-ghost use Rattle.example_words.specs.Runs.{ReadsLine};
+ghost use Rattle.example_words.specs.Runs.{ReadsOneLine};
 
 use crate::fault::WordsError;
 use futures_lite::future::BlockOn;
@@ -19,7 +19,7 @@ where
     R: Wait,
     T: AsyncBufRead + CountedRead,
     requires counts { T.ranks.counts reader.old }
-    ensures read { IfOk result (λ whole. ReadsLine T.reads reader.old line.new.items whole reader.new) }
+    ensures read { IfOk result (λ whole. ReadsOneLine T.reads reader.old line.new.items whole reader.new) }
     ensures again { T.ranks.counts reader.new }
 {
     line.clear();

@@ -1,6 +1,6 @@
 //! Words become counts.
 ghost use Rattle.std.specs.Prelude.{IfOk};
-ghost use Rattle.example_words.specs.Runs.{HasCounted, Maps};
+ghost use Rattle.example_words.specs.Runs.{HasCounted, MapsText};
 
 use crate::counts::Counts;
 use crate::fault::WordsError;
@@ -24,7 +24,7 @@ where
     T: AsyncBufRead + CountedRead,
     O: AsyncWrite,
     requires counts { T.ranks.counts reader.old }
-    ensures { IfOk result (λ _. Maps T.reads O.writes reader.old output.old reader.new output.new) }
+    ensures { IfOk result (λ _. MapsText T.reads O.writes reader.old output.old reader.new output.new) }
 {
     let counts = count_words(on, rt, reader)?;
     let text = counts.text()?;

@@ -1,6 +1,6 @@
 //! Text of the output.
 ghost use Rattle.std.specs.Prelude.{IfOk};
-ghost use Rattle.example_words.specs.Runs.{Wrote, Written};
+ghost use Rattle.example_words.specs.Runs.{WritesText, WritesFlushed};
 
 use crate::fault::WordsError;
 use futures_lite::AsyncWrite;
@@ -15,7 +15,7 @@ pub fn write<R: Wait, O: AsyncWrite>(
     output: &mut O,
     text: &[u8],
 ) -> Result<(), WordsError>
-    ensures { IfOk result (λ _. Wrote O.writes output.old text.now output.new) }
+    ensures { IfOk result (λ _. WritesText O.writes output.old text.now output.new) }
 {
     match wait_write_all(on, rt, output, text) {
         Ok(Ok(())) => Ok(()),
@@ -31,7 +31,7 @@ pub fn write_last<R: Wait, O: AsyncWrite>(
     output: &mut O,
     text: &[u8],
 ) -> Result<(), WordsError>
-    ensures { IfOk result (λ _. Written O.writes output.old text.now output.new) }
+    ensures { IfOk result (λ _. WritesFlushed O.writes output.old text.now output.new) }
 {
     write(on, rt, output, text)?;
     match wait_flush(on, rt, output) {

@@ -1,6 +1,6 @@
 //! Counts become sums.
 ghost use Rattle.std.specs.Prelude.{◌≡◌, ◌∷◌, ◌++◌, ◌<◌, [], IfOk, List, OnOk};
-ghost use Rattle.example_words.specs.Records.{Counted, Holds, record_line, record_lines};
+ghost use Rattle.example_words.specs.Records.{Counted, TableSoFar, record_line, record_lines};
 ghost use Rattle.example_words.specs.Runs.{Reduces};
 
 use crate::fault::{LineError, WordsError};
@@ -52,7 +52,7 @@ where
 fn add_line(sum: &mut Sum, line: &[u8], text: &mut Vec<u8>) -> Result<(), LineError>
     ensures { OnOk result ((r : Counted) × (line.now ≡ record_line r) × (more : List Counted)
         × (text.new.items ≡ text.old.items ++ record_lines more) × ((done read : List Counted)
-        → Holds done sum.old.word.items sum.old.count read → Holds (done ++ more) sum.new.word.items sum.new.count (read ++ r ∷ []))) }
+        → TableSoFar done sum.old.word.items sum.old.count read → TableSoFar (done ++ more) sum.new.word.items sum.new.count (read ++ r ∷ []))) }
 {
     sum.add(parse_record(line)?, text)
 }

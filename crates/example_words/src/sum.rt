@@ -1,6 +1,6 @@
 //! The sum of the counts of one word.
 ghost use Rattle.std.specs.Prelude.{◌≡◌, ◌∷◌, ◌++◌, ◌<◌, [], List, OnOk};
-ghost use Rattle.example_words.specs.Records.{Counted, Holds, pending, record_lines};
+ghost use Rattle.example_words.specs.Records.{Counted, TableSoFar, pending, record_lines};
 
 use crate::fault::LineError;
 use crate::record::{Record, push_record};
@@ -28,8 +28,8 @@ impl Sum {
     /// Adds a record. If it begins another word, the line of the word before is appended to `text`.
     pub fn add(&mut self, record: Record<'_>, text: &mut Vec<u8>) -> Result<(), LineError>
         ensures { OnOk result ((more : List Counted) × (text.new.items ≡ text.old.items ++ record_lines more)
-            × ((done read : List Counted) → 0 < record.entry.count → Holds done self.old.word.items self.old.count read
-            → Holds (done ++ more) self.new.word.items self.new.count (read ++ (record.entry.word.now, record.entry.count) ∷ []))) }
+            × ((done read : List Counted) → 0 < record.entry.count → TableSoFar done self.old.word.items self.old.count read
+            → TableSoFar (done ++ more) self.new.word.items self.new.count (read ++ (record.entry.word.now, record.entry.count) ∷ []))) }
     {
         if self.count > 0 {
             match record.word.cmp(self.word.as_slice()) {

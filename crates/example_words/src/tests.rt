@@ -40,6 +40,14 @@ where
     })
 }
 
+// Returns what was written by a run that succeeded.
+fn written(run: Run) -> Result<Vec<u8>, Fail> {
+    match run {
+        Ok(text) => Ok(text),
+        Err(_) => Err(Fail::from("the input is refused")),
+    }
+}
+
 // Returns the lines of several texts, sorted as `LC_ALL=C sort -t TAB -k1,1` sorts those that `map` writes.
 fn merged(alloc: Global, texts: &[Vec<u8>]) -> Result<Vec<u8>, Fail> {
     let mut lines = Vec::new(alloc);
@@ -77,11 +85,11 @@ where
 
 #[test]
 fn words_are_counted(rt: HostRuntime) -> Result<(), Fail> {
-    let counted = mapped(&rt, TEXT)?;
+    let counted = written(mapped(&rt, TEXT)?)?;
     let wanted = b"a\t2\nab\t1\na\xff\t1\nb\t4\nc\x0bc\t1\n".as_slice();
-    assert!(rt; matches!(counted, Ok(text) if text.as_slice() == wanted));
+    assert_eq!(rt; counted.as_slice(), wanted);
     for empty in [b"".as_slice(), b"\n", b" \t\r\n \x0c"] {
-        assert!(rt; matches!(mapped(&rt, empty)?, Ok(text) if text.is_empty()));
+        assert!(rt; written(mapped(&rt, empty)?)?.is_empty());
     }
     Ok(())
 }
@@ -89,9 +97,7 @@ fn words_are_counted(rt: HostRuntime) -> Result<(), Fail> {
 // Each place of a cut stands behind a newline.
 #[test]
 fn shards_give_what_the_whole_text_gives(rt: HostRuntime) -> Result<(), Fail> {
-    let Ok(whole) = mapped(&rt, TEXT)? else {
-        return Err(Fail::from("the text is refused"));
-    };
+    let whole = written(mapped(&rt, TEXT)?)?;
     for first in 0..=TEXT.len() {
         for second in first..=TEXT.len() {
             let is_cut = |at: usize| at == 0 || at == TEXT.len() || TEXT[at - 1] == b'\n';
@@ -100,10 +106,7 @@ fn shards_give_what_the_whole_text_gives(rt: HostRuntime) -> Result<(), Fail> {
             }
             let mut outputs = Vec::new(rt.alloc());
             for shard in [&TEXT[..first], &TEXT[first..second], &TEXT[second..]] {
-                let Ok(output) = mapped(&rt, shard)? else {
-                    return Err(Fail::from("a shard is refused"));
-                };
-                outputs.push(output)?;
+                outputs.push(written(mapped(&rt, shard)?)?)?;
             }
             let all = reduced(&rt, &merged(rt.alloc(), &outputs)?)?;
             assert!(rt;
@@ -117,9 +120,7 @@ fn shards_give_what_the_whole_text_gives(rt: HostRuntime) -> Result<(), Fail> {
 
 #[test]
 fn pieces_and_pendings_change_nothing(rt: HostRuntime) -> Result<(), Fail> {
-    let Ok(whole) = mapped(&rt, TEXT)? else {
-        return Err(Fail::from("the text is refused"));
-    };
+    let whole = written(mapped(&rt, TEXT)?)?;
     for at in 0..=TEXT.len() {
         let mut told = Marks::new(rt.alloc());
         told.chunk(&TEXT[..at])?;
@@ -142,8 +143,8 @@ fn pieces_and_pendings_change_nothing(rt: HostRuntime) -> Result<(), Fail> {
 fn counts_are_added_up(rt: HostRuntime) -> Result<(), Fail> {
     let all = reduced(&rt, b"a\t1\na\t41\nab\t7\nb\t18446744073709551614\nb\t1\n")?;
     let wanted = b"a\t42\nab\t7\nb\t18446744073709551615\n".as_slice();
-    assert!(rt; matches!(all, Ok(text) if text.as_slice() == wanted));
-    assert!(rt; matches!(reduced(&rt, b"")?, Ok(text) if text.is_empty()));
+    assert_eq!(rt; written(all)?.as_slice(), wanted);
+    assert!(rt; written(reduced(&rt, b"")?)?.is_empty());
     Ok(())
 }
 
