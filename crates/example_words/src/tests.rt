@@ -94,25 +94,39 @@ fn words_are_counted(rt: HostRuntime) -> Result<(), Fail> {
     Ok(())
 }
 
-// Each place of a cut stands behind a newline.
+// Returns what `reduce` writes for the merged outputs of `map` for three shards of the text.
+fn counted_in_shards<R>(rt: &R, shards: [&[u8]; 3]) -> Result<Vec<u8>, Fail>
+where
+    R: Wait + RandomSource + AllocGlobal,
+{
+    let mut outputs = Vec::new(rt.alloc());
+    for shard in shards {
+        let output = written(mapped(rt, shard)?)?;
+        if outputs.push(output).is_err() {
+            return Err(Fail::from("no memory"));
+        }
+    }
+    written(reduced(rt, &merged(rt.alloc(), &outputs)?)?)
+}
+
+// Whether the text may be cut at a place: behind a newline, or at its start or its end.
+fn is_line_end(at: usize) -> bool {
+    at == 0 || at >= TEXT.len() || TEXT[at - 1] == b'\n'
+}
+
 #[test]
 fn shards_give_what_the_whole_text_gives(rt: HostRuntime) -> Result<(), Fail> {
     let whole = written(mapped(&rt, TEXT)?)?;
     for first in 0..=TEXT.len() {
         for second in first..=TEXT.len() {
-            let is_cut = |at: usize| at == 0 || at == TEXT.len() || TEXT[at - 1] == b'\n';
-            if !is_cut(first) || !is_cut(second) {
-                continue;
+            if is_line_end(first) && is_line_end(second) {
+                let shards = [&TEXT[..first], &TEXT[first..second], &TEXT[second..]];
+                assert_eq!(rt;
+                    counted_in_shards(&rt, shards)?,
+                    whole,
+                    "cut at {first} and {second}"
+                );
             }
-            let mut outputs = Vec::new(rt.alloc());
-            for shard in [&TEXT[..first], &TEXT[first..second], &TEXT[second..]] {
-                outputs.push(written(mapped(&rt, shard)?)?)?;
-            }
-            let all = reduced(&rt, &merged(rt.alloc(), &outputs)?)?;
-            assert!(rt;
-                matches!(all, Ok(text) if text == whole),
-                "cut at {first} and {second}"
-            );
         }
     }
     Ok(())
