@@ -1,19 +1,19 @@
 -- The steps of reading and writing, and how a run ends.
-use Rattle.std.proofs.Common.{◌≡◌, ℕ, ◌+◌, ◌<◌, ◌∙◌, Bool, true, false, inl, inr, List, [], ◌∷◌, ◌++◌, ap, append-nil, append_assoc, arith, flat_map, length, length-append, map, refl, subst, sym}
+use Rattle.std.proofs.Common.{◌≡◌, ℕ, ◌+◌, ◌<◌, ◌∙◌, Bool, true, false, inl, inr, List, [], ◌∷◌, ◌++◌, ap, append-nil, append_assoc, arith, length, length-append, map, refl, sym}
 use Rattle.std.proofs.lemmas.Grind.{common_steps, flat_map-append}
 use Rattle.std.proofs.lemmas.List.Elements.{All-nil}
 use Rattle.std.specs.Cmp.Lexicographic.{slice_cmp}
-use Rattle.std.specs.List.{All, AllByRecursion}
+use Rattle.std.specs.List.{All}
 use Rattle.std.specs.List.Sorted.{IsStrictlySortedBy}
 use Rattle.std.specs.Ordering.{nat_cmp}
 use Rattle.std.specs.Prelude.{Err, Ok, OnOk, Result, decimal}
 use Rattle.futures_lite.specs.Laws.Taken.{taken_both}
 use Rattle.futures_lite.specs.Laws.Told.{told_follow, told_none}
-use Rattle.futures_lite.specs.Marks.{ReadMark, WriteMark, bytes, bytes_taken}
+use Rattle.futures_lite.specs.Marks.{ReadMark, WriteMark, bytes}
 use Rattle.futures_lite.specs.Own.{MarkLaws, Runs}
 use Rattle.futures_lite.specs.Readers.{ToldStripped, Without}
 use Rattle.example_words.specs.Laws.{counts_append, counts_none, shards_make_whole, total_none}
-use Rattle.example_words.specs.Records.{Counted, TableSoFar, IsTable, counted_records, held_record, pending, record_line, record_lines, total_count}
+use Rattle.example_words.specs.Records.{Counted, TableSoFar, IsTable, counted_records, pending, record_line, record_lines, total_count}
 use Rattle.example_words.specs.Runs.{HasCounted, MapsText, ReadsAll, ReadsOneLine, Reduces, WritesFlushed, WritesText}
 use Rattle.example_words.specs.Words.{WholeLines, occurrences}
 use Rattle.example_words.specs.declared.counts.Counts.{Counts}

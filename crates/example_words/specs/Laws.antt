@@ -1,5 +1,5 @@
 -- Laws of words, counts and tables.
-use Rattle.std.proofs.Common.{◌≡◌, ap₂, ℕ, ◌+◌, ◌<◌, ◌-◌, ◌≤◌, ◌∙◌, ◌⊎◌, None, Some, unwrap_or, inl, inr, Bool, true, false, cond, not, List, [], ◌∷◌, ◌++◌, ap, append-nil, append_assoc, arith, drop, flat_map, length, map, refl, rules, suc, sym, take, zero}
+use Rattle.std.proofs.Common.{◌≡◌, ap₂, ℕ, ◌+◌, ◌<◌, ◌-◌, ◌≤◌, ◌∙◌, None, Some, unwrap_or, inl, inr, Bool, true, false, cond, not, List, [], ◌∷◌, ◌++◌, ap, append-nil, append_assoc, arith, drop, flat_map, length, map, refl, rules, suc, sym, take}
 use Rattle.std.proofs.lemmas.Cmp.{nat_list_cmp_total}
 use Rattle.std.proofs.lemmas.Grind.{common_steps}
 use Rattle.std.proofs.lemmas.List.Elements.{All-append, All-cons, All-from_recursion, All-nil, filter-append, recursion_from_All}
@@ -9,7 +9,7 @@ use Rattle.std.proofs.lemmas.List.Sums.{prefix_len-le-length, sum_by-append}
 use Rattle.std.proofs.lemmas.Str.Ascii.{trim_ascii_start_is}
 use Rattle.std.specs.Char.{is_ascii_whitespace}
 use Rattle.std.specs.Cmp.Lexicographic.{slice_cmp}
-use Rattle.std.specs.List.{All, AllByRecursion, AllZip, concat, filter, position, prefix_len, sum_by}
+use Rattle.std.specs.List.{All, AllByRecursion, AllZip, concat, filter, position, prefix_len}
 use Rattle.std.specs.List.Sorted.{IsPermutation, IsStrictlySortedBy}
 use Rattle.std.proofs.lemmas.Map.Text.{is_eq-slice_cmp}
 use Rattle.std.proofs.lemmas.Slice.Eq.{bytes_eq-Decides}
@@ -17,7 +17,7 @@ use Rattle.std.specs.Ordering.{is_eq, nat_cmp, ordering_reverse}
 use Rattle.std.proofs.Common.{Bor, IfSome, MatchOption, Option}
 use Rattle.std.specs.declared.cmp.Ordering.{Ordering}
 use Rattle.std.specs.declared.cmp.Ordering.TheVariants.{Equal, Greater, Less}
-use Rattle.std.specs.Prelude.{count_by, decimal, if◌then◌else◌, nat_eq, nat_lt}
+use Rattle.std.specs.Prelude.{count_by, decimal, if◌then◌else◌, nat_lt}
 use Rattle.std.specs.Str.{IsTrimAsciiStart, bytes_eq}
 use Rattle.example_words.specs.Records.{Counted, TableSoFar, IsTable, MergesShards, held_record, record_line, total_count}
 use Rattle.example_words.specs.Words.{CutAtLines, WholeLines, occurrences, longer_first, text_pieces, words}

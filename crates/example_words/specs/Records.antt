@@ -1,11 +1,11 @@
 -- Records: words with counts, as lists and as lines.
 use Rattle.std.specs.Prelude.{◌≡◌, ◌<◌, ℕ, List, [], ◌∷◌, ◌++◌, decimal, flat_map, if◌then◌else◌, map, nat_eq}
 use Rattle.std.specs.Cmp.Lexicographic.{slice_cmp}
-use Rattle.std.specs.List.{All, AllZip, concat, sum_by}
+use Rattle.std.specs.List.{All, AllZip, sum_by}
 use Rattle.std.specs.List.Sorted.{IsPermutation, IsStrictlySortedBy}
 use Rattle.std.specs.Ordering.{nat_cmp}
 use Rattle.std.specs.Str.{bytes_eq}
-use Rattle.example_words.specs.Words.{CutAtLines, occurrences}
+use Rattle.example_words.specs.Words.{occurrences}
 use Rattle.example_words.specs.declared.counts.Counts.{Counts}
 use Rattle.example_words.specs.declared.sum.Sum.{Sum}
 

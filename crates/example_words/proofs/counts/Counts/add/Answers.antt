@@ -1,5 +1,4 @@
-use Rattle.std.proofs.Common.{rules, sym}
-use Rattle.std.specs.Prelude.{OnOk}
+use Rattle.std.proofs.Common.{rules}
 use Rattle.std.proofs.Common.{◌≡◌, None}
 use Rattle.std.specs.BTreeMap.{get_by}
 use Rattle.example_words.proofs.Tables.{by_items, positive_insert, positive_set, total_insert, total_set}

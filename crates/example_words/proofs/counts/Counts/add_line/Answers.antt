@@ -1,4 +1,4 @@
-use Rattle.std.proofs.Common.{arith, refl, rules}
+use Rattle.std.proofs.Common.{arith, refl}
 use Rattle.example_words.specs.Laws.{counts_next, counts_no}
 use Rattle.example_words.proofs.counts.Counts.add_line.Goals as goal
 

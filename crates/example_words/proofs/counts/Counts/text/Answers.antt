@@ -1,4 +1,3 @@
-use Rattle.std.proofs.Common.{rules}
 use Rattle.example_words.proofs.Tables.{words_sorted}
 use Rattle.example_words.proofs.counts.Counts.text.Goals as goal
 
