@@ -1,0 +1,32 @@
+use Rattle.std.proofs.Common.{◌≡◌, false, rules, true}
+use Rattle.example_words.proofs.Runs.{counts_last, counts_line, counts_start}
+use Rattle.example_words.proofs.map.count_words.Goals as goal
+
+pub loop-init : goal.loop-init
+loop-init g c = (
+  tt,
+  tt,
+  c.requires.counts,
+  counts_start g.T.Tale.reads g.T.Tale.read_laws c.args.reader.now c.new-counts.result c.new-counts.ensures,
+)
+
+pub read_line-requires : goal.read_line-requires
+read_line-requires g c = record { counts = c.loop.invariant.2 }
+
+pub returns-then-not-more : goal.returns-then-not-more
+returns-then-not-more g c =
+    let last : c.in_ok-more.more ≡ false = search rules in
+    counts_last g.T.Tale.reads g.T.Tale.read_laws c.args.reader.now c.loop.reader c.read_line.new.reader c.loop.counts c.add_line.new.self
+    c.read_line.new.line.items (rw c.deref.ensures.value at c.in_default.ensures.counts) c.in_default.ensures.positive c.loop.invariant.3
+    (rw last at c.in_ok-more.ensures.read)
+
+pub loop-preserved : goal.loop-preserved
+loop-preserved g c =
+    let next : c.in_ok-more.more ≡ true = search rules in (
+      tt,
+      tt,
+      c.read_line.ensures.again,
+      counts_line g.T.Tale.reads g.T.Tale.read_laws c.args.reader.now c.loop.reader c.read_line.new.reader c.loop.counts c.add_line.new.self
+          c.read_line.new.line.items (rw c.deref.ensures.value at c.in_default.ensures.counts) c.in_default.ensures.positive c.loop.invariant.3
+          (rw next at c.in_ok-more.ensures.read),
+    )

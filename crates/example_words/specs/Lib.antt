@@ -1,0 +1,4 @@
+pub mod Words
+pub mod Records
+pub mod Runs
+pub mod Laws

@@ -1,0 +1,32 @@
+//! Lines of the input.
+ghost use Rattle.std.specs.Prelude.{IfOk};
+ghost use Rattle.example_words.specs.Runs.{ReadsOneLine};
+
+use crate::fault::WordsError;
+use futures_lite::future::BlockOn;
+use futures_lite::io::{AsyncBufRead, CountedRead, wait_read_until};
+use std::io::ErrorKind;
+use std::sync::Wait;
+
+/// Reads a line into `line`, with its newline. Returns whether it has one; if not, the input ended behind it.
+pub fn read_line<R, T>(
+    on: &mut BlockOn,
+    rt: &R,
+    reader: &mut T,
+    line: &mut Vec<u8>,
+) -> Result<bool, WordsError>
+where
+    R: Wait,
+    T: AsyncBufRead + CountedRead,
+    requires counts { T.ranks.counts reader.old }
+    ensures read { IfOk result (λ whole. ReadsOneLine T.reads reader.old line.new.items whole reader.new) }
+    ensures again { T.ranks.counts reader.new }
+{
+    line.clear();
+    match wait_read_until(on, rt, reader, b'\n', line) {
+        Ok(Ok(_)) => Ok(line.last() == Some(&b'\n')),
+        Ok(Err(e)) if e.kind() == ErrorKind::OutOfMemory => Err(WordsError::Memory),
+        Ok(Err(e)) => Err(WordsError::Input(e)),
+        Err(_) => Err(WordsError::Memory),
+    }
+}

@@ -1,0 +1,56 @@
+//! Words become counts.
+ghost use Rattle.std.specs.Prelude.{IfOk};
+ghost use Rattle.example_words.specs.Runs.{HasCounted, MapsText};
+
+use crate::counts::Counts;
+use crate::fault::WordsError;
+use crate::input::read_line;
+use crate::output::write_last;
+use futures_lite::AsyncWrite;
+use futures_lite::future::BlockOn;
+use futures_lite::io::{AsyncBufRead, CountedRead};
+use std::alloc::AllocGlobal;
+use std::sync::Wait;
+
+/// Reads a text to its end, and writes a line for each word of it, with how often it is there.
+pub fn map<R, T, O>(
+    on: &mut BlockOn,
+    rt: &R,
+    reader: &mut T,
+    output: &mut O,
+) -> Result<(), WordsError>
+where
+    R: Wait + AllocGlobal,
+    T: AsyncBufRead + CountedRead,
+    O: AsyncWrite,
+    requires counts { T.ranks.counts reader.old }
+    ensures { IfOk result (λ _. MapsText T.reads O.writes reader.old output.old reader.new output.new) }
+{
+    let counts = count_words(on, rt, reader)?;
+    let text = counts.text()?;
+    write_last(on, rt, output, &text)
+}
+
+// Counts the words of a text, which is read to its end.
+fn count_words<R, T>(on: &mut BlockOn, rt: &R, reader: &mut T) -> Result<Counts, WordsError>
+where
+    R: Wait + AllocGlobal,
+    T: AsyncBufRead + CountedRead,
+    requires counts { T.ranks.counts reader.old }
+    ensures { IfOk result (λ counts. HasCounted T.reads reader.old counts reader.new) }
+{
+    let mut counts = Counts::new(rt.alloc());
+    let mut line = Vec::new(rt.alloc());
+    let mut number: u64 = 0;
+    for _ in rt.forever() {
+        let more = read_line(on, rt, reader, &mut line)?;
+        number = number.saturating_add(1);
+        if let Err(e) = counts.add_line(&line) {
+            return Err(WordsError::Line(number, e));
+        }
+        if !more {
+            return Ok(counts);
+        }
+    }
+    unreachable!()
+}

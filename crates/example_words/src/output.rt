@@ -1,0 +1,42 @@
+//! Text of the output.
+ghost use Rattle.std.specs.Prelude.{IfOk};
+ghost use Rattle.example_words.specs.Runs.{WritesText, WritesFlushed};
+
+use crate::fault::WordsError;
+use futures_lite::AsyncWrite;
+use futures_lite::future::BlockOn;
+use futures_lite::io::{wait_flush, wait_write_all};
+use std::sync::Wait;
+
+/// Writes all of the text.
+pub fn write<R: Wait, O: AsyncWrite>(
+    on: &mut BlockOn,
+    rt: &R,
+    output: &mut O,
+    text: &[u8],
+) -> Result<(), WordsError>
+    ensures { IfOk result (λ _. WritesText O.writes output.old text.now output.new) }
+{
+    match wait_write_all(on, rt, output, text) {
+        Ok(Ok(())) => Ok(()),
+        Ok(Err(e)) => Err(WordsError::Output(e)),
+        Err(_) => Err(WordsError::Memory),
+    }
+}
+
+/// Writes all of the text, and flushes.
+pub fn write_last<R: Wait, O: AsyncWrite>(
+    on: &mut BlockOn,
+    rt: &R,
+    output: &mut O,
+    text: &[u8],
+) -> Result<(), WordsError>
+    ensures { IfOk result (λ _. WritesFlushed O.writes output.old text.now output.new) }
+{
+    write(on, rt, output, text)?;
+    match wait_flush(on, rt, output) {
+        Ok(Ok(())) => Ok(()),
+        Ok(Err(e)) => Err(WordsError::Output(e)),
+        Err(_) => Err(WordsError::Memory),
+    }
+}

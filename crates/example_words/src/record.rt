@@ -1,0 +1,82 @@
+//! A word and its count as a line.
+ghost use Rattle.std.specs.Prelude.{◌≡◌, ◌∷◌, ◌++◌, ◌<◌, [], IfOk, IfSome, OnOk, decimal};
+ghost use Rattle.example_words.specs.Records.{record_line};
+
+use crate::fault::LineError;
+use crate::words::is_word;
+use itoa::Buffer;
+use std::alloc::AllocError;
+
+/// A word, and how often it was counted.
+#[derive(Debug, Clone, Copy, PartialEq, Eq)]
+pub struct Record<'a> {
+    /// Its bytes.
+    pub word: &'a [u8],
+    /// How often it was counted, at least once.
+    pub count: u64,
+}
+
+/// Appends the line of a word and its count.
+pub fn push_record(text: &mut Vec<u8>, word: &[u8], count: u64) -> Result<(), AllocError>
+    ensures { OnOk result (text.new.items ≡ text.old.items ++ record_line (word.now, count)) }
+{
+    let mut buffer = Buffer::new();
+    text.extend_from_slice(word)?;
+    text.extend_from_slice(b"\t")?;
+    text.extend_from_slice(buffer.format(count).as_bytes())?;
+    text.extend_from_slice(b"\n")
+}
+
+/// Returns the record of a line, which has its newline.
+#[tactic(auto, using(crate::specs::Laws::record_cut))]
+pub fn parse_record(line: &[u8]) -> Result<Record<'_>, LineError>
+    ensures line { IfOk result (λ r. line.now ≡ record_line (r.word.now, r.count)) }
+    ensures positive { IfOk result (λ r. 0 < r.count) }
+{
+    let Some(record) = without_newline(line) else {
+        return Err(LineError::CutOff);
+    };
+    let Some((word, digits)) = split_at_tab(record) else {
+        return Err(LineError::NoTab);
+    };
+    if !is_word(word) {
+        return Err(LineError::NoWord);
+    }
+    match parse_count(digits) {
+        Some(count) => Ok(Record { word, count }),
+        None => Err(LineError::NoCount),
+    }
+}
+
+// Returns what is before the newline at the end of the line.
+fn without_newline(line: &[u8]) -> Option<&[u8]>
+    ensures { IfSome result (λ front. line.now ≡ front.now ++ 10 ∷ []) }
+{
+    line.strip_suffix(b"\n")
+}
+
+// Returns what is before the first tab, and what is behind it.
+fn split_at_tab(record: &[u8]) -> Option<(&[u8], &[u8])>
+    ensures { IfSome result (λ r. record.now ≡ r.0.now ++ 9 ∷ r.1.now) }
+{
+    let tab = record.iter().position(|byte| *byte == b'\t')?;
+    Some((&record[..tab], &record[tab + 1..]))
+}
+
+// Returns the count that these digits are, if it is written as `push_record` writes it, and not 0.
+fn parse_count(digits: &[u8]) -> Option<u64>
+    ensures { IfSome result (λ n. (digits.now ≡ decimal n) × (0 < n)) }
+{
+    let Ok(text) = str::from_utf8(digits) else {
+        return None;
+    };
+    let Ok(count) = text.parse::<u64>() else {
+        return None;
+    };
+    let mut buffer = Buffer::new();
+    if count > 0 && buffer.format(count).as_bytes() == digits {
+        Some(count)
+    } else {
+        None
+    }
+}
