@@ -6,7 +6,7 @@ import re
 from repository import BESIDE, FACADE, TOP, crates_in, files_of, read_text, with_below
 from sources import MODULES, Sources
 
-POLLS, NESTS, TABLES, MARKS_MET = "cases/pictures.txt", "docs/NESTS.md", "docs/TABLES.md", "crates/marks_met"
+POLLS, NESTS, TABLES, MARKS_MET = "cases/pictures.txt", "docs/NESTS.md", "docs/TABLES.md", "crates/properties_met"
 # The parts of pages whose tables have a row of each call of streams: a heading, and one behind the part.
 PARTS_OF = {NESTS: ("## What each call adds", "\n# "), TABLES: ("## What a poll requires", "\n## ")}
 # Adapters without a table of polls: their sources are no scripts, or they never end.
@@ -45,7 +45,7 @@ def polls(streams):
     yield from lacking(POLLS, adapters, there, NO_POLLS, "there is no table of the polls of")
 
 
-def marks_met(marks):
+def properties_met(marks):
     """Each public type of the library has a contract for each of its marks that compare two values or call one calm. What is behind a `&` has its own."""
     text = "".join(read_text(it) for it in glob.glob(f"{TOP}/{MARKS_MET}/src/*.rt"))
     wanted = {(name.partition("<")[0], mark) for name, of_type in marks for mark in of_type if name[0].isalpha() and mark.startswith(("Steady", "Calm"))}

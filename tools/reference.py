@@ -80,8 +80,8 @@ def laid_out(comment):
 
 
 ABOUT_MARKS = (
-    "A mark is a trait that states a property of a type. A type's entry has the impl of each of its marks, whose bounds the type's arguments must meet. The"
-    " entry of a mark says what the mark means. [TABLES](../TABLES.md#which-marks-a-type-carries) says more, and has the rows of std's types."
+    "A property is a trait that states something of a type. A type's entry has the impl of each of its properties, whose bounds the type's arguments must meet. The"
+    " entry of a property says what it means. [TABLES](../TABLES.md#which-properties-a-type-has) says more, and has the rows of std's types."
 )
 # Words that stand in most contracts, so that no page lists them.
 IN_MOST = ("requires", "ensures", "result", "Self", "record", "entry", "old", "new", "now")
@@ -400,7 +400,7 @@ class Reference:
         """Yields a link from a call's entry to that of the type that it returns, which has the type's marks."""
         made = self.sources.made_by(item)
         if made and made.kind in ("struct", "type") and self.pages_with(made):
-            marks = ", with its marks" if self.marks_of(made) and made is not item.owner else ""
+            marks = ", with its properties" if self.marks_of(made) and made is not item.owner else ""
             yield f"Type of the result{marks}: {self.link_from(page, made, f'`{made.name}`')}."
 
     def about_marks(self, item, page):

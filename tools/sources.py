@@ -81,7 +81,7 @@ class Item:
 
     @property
     def does_nothing(self):
-        return self.says.startswith("Does nothing.")
+        return self.says.startswith(("Does nothing.", "States that ", "States what "))
 
 
 def plain(comment):

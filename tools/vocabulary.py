@@ -14,8 +14,8 @@ DEFINED = re.compile(r"^ *(?!unfoldable pub use)(?:pub )?(abbrev|unfoldable|reco
 MEMBER = re.compile(r"^    ghost (?P<word>\w+): \{(?P<type>.*)\}", re.M)
 TRAIT = re.compile(r"^pub trait (?P<name>\w+).*?^}", re.M | re.S)
 # What says the runs of a type, by the trait whose calls they are of.
-RUN_OF = {"Stream": "run", "Future": "run", "Folder": "fold", "Tale": "reads", "Takings": "writes", "AsyncSeek": "seeks"}
-LAWS_OF = {"Stream": "laws", "Future": "laws", "Folder": "returns", "Tale": "read_laws", "Takings": "write_laws", "AsyncSeek": None}
+RUN_OF = {"Stream": "run", "Future": "run", "Folder": "fold", "ReadSpec": "reads", "WriteSpec": "writes", "AsyncSeek": "seeks"}
+LAWS_OF = {"Stream": "laws", "Future": "laws", "Folder": "returns", "ReadSpec": "read_laws", "WriteSpec": "write_laws", "AsyncSeek": None}
 IMPL = re.compile(
     rf"^impl\b[^{{;]*?\s(?P<trait>{'|'.join(RUN_OF)})(?:<[^{{;]*?>)? for (?P<type>\w+)[^{{]*\{{\n(?P<body>.*?)^}}", re.M | re.S
 )
@@ -244,7 +244,7 @@ def functions():
                     yield crate, found["name"], file, own
 
 
-KIND = {"Stream": "stream", "Future": "future", "Folder": "consuming", "Tale": "reading", "Takings": "writing", "AsyncSeek": "seeking"}
+KIND = {"Stream": "stream", "Future": "future", "Folder": "consuming", "ReadSpec": "reading", "WriteSpec": "writing", "AsyncSeek": "seeking"}
 PAGE = "docs/GLOSSARY.md"
 HEAD_ENDS = "## Calls\n"
 

@@ -10,7 +10,7 @@ use crate::leaf::Build;
 use crate::trying::either;
 use crate::words::{Fault, Words};
 use futures_lite::future::{
-    self, Budgeted, Either, Fuse, FutureExt, Or, Pending, PollOnce, Race, Ready, TryZip, YieldNow,
+    self, PollLimited, Either, Fuse, FutureExt, Or, Pending, PollOnce, Race, Ready, TryZip, YieldNow,
     Zip,
 };
 use futures_lite::{Context, Future, Poll};
@@ -148,7 +148,7 @@ pub(crate) enum Combined<F: Future<Output = i64> + Drop> {
     Fuse(Fuse<F>),
     PollOnce(PollOnce<F>),
     Either(Either<F, F>),
-    Budget(Budgeted<F>),
+    Budget(PollLimited<F>),
 }
 
 impl<F: Future<Output = i64> + Drop> Future for Combined<F> {
@@ -221,7 +221,7 @@ impl<F: Build + Future<Output = i64> + Drop> Build for Combined<F> {
             "right" => Ok(Combined::Either(Either::Right(F::build(alloc, words)?))),
             "budget" => {
                 let n = words.number()?;
-                Ok(Combined::Budget(F::build(alloc, words)?.with_budget(n)))
+                Ok(Combined::Budget(F::build(alloc, words)?.with_poll_limit(n)))
             }
             _ => {
                 words.words = ahead;

@@ -5,7 +5,7 @@ use crate::io_run::Run;
 use crate::io_words::bytes_of;
 use crate::words::{Fault, Words};
 use futures_lite::io::{
-    self, AsyncRead, AsyncWrite, Blanks, Call, Cursor, Journal, JournalReadHalf, JournalWriteHalf,
+    self, AsyncRead, AsyncWrite, NewCounters, Call, Cursor, Journal, JournalReadHalf, JournalWriteHalf,
     history, split_journalled,
 };
 use std::alloc::AllocGlobal;
@@ -73,7 +73,7 @@ where
         one_call(run, &mut journal, words)?;
     }
     words.take()?;
-    let Ok((mut reader, mut writer)) = split_journalled::<R, T, Brand>(rt, journal, Blanks::new())
+    let Ok((mut reader, mut writer)) = split_journalled::<R, T, Brand>(rt, journal, NewCounters::new())
     else {
         return Err(Fault::Memory);
     };

@@ -7,7 +7,7 @@ use crate::io_words::{bytes_of, marks_of};
 use crate::words::{Fault, Words};
 use crate::writers::{Ordered, writer_of};
 use futures_lite::io::{
-    Answer, AsyncRead, AsyncWrite, Call, Cursor, Entry, Journal, Takings, Tale,
+    Answer, AsyncRead, AsyncWrite, Call, Cursor, Entry, Journal, WriteSpec, ReadSpec,
 };
 use futures_lite::{Context, Poll};
 use lite_mock::Marks;
@@ -62,13 +62,13 @@ impl Duplex {
     }
 }
 
-impl Tale for Duplex {
+impl ReadSpec for Duplex {
     ghost reads = { Anything };
 
     ghost read_laws = { anything_reads };
 }
 
-impl Takings for Duplex {
+impl WriteSpec for Duplex {
     ghost writes = { Anything };
 
     ghost write_laws = { anything_writes };

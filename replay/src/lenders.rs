@@ -6,7 +6,7 @@ use crate::readers::{BuildReader, Nest, buffered};
 use crate::words::{Fault, Words};
 use futures_lite::io::{
     self as lite, AsyncBufRead, AsyncRead, BufReader, Budgeted, Chain, CountedRead, Cursor, Empty,
-    IoSliceMut, Take, Tale,
+    IoSliceMut, Take, ReadSpec,
 };
 use futures_lite::{AsyncReadExt, Context, Poll};
 use std::alloc::Global;
@@ -25,7 +25,7 @@ pub(crate) enum Lender {
     Empty(Empty),
 }
 
-impl Tale for Lender {
+impl ReadSpec for Lender {
     ghost reads = { Anything };
 
     ghost read_laws = { anything_reads };

@@ -5,7 +5,7 @@ use crate::io_words::{bytes_of, marks_of};
 use crate::words::{Fault, Words};
 use futures_lite::io::{
     self as lite, AsyncRead, BufReader, Budgeted, Chain, CountedRead, Cursor, Empty, IoSliceMut,
-    Repeat, Take, Tale,
+    Repeat, Take, ReadSpec,
 };
 use futures_lite::{AsyncReadExt, Context, Poll};
 use lite_mock::Marks;
@@ -46,7 +46,7 @@ impl Memory {
     }
 }
 
-impl Tale for Source {
+impl ReadSpec for Source {
     ghost reads = { Anything };
 
     ghost read_laws = { anything_reads };
@@ -124,7 +124,7 @@ pub(crate) enum Reader<R: CountedRead + Drop> {
     Budget(Budgeted<R>),
 }
 
-impl<R: CountedRead + Drop> Tale for Reader<R> {
+impl<R: CountedRead + Drop> ReadSpec for Reader<R> {
     ghost reads = { Anything };
 
     ghost read_laws = { anything_reads };

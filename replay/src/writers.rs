@@ -3,7 +3,7 @@ ghost use Rattle.futures_lite.specs.Own.{Anything, anything_writes};
 
 use crate::io_words::kind_of;
 use crate::words::{Fault, Words};
-use futures_lite::io::{AsyncWrite, BufWriter, Takings};
+use futures_lite::io::{AsyncWrite, BufWriter, WriteSpec};
 use futures_lite::{Context, Poll};
 use std::alloc::Global;
 use std::io::{self, ErrorKind};
@@ -25,7 +25,7 @@ pub(crate) struct Ordered {
     pub(crate) taken: Vec<u8>,
 }
 
-impl Takings for Ordered {
+impl WriteSpec for Ordered {
     ghost writes = { Anything };
 
     ghost write_laws = { anything_writes };

@@ -1,7 +1,7 @@
 //! A writer that reads what it gets.
 ghost use Rattle.futures_lite.specs.Own.{Anything, anything_reads, anything_writes};
 
-use futures_lite::io::{AsyncWrite, Takings, Tale};
+use futures_lite::io::{AsyncWrite, WriteSpec, ReadSpec};
 use futures_lite::{Context, Poll};
 use std::io;
 
@@ -11,14 +11,14 @@ pub(crate) struct Ends {
     pub(crate) sum: u64,
 }
 
-impl Takings for Ends {
+impl WriteSpec for Ends {
     ghost writes = { Anything };
 
     ghost write_laws = { anything_writes };
 }
 
 // It is not read from.
-impl Tale for Ends {
+impl ReadSpec for Ends {
     ghost reads = { Anything };
 
     ghost read_laws = { anything_reads };

@@ -5,7 +5,7 @@ use Rattle.std.specs.List.{AllByRecursion, cons_option, filter_map}
 use Rattle.futures_lite.specs.Answers.{Gives, Poll, Waiting}
 use Rattle.futures_lite.specs.Futures.{BudgetsPolls, SpendsPolls}
 use Rattle.futures_lite.specs.Own.{Runs}
-use Rattle.futures_lite.specs.declared.future.Budgeted.{Budgeted}
+use Rattle.futures_lite.specs.declared.future.PollLimited.{PollLimited}
 use Rattle.futures_lite.specs.declared.future.Exhausted.{Exhausted}
 use Rattle.example_executor.specs.Outcomes.{EachOutcome, OutcomeWithin, task_within}
 use Rattle.example_executor.specs.Tasks.{AnsweredBy, EachRan, MayRun, finished, one_if_some}
@@ -35,7 +35,7 @@ module _ {A : Type 0} where
   all_spent e (SpendsPolls.value n w) g = absurd (cc g.0)
 
 module _ {F A : Type 0} (run : Runs (Poll A) F) (polls : ℕ) where
-  outcome_of : (x : F) (y : Budgeted F) (l : List (Poll (Result A Exhausted))) (r : Result A Exhausted)
+  outcome_of : (x : F) (y : PollLimited F) (l : List (Poll (Result A Exhausted))) (r : Result A Exhausted)
       → BudgetsPolls run (record { inner = x; left = polls }) l y → Gives l r
       → OutcomeWithin run polls x r
   outcome_of x y l (Ok v) h g = let spent = value_within v h.2 g in (h.0, y.inner, h.1, spent.0, spent.1)
@@ -56,7 +56,7 @@ module _ {F A : Type 0} (run : Runs (Poll A) F) (polls : ℕ) where
   counted None n m less = omega (arith, less)
   counted (Some r) n m less = omega (arith, less)
 
-  at_most : (xs : List F) (ys : List (Task (Budgeted F) (Result A Exhausted)))
+  at_most : (xs : List F) (ys : List (Task (PollLimited F) (Result A Exhausted)))
       → EachRan (BudgetsPolls run) (map (task_within polls) xs) ys
       → finished ys ≤ length xs
   at_most [] [] h = omega arith
@@ -64,7 +64,7 @@ module _ {F A : Type 0} (run : Runs (Poll A) F) (polls : ℕ) where
   at_most [] (y ∷ ys) h = absurd h
   at_most (x ∷ xs) [] h = absurd h
 
-  one_outcome : (x : F) (y : Budgeted F) (xs : List F) (rest : List (Result A Exhausted)) (n : ℕ)
+  one_outcome : (x : F) (y : PollLimited F) (xs : List F) (rest : List (Result A Exhausted)) (n : ℕ)
       → (v : Option (Result A Exhausted))
       → (l : List (Poll (Result A Exhausted))) × BudgetsPolls run (record { inner = x; left = polls }) l y × AnsweredBy v l
       → n ≤ length xs → one_if_some v + n ≡ suc (length xs) → (n ≡ length xs → EachOutcome run polls xs rest)
@@ -73,7 +73,7 @@ module _ {F A : Type 0} (run : Runs (Poll A) F) (polls : ℕ) where
   one_outcome x y xs rest n (Some r) ran less sum others =
       (outcome_of x y ran.0 r ran.1 ran.2, others (omega (arith, sum)))
 
-  pub each_outcome : (xs : List F) (ys : List (Task (Budgeted F) (Result A Exhausted)))
+  pub each_outcome : (xs : List F) (ys : List (Task (PollLimited F) (Result A Exhausted)))
       → EachRan (BudgetsPolls run) (map (task_within polls) xs) ys → finished ys ≡ length xs
       → EachOutcome run polls xs (filter_map (λ task. task.value) ys)
   each_outcome [] [] h all = tt

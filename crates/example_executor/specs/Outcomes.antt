@@ -3,7 +3,7 @@ use Rattle.std.specs.Prelude.{◌≡◌, ◌≤◌, ℕ, List, length, Result, O
 use Rattle.std.specs.List.{AllZip}
 use Rattle.futures_lite.specs.Answers.{Gives, Poll, Waiting}
 use Rattle.futures_lite.specs.Own.{Runs}
-use Rattle.futures_lite.specs.declared.future.Budgeted.{Budgeted}
+use Rattle.futures_lite.specs.declared.future.PollLimited.{PollLimited}
 use Rattle.futures_lite.specs.declared.future.Exhausted.{Exhausted}
 use Rattle.example_executor.specs.declared.task.Task.{Task}
 
@@ -18,5 +18,5 @@ abbrev pub EachOutcome : {F A : Type 0} → Runs (Poll A) F → ℕ → List F �
 EachOutcome run polls = AllZip (OutcomeWithin run polls)
 
 -- The task of a future with a budget, before it is polled.
-abbrev pub task_within : {F A : Type 0} → ℕ → F → Task (Budgeted F) (Result A Exhausted)
+abbrev pub task_within : {F A : Type 0} → ℕ → F → Task (PollLimited F) (Result A Exhausted)
 task_within polls x = record { future = record { inner = x; left = polls }; value = None; slot = None }

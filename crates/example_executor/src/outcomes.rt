@@ -7,7 +7,7 @@ ghost use Rattle.example_executor.specs.Tasks.{WhereTooFew};
 use crate::executor::run;
 use crate::fault::RunError;
 use crate::task::Task;
-use futures_lite::future::{Budgeted, Exhausted};
+use futures_lite::future::{Exhausted, PollLimited};
 use futures_lite::{Future, FutureExt};
 use std::alloc::{AllocError, AllocGlobal, Global};
 use std::random::RandomSource;
@@ -46,14 +46,14 @@ fn tasks_within<F: Future + Drop>(
     alloc: Global,
     futures: Vec<F>,
     polls: usize,
-) -> Result<Vec<Task<Budgeted<F>, Result<F::Output, Exhausted>>>, AllocError>
+) -> Result<Vec<Task<PollLimited<F>, Result<F::Output, Exhausted>>>, AllocError>
 where
     F::Output: Drop,
     ensures { IfOk result (λ tasks. tasks.items ≡ map (task_within polls) futures.items) }
 {
     futures
         .into_iter()
-        .map(|future| Task::new(future.with_budget(polls)))
+        .map(|future| Task::new(future.with_poll_limit(polls)))
         .collect(alloc)
 }
 

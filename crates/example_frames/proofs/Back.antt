@@ -8,7 +8,7 @@ use Rattle.std.proofs.Common.{◌∙◌, Bor, ap, arith, refl}
 use Rattle.bytes.specs.Filled.{Filled}
 use Rattle.futures_lite.specs.Marks.{ReadMark, WriteMark, bytes}
 use Rattle.futures_lite.specs.Own.{Runs}
-use Rattle.futures_lite.specs.Readers.{Known, Knows, TellsKnown, ToldStripped, strip_marks}
+use Rattle.futures_lite.specs.Readers.{Known, Knows, ReadsKnown, ToldStripped, strip_marks}
 use Rattle.futures_lite.specs.Writers.{Stored, Stores}
 use Rattle.tokio_util.specs.Codec.Whole.{EncodesAll, ReadsAll}
 use Rattle.framed.specs.ComingBack.{come_back}
@@ -46,14 +46,14 @@ sent_back writes stored w v c d texts rejects from_gives (Ok u) stores (xs, enco
     (xs, kept ∙ ap (λ l. stored.kept w ++ l) handed.1, frames_back c d texts xs encoded)
 sent_back writes stored w v c d texts rejects from_gives (Err e) stores h = tt
 
-strip_known : (xs : List ℕ) (l : List ReadMark) (ys : List ℕ) → TellsKnown xs l ys → TellsKnown xs (strip_marks l) ys
+strip_known : (xs : List ℕ) (l : List ReadMark) (ys : List ℕ) → ReadsKnown xs l ys → ReadsKnown xs (strip_marks l) ys
 strip_known xs [] ys h = h
 strip_known xs (ReadMark.byte b ∷ l) ys h = (h.0, h.1, strip_known h.0 l ys h.2)
 strip_known xs (ReadMark.pending ∷ l) ys h = strip_known xs l ys h
 strip_known xs (ReadMark.fault kind ∷ l) ys h = absurd h
 strip_known xs (ReadMark.end ∷ l) ys h = (h.0, strip_known xs l ys h.1)
 
-all_known : (xs zs ys : List ℕ) → TellsKnown zs (bytes xs ++ ReadMark.end ∷ []) ys → zs ≡ xs
+all_known : (xs zs ys : List ℕ) → ReadsKnown zs (bytes xs ++ ReadMark.end ∷ []) ys → zs ≡ xs
 all_known [] zs ys h = h.0
 all_known (x ∷ xs) zs ys h = h.1 ∙ ap (λ l. x ∷ l) (all_known xs h.0 ys h.2)
 

@@ -2,7 +2,7 @@
 use Rattle.std.specs.Prelude.{◌≡◌, ◌≢◌, ◌⊎◌, ℕ, List, [], ◌∷◌, ◌++◌, Result, Ok, Err, refl}
 use Rattle.std.proofs.Common.{ap, inl, inr, subst, sym, ◌∙◌}
 use Rattle.futures_lite.specs.Laws.Told.{told_follow, told_none}
-use Rattle.futures_lite.specs.Marks.{ReadMark, WriteMark, bytes, filled}
+use Rattle.futures_lite.specs.Marks.{ReadMark, WriteMark, bytes, filled_marks}
 use Rattle.futures_lite.specs.Own.{MarkLaws, Runs}
 use Rattle.futures_lite.specs.Readers.{StandsFirst, ToldStripped, strip_marks}
 use Rattle.http_server.specs.History.{History}
@@ -15,26 +15,26 @@ strip_bytes [] = refl
 strip_bytes (x ∷ xs) = ap (λ l. ReadMark.byte x ∷ l) (strip_bytes xs)
 
 -- A fill leaves no mark or an end of file.
-one_mark : (shown : List ℕ) → (filled shown ≡ []) ⊎ (filled shown ≡ ReadMark.end ∷ [])
+one_mark : (shown : List ℕ) → (filled_marks shown ≡ []) ⊎ (filled_marks shown ≡ ReadMark.end ∷ [])
 one_mark [] = inr refl
 one_mark (x ∷ xs) = inl refl
 
 -- The marks of the fill, and then of what was taken.
-filled_then : (shown xs : List ℕ) → StandsFirst xs shown → (xs ≡ [] → shown ≡ []) → filled shown ++ bytes xs ≡ arrived xs
+filled_then : (shown xs : List ℕ) → StandsFirst xs shown → (xs ≡ [] → shown ≡ []) → filled_marks shown ++ bytes xs ≡ arrived xs
 filled_then shown [] front none = rw (none refl) refl
 filled_then shown (x ∷ xs) front none = rw front.1 refl
 
-module _ {T O : Type 0} (reads : Runs ReadMark T) (lent : T → List ℕ) (writes : Runs WriteMark O) (laws : MarkLaws reads)
+module _ {T O : Type 0} (reads : Runs ReadMark T) (buffer_of : T → List ℕ) (writes : Runs WriteMark O) (laws : MarkLaws reads)
   where
     abbrev Received : T → O → History → Result (Unit {0}) HttpError → T → O → History → Type 0
-    Received x w h r y v k = (moved : Moved) × ReceivesBytes reads lent writes x w h moved r y v k
+    Received x w h r y v k = (moved : Moved) × ReceivesBytes reads buffer_of writes x w h moved r y v k
 
     told_bytes : (x y : T) (xs : List ℕ) → reads x (bytes xs) y → ToldStripped reads x (bytes xs) y
     told_bytes x y xs ran = (bytes xs, ran, strip_bytes xs)
 
     -- The reader showed bytes.
-    pub shown_taken : (x y : T) (w : O) (h k : History) (r : Result (Unit {0}) HttpError) → lent x ≢ []
-        → TakesInput reads lent x h r y k → Received x w h r y w k
+    pub shown_taken : (x y : T) (w : O) (h k : History) (r : Result (Unit {0}) HttpError) → buffer_of x ≢ []
+        → TakesInput reads buffer_of x h r y k → Received x w h r y w k
     shown_taken x y w h k (Ok u) some ([], ran, front, none, is) = absurd (some (none refl))
     shown_taken x y w h k (Ok u) some (a ∷ xs, ran, front, none, is) =
         (record { told = bytes (a ∷ xs); took = [] }, (a ∷ xs, inr (some, refl, refl), told_bytes x y (a ∷ xs) ran, refl, is))
@@ -46,7 +46,7 @@ module _ {T O : Type 0} (reads : Runs ReadMark T) (lent : T → List ℕ) (write
 
     -- The reader was filled before.
     pub refilled_taken : (x m y : T) (w v : O) (h k : History) (moved : Moved) (u : Unit {0}) (r : Result (Unit {0}) HttpError)
-        → Refills reads lent writes x w moved (Ok u) m v → TakesInput reads lent m h r y k → Received x w h r y v k
+        → Refills reads buffer_of writes x w moved (Ok u) m v → TakesInput reads buffer_of m h r y k → Received x w h r y v k
     refilled_taken x m y w v h k moved u (Ok z) fill t =
         let xs = t.0 in (
           record { told = moved.told ++ bytes xs; took = moved.took },
@@ -54,11 +54,11 @@ module _ {T O : Type 0} (reads : Runs ReadMark T) (lent : T → List ℕ) (write
             xs,
             inl fill.0,
             told_follow laws x m y moved.told (bytes xs) fill.1 (told_bytes m y xs t.1),
-            ap (λ l. l ++ bytes xs) fill.2 ∙ filled_then (lent m) xs t.2 t.3,
+            ap (λ l. l ++ bytes xs) fill.2 ∙ filled_then (buffer_of m) xs t.2 t.3,
             t.4,
           ),
         )
     refilled_taken x m y w v h k moved u (Err Memory) fill t =
-        (moved, (inl fill.0, rw t.0 fill.1, rw fill.2 (one_mark (lent m)), t.1))
+        (moved, (inl fill.0, rw t.0 fill.1, rw fill.2 (one_mark (buffer_of m)), t.1))
     refilled_taken x m y w v h k moved u (Err (Input e)) fill t = absurd t
     refilled_taken x m y w v h k moved u (Err (Output e)) fill t = absurd t

@@ -32,11 +32,11 @@ waiting h none going =
     let empty = none_pending h.pending none in
     (is_open h.state (λ closed. going (closed, rw empty refl)), empty)
 
-module _ {T O S : Type 0} (config : Config) (reads : Runs ReadMark T) (lent : T → List ℕ) (writes : Runs WriteMark O)
+module _ {T O S : Type 0} (config : Config) (reads : Runs ReadMark T) (buffer_of : T → List ℕ) (writes : Runs WriteMark O)
     (answers : S → Request (List ℕ) → Response → S → Type 0) where
   pub answered : (x : HttpSession T O S) (s : S) (h : History) (other : Config) → other ≡ config
       → Calls answers x.service s x.history.calls h.calls → IsQuiet x.history h → ∥ IsServed other h ∥₁ → Rests other h
-      → AnswersGiven config reads lent writes answers x (record { reader = x.reader; writer = x.writer; service = s; history = h })
+      → AnswersGiven config reads buffer_of writes answers x (record { reader = x.reader; writer = x.writer; service = s; history = h })
   answered x s h other is calls quiet served rests =
       record {
         calls = calls;
@@ -48,16 +48,16 @@ module _ {T O S : Type 0} (config : Config) (reads : Runs ReadMark T) (lent : T 
       }
 
   -- An error while more was to be received ends the session.
-  pub stopped : (x m y : HttpSession T O S) (moved : Moved) (e : HttpError) → AnswersGiven config reads lent writes answers x m
-      → TakesMoreInput config reads lent writes answers m moved (Err e) y → EndsSession config reads lent writes answers x moved (Err e) y
+  pub stopped : (x m y : HttpSession T O S) (moved : Moved) (e : HttpError) → AnswersGiven config reads buffer_of writes answers x m
+      → TakesMoreInput config reads buffer_of writes answers m moved (Err e) y → EndsSession config reads buffer_of writes answers x moved (Err e) y
   stopped x m y moved (Output e) a t = (m, a, inr (inr t))
   stopped x m y moved (Input e) a t = (m, a, t)
   stopped x m y moved Memory a t = inr (m, a, t)
 
   -- The connection is done.
   pub finished : (x y : HttpSession T O S) (moved : Moved) (r : Result (Unit {0}) HttpError)
-      → HttpTurns config reads lent writes answers x moved (Ok false) y → IsOutcome y.history r
-      → EndsSession config reads lent writes answers x moved r y
+      → HttpTurns config reads buffer_of writes answers x moved (Ok false) y → IsOutcome y.history r
+      → EndsSession config reads buffer_of writes answers x moved r y
   finished x y moved (Ok u) t outcome = (t, outcome)
   finished x y moved (Err Memory) t outcome = inl (t, outcome)
   finished x y moved (Err (Input e)) t outcome = absurd outcome
@@ -65,18 +65,18 @@ module _ {T O S : Type 0} (config : Config) (reads : Runs ReadMark T) (lent : T 
 
   -- One more step.
   pub stepped : (x m y : HttpSession T O S) (moves : List Moved) (moved : Moved)
-      → FoldsTo (HttpStep config reads lent writes answers) x moves m → HttpStep config reads lent writes answers m moved y
-      → FoldsTo (HttpStep config reads lent writes answers) x (moves ++ moved ∷ []) y
+      → FoldsTo (HttpStep config reads buffer_of writes answers) x moves m → HttpStep config reads buffer_of writes answers m moved y
+      → FoldsTo (HttpStep config reads buffer_of writes answers) x (moves ++ moved ∷ []) y
   stepped x m y [] moved h step = (y, rw h step, refl)
   stepped x m y (a ∷ moves) moved h step = (h.0, h.1, stepped h.0 m y moves moved h.2 step)
 
   -- What a turn does, by an equal configuration.
   pub turned : (other : Config) → other ≡ config → (x y : HttpSession T O S) (moved : Moved) (r r' : Result Bool HttpError)
-      → r ≡ r' → HttpTurns other reads lent writes answers x moved r y → HttpTurns config reads lent writes answers x moved r' y
+      → r ≡ r' → HttpTurns other reads buffer_of writes answers x moved r y → HttpTurns config reads buffer_of writes answers x moved r' y
   turned other is x y moved r r' same h = rw (← is, ← same) h
 
   -- The last turn.
   pub served : (x m y : HttpSession T O S) (moves : List Moved) (moved : Moved) (r : Result (Unit {0}) HttpError)
-      → FoldsTo (HttpStep config reads lent writes answers) x moves m → EndsSession config reads lent writes answers m moved r y
-      → Serves config reads lent writes answers x r y
+      → FoldsTo (HttpStep config reads buffer_of writes answers) x moves m → EndsSession config reads buffer_of writes answers m moved r y
+      → Serves config reads buffer_of writes answers x r y
   served x m y moves moved r folds ends = (moves, m, moved, folds, ends)

@@ -159,7 +159,7 @@ front_sent sent pending taken rest n is = (
       ∙ sym (append_assoc sent taken _),
 )
 
-module _ {T O S : Type 0} (config : Config) (reads : Runs ReadMark T) (lent : T → List ℕ) (writes : Runs WriteMark O)
+module _ {T O S : Type 0} (config : Config) (reads : Runs ReadMark T) (buffer_of : T → List ℕ) (writes : Runs WriteMark O)
     (answers : S → Request (List ℕ) → Response → S → Type 0) (read_laws : MarkLaws reads) (write_laws : MarkLaws writes) where
   -- What steps moved: all that was taken by the writer counts as sent.
   pub record Sums (x : HttpSession T O S) (moved : Moved) (y : HttpSession T O S) : Type 0 where
@@ -191,7 +191,7 @@ module _ {T O S : Type 0} (config : Config) (reads : Runs ReadMark T) (lent : T 
         fine = fine_both a.took b.took h.fine k.fine;
       }
 
-  answered_sums : (x m : HttpSession T O S) → AnswersGiven config reads lent writes answers x m → Sums x (all_moved []) m
+  answered_sums : (x m : HttpSession T O S) → AnswersGiven config reads buffer_of writes answers x m → Sums x (all_moved []) m
   answered_sums x m a =
       record {
         read = read_nothing x.reader m.reader [] refl a.reader;
@@ -204,7 +204,7 @@ module _ {T O S : Type 0} (config : Config) (reads : Runs ReadMark T) (lent : T 
         fine = tt;
       }
 
-  hands_sums : (m y : HttpSession T O S) (moved : Moved) → HandsOutput config reads lent writes answers m moved (Ok tt) y
+  hands_sums : (m y : HttpSession T O S) (moved : Moved) → HandsOutput config reads buffer_of writes answers m moved (Ok tt) y
       → Sums m moved y
   hands_sums m y moved ((n, some, ran, handed, is), none, reader, service) =
       record {
@@ -219,17 +219,17 @@ module _ {T O S : Type 0} (config : Config) (reads : Runs ReadMark T) (lent : T 
         fine = only_fine moved.took handed.0;
       }
 
-  first_wrote : (x : T) (w v : O) (took : List WriteMark) → FlushesFirst reads lent writes x w took v
+  first_wrote : (x : T) (w v : O) (took : List WriteMark) → FlushesFirst reads buffer_of writes x w took v
       → writes w took v × (bytes_taken took ≡ []) × WritesAndFlushes took
   first_wrote x w v took (inl f) = (f.0, f.2, flush_fine took f.1)
   first_wrote x w v took (inr f) = (rw (f.1, f.2) (write_laws.rests w), rw f.1 refl, rw f.1 tt)
 
   -- A connection that waits for input has seen no end of it.
-  still_open : (x m : HttpSession T O S) → AnswersGiven config reads lent writes answers x m → IsWaiting m.history
+  still_open : (x m : HttpSession T O S) → AnswersGiven config reads buffer_of writes answers x m → IsWaiting m.history
       → m.history.ended ≡ false
   still_open x m a (is_open, none) = (a.rests is_open (rw none (omega arith))).0
 
-  more_sums : (m y : HttpSession T O S) (moved : Moved) → m.history.ended ≡ false → TakesMoreInput config reads lent writes answers m moved (Ok tt) y
+  more_sums : (m y : HttpSession T O S) (moved : Moved) → m.history.ended ≡ false → TakesMoreInput config reads buffer_of writes answers m moved (Ok tt) y
       → Sums m moved y
   more_sums m y moved unseen (waits, (xs, first, told, arrive, is), service) =
       let f = first_wrote m.reader m.writer y.writer moved.took first in
@@ -246,12 +246,12 @@ module _ {T O S : Type 0} (config : Config) (reads : Runs ReadMark T) (lent : T 
         fine = f.2;
       }
 
-  step_sums : (x y : HttpSession T O S) (moved : Moved) → HttpStep config reads lent writes answers x moved y → Sums x moved y
+  step_sums : (x y : HttpSession T O S) (moved : Moved) → HttpStep config reads buffer_of writes answers x moved y → Sums x moved y
   step_sums x y moved (m, a, inl h) = sums_then x m y (all_moved []) moved (answered_sums x m a) (hands_sums m y moved h)
   step_sums x y moved (m, a, inr h) = sums_then x m y (all_moved []) moved (answered_sums x m a)
       (more_sums m y moved (still_open x m a h.0) h)
 
-  pub folds_sums : (x y : HttpSession T O S) (l : List Moved) → FoldsTo (HttpStep config reads lent writes answers) x l y
+  pub folds_sums : (x y : HttpSession T O S) (l : List Moved) → FoldsTo (HttpStep config reads buffer_of writes answers) x l y
       → Sums x (all_moved l) y
   folds_sums x y [] h =
       record {
@@ -336,7 +336,7 @@ module _ {T O S : Type 0} (config : Config) (reads : Runs ReadMark T) (lent : T 
   WholeAt = WholeSession config reads writes answers
 
   closed_whole : (m y : HttpSession T O S) (moved : Moved) → y.history.state ≢ Aborted → ∥ IsServed config m.history ∥₁
-      → ClosesSession config reads lent writes answers m moved (Ok tt) y → WholeAt m moved (Ok tt) y
+      → ClosesSession config reads buffer_of writes answers m moved (Ok tt) y → WholeAt m moved (Ok tt) y
   closed_whole m y moved alive served (done, f, same, none, reader, service) =
       let pending = no_length m.history.pending done.1 in
       ended m y moved (Ok tt) served same service (tells_nothing m.history.ended moved.told none)
@@ -349,7 +349,7 @@ module _ {T O S : Type 0} (config : Config) (reads : Runs ReadMark T) (lent : T 
       )
 
   lost_whole : (m y : HttpSession T O S) (moved : Moved) → ∥ IsServed config m.history ∥₁
-      → ClosesSession config reads lent writes answers m moved (Ok tt) y → WholeAt m moved (Err Memory) y
+      → ClosesSession config reads buffer_of writes answers m moved (Ok tt) y → WholeAt m moved (Err Memory) y
   lost_whole m y moved served (done, f, same, none, reader, service) =
       let pending = no_length m.history.pending done.1 in
       ended m y moved (Err Memory) served same service (inl (tells_nothing m.history.ended moved.told none))
@@ -362,14 +362,14 @@ module _ {T O S : Type 0} (config : Config) (reads : Runs ReadMark T) (lent : T 
   memory_tells was l unseen (inr last) = inr (unseen, last)
 
   close_failed : (m y : HttpSession T O S) (moved : Moved) (e : Error) → ∥ IsServed config m.history ∥₁
-      → ClosesSession config reads lent writes answers m moved (Err e) y → WholeAt m moved (Err (Output e)) y
+      → ClosesSession config reads buffer_of writes answers m moved (Err e) y → WholeAt m moved (Err (Output e)) y
   close_failed m y moved e served (done, f, same, none, reader, service) =
       ended m y moved (Err (Output e)) served same service (tells_nothing m.history.ended moved.told none)
       (read_nothing m.reader y.reader moved.told none reader)
       f.0 (front_none m.history moved.took f.2, only_fails moved.took e f.1)
 
   hand_failed : (m y : HttpSession T O S) (moved : Moved) (e : Error) → ∥ IsServed config m.history ∥₁
-      → HandsOutput config reads lent writes answers m moved (Err e) y → WholeAt m moved (Err (Output e)) y
+      → HandsOutput config reads buffer_of writes answers m moved (Err e) y → WholeAt m moved (Err (Output e)) y
   hand_failed m y moved e served ((n, front, handed, same), none, reader, service) =
       ended m y moved (Err (Output e)) served same service (tells_nothing m.history.ended moved.told none)
       (read_nothing m.reader y.reader moved.told none reader)
@@ -379,7 +379,7 @@ module _ {T O S : Type 0} (config : Config) (reads : Runs ReadMark T) (lent : T 
       )
 
   more_failed : (m y : HttpSession T O S) (moved : Moved) (e : HttpError) → m.history.ended ≡ false → ∥ IsServed config m.history ∥₁
-      → TakesMoreInput config reads lent writes answers m moved (Err e) y → WholeAt m moved (Err e) y
+      → TakesMoreInput config reads buffer_of writes answers m moved (Err e) y → WholeAt m moved (Err e) y
   more_failed m y moved (Input e) unseen served (waits, (f, told, is, same), service) =
       ended m y moved (Err (Input e)) served same service (unseen, is) told f.0
       (nothing_sent m.history moved.took waits.1 f.2, flush_fine moved.took f.1, flush_last moved.took f.1)
@@ -393,11 +393,11 @@ module _ {T O S : Type 0} (config : Config) (reads : Runs ReadMark T) (lent : T 
       (nothing_sent m.history moved.took waits.1 f.1, f.2)
 
   after_answers : (x m y : HttpSession T O S) (moved : Moved) (r : Result (Unit {0}) HttpError)
-      → AnswersGiven config reads lent writes answers x m → WholeAt m moved r y → WholeAt x moved r y
+      → AnswersGiven config reads buffer_of writes answers x m → WholeAt m moved r y → WholeAt x moved r y
   after_answers x m y moved r a h = whole_later x m y (all_moved []) moved r (answered_sums x m a) h
 
   ends_whole : (x y : HttpSession T O S) (moved : Moved) (r : Result (Unit {0}) HttpError)
-      → EndsSession config reads lent writes answers x moved r y → WholeAt x moved r y
+      → EndsSession config reads buffer_of writes answers x moved r y → WholeAt x moved r y
   ends_whole x y moved (Ok u) ((m, a, h), alive) =
       after_answers x m y moved (Ok tt) a (closed_whole m y moved alive a.served h)
   ends_whole x y moved (Err (Output e)) (m, a, inl h) =
@@ -414,7 +414,7 @@ module _ {T O S : Type 0} (config : Config) (reads : Runs ReadMark T) (lent : T 
       after_answers x m y moved (Err Memory) a (more_failed m y moved Memory (still_open x m a h.0) a.served h)
 
   -- A whole session.
-  pub serves_whole : (x y : HttpSession T O S) (r : Result (Unit {0}) HttpError) → Serves config reads lent writes answers x r y
+  pub serves_whole : (x y : HttpSession T O S) (r : Result (Unit {0}) HttpError) → Serves config reads buffer_of writes answers x r y
       → (moved : Moved) × WholeAt x moved r y
   serves_whole x y r (l, m, last, folds, ends) =
       (both (all_moved l) last, whole_later x m y (all_moved l) last r (folds_sums x m l folds) (ends_whole m y last r ends))

@@ -4,7 +4,7 @@ use Rattle.std.specs.List.{FoldsTo}
 use Rattle.std.specs.declared.io.Error.{Error}
 use Rattle.std.proofs.Common.{◌∙◌}
 use Rattle.futures_lite.specs.Answers.{Gives, Pending, Poll, Ready, UpToValue}
-use Rattle.futures_lite.specs.Marks.{ReadMark, filled}
+use Rattle.futures_lite.specs.Marks.{ReadMark, filled_marks}
 use Rattle.futures_lite.specs.Own.{MarkLaws, Runs}
 use Rattle.futures_lite.specs.Readers.{ToldStripped, strip_marks}
 use Rattle.example_http.specs.Filling.{FillStep, FilledUp}
@@ -18,22 +18,22 @@ up_one (Ready v) = refl
 pub at_value : {S : Type 0} (P : S → Type 0) {x y : S} → P x → y ≡ x → P y
 at_value P h e = rw e h
 
-strip_filled : (shown : List ℕ) → strip_marks (filled shown) ≡ filled shown
+strip_filled : (shown : List ℕ) → strip_marks (filled_marks shown) ≡ filled_marks shown
 strip_filled [] = refl
 strip_filled (x ∷ xs) = refl
 
-module _ {T : Type 0} (reads : Runs ReadMark T) (lent : T → List ℕ) where
+module _ {T : Type 0} (reads : Runs ReadMark T) (buffer_of : T → List ℕ) where
   -- A fill that was waited for.
   abbrev pub WaitedFill : T → Result (Unit {0}) Error → T → Type 0
-  WaitedFill x v y = (told : List ReadMark) × ToldStripped reads x told y × FilledUp told (lent y) v
+  WaitedFill x v y = (told : List ReadMark) × ToldStripped reads x told y × FilledUp told (buffer_of y) v
 
-  ready_fill : (x y : Filling T) (v : Result (Unit {0}) Error) → FillStep reads lent x (Ready v) y
+  ready_fill : (x y : Filling T) (v : Result (Unit {0}) Error) → FillStep reads buffer_of x (Ready v) y
       → WaitedFill x.reader.now v y.reader.now
-  ready_fill x y (Ok u) h = (_, (_, h.0, strip_filled (lent y.reader.now)), refl)
+  ready_fill x y (Ok u) h = (_, (_, h.0, strip_filled (buffer_of y.reader.now)), refl)
   ready_fill x y (Err e) h = (_, (_, h.0, refl), refl)
 
   pub fill_waited : MarkLaws reads → (x y : Filling T) (l : List (Poll (Result (Unit {0}) Error)))
-      (v : Result (Unit {0}) Error) → Gives l v → FoldsTo (FillStep reads lent) x l y
+      (v : Result (Unit {0}) Error) → Gives l v → FoldsTo (FillStep reads buffer_of) x l y
       → WaitedFill x.reader.now v y.reader.now × (y.reader.ghost_name ≡ x.reader.ghost_name)
   fill_waited laws x y [] v g h = absurd g
   fill_waited laws x y (Pending ∷ l) v g h =

@@ -2,7 +2,7 @@
 use Rattle.std.specs.Prelude.{◌≡◌, ◌≢◌, ◌<◌, ◌⊎◌, ℕ, List, [], ◌∷◌, take, Result, Ok, Err}
 use Rattle.std.specs.IoError.{error_kind}
 use Rattle.std.specs.declared.io.Error.{Error}
-use Rattle.futures_lite.specs.Marks.{ReadMark, WriteMark, bytes, bytes_taken, filled}
+use Rattle.futures_lite.specs.Marks.{ReadMark, WriteMark, bytes, bytes_taken, filled_marks}
 use Rattle.futures_lite.specs.Own.{Runs}
 use Rattle.futures_lite.specs.Readers.{StandsFirst, ToldStripped}
 use Rattle.futures_lite.specs.Writers.{FlushedUp, HandedUp, TakesFront}
@@ -33,20 +33,20 @@ module _ {O : Type 0} (writes : Runs WriteMark O) where
   WritesOutput w h took (Err e) v k =
       (n : ℕ) × TakesFront writes w (take n h.pending) took v × HandedUp (take n h.pending) took (Err e) × (k ≡ h)
 
-module _ {T : Type 0} (reads : Runs ReadMark T) (lent : T → List ℕ) where
+module _ {T : Type 0} (reads : Runs ReadMark T) (buffer_of : T → List ℕ) where
   -- The connection received the first of the bytes that the reader shows. It received none only if the reader shows none.
   abbrev pub TakesInput : T → History → Result (Unit {0}) HttpError → T → History → Type 0
-  TakesInput x h (Ok u) y k = (xs : List ℕ) × reads x (bytes xs) y × StandsFirst xs (lent x) × (xs ≡ [] → lent x ≡ [])
+  TakesInput x h (Ok u) y k = (xs : List ℕ) × reads x (bytes xs) y × StandsFirst xs (buffer_of x) × (xs ≡ [] → buffer_of x ≡ [])
       × (k ≡ after_read h xs)
   TakesInput x h (Err Memory) y k = (y ≡ x) × (k ≡ h)
   TakesInput x h (Err (Input e)) y k = ⊥
   TakesInput x h (Err (Output e)) y k = ⊥
 
-module _ {T O : Type 0} (reads : Runs ReadMark T) (lent : T → List ℕ) (writes : Runs WriteMark O) where
+module _ {T O : Type 0} (reads : Runs ReadMark T) (buffer_of : T → List ℕ) (writes : Runs WriteMark O) where
   -- The writer was flushed, and then the reader was filled.
   abbrev pub Refills : T → O → Moved → Result (Unit {0}) HttpError → T → O → Type 0
   Refills x w moved (Ok u) y v = FlushesOutput writes w moved.took (Ok u) v × ToldStripped reads x moved.told y
-      × (moved.told ≡ filled (lent y))
+      × (moved.told ≡ filled_marks (buffer_of y))
   Refills x w moved (Err (Input e)) y v = FlushesOutput writes w moved.took (Ok tt) v × ToldStripped reads x moved.told y
       × (moved.told ≡ ReadMark.fault (error_kind e) ∷ [])
   Refills x w moved (Err (Output e)) y v = FlushesOutput writes w moved.took (Err e) v × (y ≡ x) × (moved.told ≡ [])
@@ -54,7 +54,7 @@ module _ {T O : Type 0} (reads : Runs ReadMark T) (lent : T → List ℕ) (write
 
   -- The writer was flushed. Or the reader shows bytes, so that no read waits, and nothing was done to the writer.
   abbrev pub FlushesFirst : T → O → List WriteMark → O → Type 0
-  FlushesFirst x w took v = FlushesOutput writes w took (Ok tt) v ⊎ ((lent x ≢ []) × (took ≡ []) × (v ≡ w))
+  FlushesFirst x w took v = FlushesOutput writes w took (Ok tt) v ⊎ ((buffer_of x ≢ []) × (took ≡ []) × (v ≡ w))
 
   -- More was received: the bytes `xs`, or the end of file if there are none. The writer was flushed before, unless bytes
   -- had been shown. At an error nothing was received.

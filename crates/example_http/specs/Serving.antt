@@ -32,7 +32,7 @@ IsOutcome h (Err Memory) = h.state ≡ Aborted
 IsOutcome h (Err (Input e)) = ⊥
 IsOutcome h (Err (Output e)) = ⊥
 
-module _ {T O S : Type 0} (config : Config) (reads : Runs ReadMark T) (lent : T → List ℕ) (writes : Runs WriteMark O)
+module _ {T O S : Type 0} (config : Config) (reads : Runs ReadMark T) (buffer_of : T → List ℕ) (writes : Runs WriteMark O)
     (answers : S → Request (List ℕ) → Response → S → Type 0) where
   -- The service was called for requests that had been received, one after the other. No byte moved. What there is to send
   -- answers what was received (`served`). If there is room for more, each whole request has its answer (`rests`).
@@ -57,7 +57,7 @@ module _ {T O S : Type 0} (config : Config) (reads : Runs ReadMark T) (lent : T 
   -- The connection waited for input, and more was received. The service stays.
   abbrev pub TakesMoreInput : HttpSession T O S → Moved → Result (Unit {0}) HttpError → HttpSession T O S → Type 0
   TakesMoreInput x moved r y = IsWaiting x.history
-      × ReceivesBytes reads lent writes x.reader x.writer x.history moved r y.reader y.writer y.history
+      × ReceivesBytes reads buffer_of writes x.reader x.writer x.history moved r y.reader y.writer y.history
       × (y.service ≡ x.service)
 
   -- What was received is answered. Then something is written, or, if nothing waits, more is received.

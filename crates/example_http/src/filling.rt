@@ -20,11 +20,11 @@ struct Filling<'a, T> {
 impl<T: AsyncBufRead> Future for Filling<'_, T> {
     type Output = io::Result<()>;
 
-    ghost run = { StepsToValue (FillStep T.reads T.lent) };
+    ghost run = { StepsToValue (FillStep T.reads T.buffer_of) };
 
     ghost registers = { λ x. T.registers x.reader.now };
 
-    ghost laws = { future_by_steps (FillStep T.reads T.lent) };
+    ghost laws = { future_by_steps (FillStep T.reads T.buffer_of) };
 
     fn poll(&mut self, cx: &mut Context<'_>) -> Poll<io::Result<()>> {
         fill(self.reader, cx)
@@ -38,7 +38,7 @@ pub fn wait_fill<R: Wait, T: AsyncBufRead>(
     reader: &mut T,
 ) -> io::Result<()>
     ensures { (told : List ReadMark) × ToldStripped T.reads reader.old told reader.new
-        × FilledUp told (T.lent reader.new) result }
+        × FilledUp told (T.buffer_of reader.new) result }
 {
     on.waits().wait_for(rt, &mut Filling { reader })
 }

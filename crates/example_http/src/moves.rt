@@ -59,7 +59,7 @@ where
     T: AsyncBufRead,
     O: AsyncWrite,
     requires { IsFalse (history connection.old).ended }
-    ensures received { (moved : Moved) × ReceivesBytes T.reads T.lent O.writes reader.old writer.old (history connection.old)
+    ensures received { (moved : Moved) × ReceivesBytes T.reads T.buffer_of O.writes reader.old writer.old (history connection.old)
         moved result reader.new writer.new (history connection.new) }
     ensures config { config_of connection.new ≡ config_of connection.old }
 {
@@ -81,7 +81,7 @@ where
     R: Wait,
     T: AsyncBufRead,
     O: AsyncWrite,
-    ensures { (moved : Moved) × Refills T.reads T.lent O.writes reader.old writer.old moved result reader.new writer.new }
+    ensures { (moved : Moved) × Refills T.reads T.buffer_of O.writes reader.old writer.old moved result reader.new writer.new }
 {
     if let Err(e) = flush(on, rt, writer) {
         return Err(HttpError::Output(e));
@@ -95,7 +95,7 @@ where
 /// Moves bytes that the reader shows to the connection. If it shows none, the connection gets the end of its input.
 fn take_in<T: AsyncBufRead>(reader: &mut T, connection: &mut Connection) -> Result<(), HttpError>
     requires { IsFalse (history connection.old).ended }
-    ensures taken { TakesInput T.reads T.lent reader.old (history connection.old) result reader.new (history connection.new) }
+    ensures taken { TakesInput T.reads T.buffer_of reader.old (history connection.old) result reader.new (history connection.new) }
     ensures config { config_of connection.new ≡ config_of connection.old }
 {
     let mut shown = reader.buffer();

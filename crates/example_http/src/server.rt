@@ -35,7 +35,7 @@ where
     T: AsyncBufRead,
     O: AsyncWrite,
     S: Service,
-    ensures served { Serves (config_of connection.old) T.reads T.lent O.writes S.answers
+    ensures served { Serves (config_of connection.old) T.reads T.buffer_of O.writes S.answers
         (record { reader = reader.old; writer = writer.old; service = service.old; history = history connection.old }) result
         (record { reader = reader.new; writer = writer.new; service = service.new; history = history connection.new }) }
     ensures whole { (moved : Moved) × WholeSession (config_of connection.old) T.reads O.writes S.answers
@@ -75,7 +75,7 @@ where
     T: AsyncBufRead,
     O: AsyncWrite,
     S: Service,
-    ensures turned { (moved : Moved) × HttpTurns (config_of connection.old) T.reads T.lent O.writes S.answers
+    ensures turned { (moved : Moved) × HttpTurns (config_of connection.old) T.reads T.buffer_of O.writes S.answers
         (record { reader = reader.old; writer = writer.old; service = service.old; history = history connection.old }) moved result
         (record { reader = reader.new; writer = writer.new; service = service.new; history = history connection.new }) }
     ensures config { config_of connection.new ≡ config_of connection.old }

@@ -93,7 +93,7 @@ module _ {T O : Type 0} (reads : Runs ReadMark T) (writes : Runs WriteMark O) (x
         flushed = s.whole.2;
       }
 
-module _ {T O : Type 0} (from_gives : Error → FrameError → Type 0) (reads : Runs ReadMark T) (lent : T → List ℕ)
+module _ {T O : Type 0} (from_gives : Error → FrameError → Type 0) (reads : Runs ReadMark T) (buffer_of : T → List ℕ)
     (writes : Runs WriteMark O) (rejects : LineDelimited → Vec ℕ → ℕ → FrameError → Type 0) (read_laws : MarkLaws reads)
     (write_laws : MarkLaws writes) (x y : Session T LineDelimited O LineDelimited Store) (phase : x.requests.phase ≡ reading)
     (none : x.requests.held ≡ []) (empty : stored x.service ≡ no_keys) where
@@ -108,17 +108,17 @@ module _ {T O : Type 0} (from_gives : Error → FrameError → Type 0) (reads : 
   no_frame = pieces_partial (λ c v. LineOf c v.items) IsLongLine SaysOutOfMemory (λ e. e ≡ CutOff)
 
   pub session_ended : (r : Result (Unit {0}) (ServeError FrameError FrameError))
-      → ServeEnds gives_line_delimited from_gives reads lent writes encodes_lines rejects
+      → ServeEnds gives_line_delimited from_gives reads buffer_of writes encodes_lines rejects
       (ServesAs (λ (v : Filled). v.items) (λ r. r.items) stored line_step) SaysLast x r y
       → LineSessionEnds reads writes x.requests x.replies y.requests y.replies r
   session_ended (Ok u) ends =
       line_session reads writes x y empty
-      (conversed gives_line_delimited from_gives reads lent writes encodes_lines rejects (λ (v : Filled). v.items) (λ r. r.items)
+      (conversed gives_line_delimited from_gives reads buffer_of writes encodes_lines rejects (λ (v : Filled). v.items) (λ r. r.items)
       stored line_step SaysLast (λ d. d ≡ c) (λ (v : Filled). LineOf c v.items) by_frame no_frame read_laws write_laws x y u refl
       phase none ends)
   session_ended (Err (Input e)) ends =
       stopped_session reads writes x y empty e
-      (refused_at gives_line_delimited from_gives reads lent writes encodes_lines rejects (λ (v : Filled). v.items) (λ r. r.items)
+      (refused_at gives_line_delimited from_gives reads buffer_of writes encodes_lines rejects (λ (v : Filled). v.items) (λ r. r.items)
       stored line_step SaysLast (λ d. d ≡ c) (λ (v : Filled). LineOf c v.items) by_frame no_frame read_laws write_laws x y e refl
       phase none ends)
   session_ended (Err (Output e)) ends = tt

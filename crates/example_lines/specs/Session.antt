@@ -66,9 +66,9 @@ module _ {T O : Type 0} (reads : Runs ReadMark T) (writes : Runs WriteMark O) (x
 -- How serving ends, whatever it stops at. At first nothing is held. A reply may be as long as memory allows.
 abbrev pub LinesServed : {T O : Type 0} → Runs ReadMark T → (T → List ℕ) → Runs WriteMark O → Framed T LineDelimited → O
     → Framed T LineDelimited → O → Result (Unit {0}) (ServeError FrameError FrameError) → Type 0
-LinesServed reads lent writes x w y v r =
+LinesServed reads buffer_of writes x w y v r =
     (s : Store) × (stored s ≡ no_keys) × (t : Store) × (c : LineDelimited) × (c.max ≡ 2 ^ 64 - 1) × (d : LineDelimited)
-    × ServeEnds gives_line_delimited (λ given error. error ≡ Io given) reads lent writes encodes_lines
+    × ServeEnds gives_line_delimited (λ given error. error ≡ Io given) reads buffer_of writes encodes_lines
     (λ e item. RefusesText e item.items) (ServesAs (λ (line : Filled). line.items) (λ reply. reply.items) stored line_step)
     SaysLast (record { requests = x; replies = w; encoder = c; service = s }) r
     (record { requests = y; replies = v; encoder = d; service = t })

@@ -29,7 +29,7 @@ where
     O: AsyncWrite,
     requires counts { T.ranks.counts requests.old.reader }
     requires fresh { (requests.old.phase ≡ reading) × (requests.old.held ≡ []) }
-    ensures ends { LinesServed T.reads T.lent O.writes requests.old replies.old requests.new replies.new result }
+    ensures ends { LinesServed T.reads T.buffer_of O.writes requests.old replies.old requests.new replies.new result }
     ensures said { LineSessionEnds T.reads O.writes requests.old replies.old requests.new replies.new result }
 {
     let mut store = Store::new(rt.alloc());

@@ -3,7 +3,7 @@ ghost use Rattle.futures_lite.specs.Ranks.{number_ranks};
 ghost use Rattle.futures_lite.specs.Own.{Steps, reader_by_steps, reader_counting};
 ghost use Rattle.example_own.specs.Dots.{DotsStep, dots_left, dots_lower};
 
-use futures_lite::io::{AsyncRead, CountedRead, Tale};
+use futures_lite::io::{AsyncRead, CountedRead, ReadSpec};
 use futures_lite::{Context, Poll};
 use std::io;
 
@@ -13,7 +13,7 @@ pub struct Dots {
     pub left: u32,
 }
 
-impl Tale for Dots {
+impl ReadSpec for Dots {
     ghost reads = { Steps DotsStep };
 
     ghost read_laws = { reader_by_steps DotsStep };

@@ -4,7 +4,7 @@ ghost use Rattle.futures_lite.specs.Ranks.{number_ranks};
 ghost use Rattle.futures_lite.specs.Own.{Steps, front_lowers, reader_by_steps, reader_counting};
 ghost use Rattle.example_own.specs.Table.{TableStep, table_left, table_on};
 
-use futures_lite::io::{AsyncRead, CountedRead, Tale};
+use futures_lite::io::{AsyncRead, CountedRead, ReadSpec};
 use futures_lite::{Context, Poll};
 use std::io;
 
@@ -15,7 +15,7 @@ pub struct Table {
     pub at: usize,
 }
 
-impl Tale for Table {
+impl ReadSpec for Table {
     ghost reads = { Steps TableStep };
 
     ghost read_laws = { reader_by_steps TableStep };

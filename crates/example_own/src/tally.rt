@@ -2,7 +2,7 @@
 ghost use Rattle.futures_lite.specs.Own.{Steps, writer_by_steps};
 ghost use Rattle.example_own.specs.Tally.{TallyStep};
 
-use futures_lite::io::{AsyncWrite, Takings};
+use futures_lite::io::{AsyncWrite, WriteSpec};
 use futures_lite::{Context, Poll};
 use std::io;
 
@@ -12,7 +12,7 @@ pub struct Tally {
     pub bytes: u64,
 }
 
-impl Takings for Tally {
+impl WriteSpec for Tally {
     ghost writes = { Steps TallyStep };
 
     ghost write_laws = { writer_by_steps TallyStep };

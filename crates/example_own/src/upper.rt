@@ -5,7 +5,7 @@ ghost use Rattle.futures_lite.specs.Own.{HandsOn, handing_counting, reader_handi
 ghost use Rattle.futures_lite.specs.Ranks.{ranks_of};
 ghost use Rattle.example_own.specs.Upper.{upper_inner};
 
-use futures_lite::io::{AsyncRead, CountedRead, Tale};
+use futures_lite::io::{AsyncRead, CountedRead, ReadSpec};
 use futures_lite::{Context, Poll};
 use std::io;
 
@@ -15,7 +15,7 @@ pub struct Upper<R> {
     pub inner: R,
 }
 
-impl<R: Tale> Tale for Upper<R> {
+impl<R: ReadSpec> ReadSpec for Upper<R> {
     ghost reads = { HandsOn upper_inner to_ascii_uppercase R.reads };
 
     ghost read_laws = { reader_handing R.read_laws };

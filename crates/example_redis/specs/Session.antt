@@ -34,8 +34,8 @@ IsFresh x = (x.phase ≡ reading) × (x.held ≡ []) × IsIdle x.decoder.limits 
 -- How serving ends, whatever it stops at.
 abbrev pub SessionEnds : {T O : Type 0} → Runs ReadMark T → (T → List ℕ) → Runs WriteMark O → Session T Requests O Replies Store
     → Result (Unit {0}) (ServeError RequestError ReplyError) → Session T Requests O Replies Store → Type 0
-SessionEnds reads lent writes x r y =
-    ServeEnds gives_requests (λ given error. error ≡ Io given) reads lent writes encodes_replies refuses_replies
+SessionEnds reads buffer_of writes x r y =
+    ServeEnds gives_requests (λ given error. error ≡ Io given) reads buffer_of writes encodes_replies refuses_replies
     (ServesAs (λ request. texts request.words.items) (λ reply. said (Some reply)) held step) LastSaid x r y
 
 -- The requests that were read were answered in turn, from what the store held. Exactly the replies were written.

@@ -34,7 +34,7 @@ where
     O: AsyncWrite,
     requires counts { T.ranks.counts requests.old.reader }
     requires fresh { IsFresh requests.old }
-    ensures ends { SessionEnds T.reads T.lent O.writes
+    ensures ends { SessionEnds T.reads T.buffer_of O.writes
         (record { requests = requests.old; replies = writer.old; encoder = encoder.old; service = store.old }) result
         (record { requests = requests.new; replies = writer.new; encoder = encoder.new; service = store.new }) }
     ensures whole { IfOk result (λ u. Conversed T.reads O.writes

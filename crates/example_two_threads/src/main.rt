@@ -7,8 +7,8 @@ mod twice;
 
 use crate::twice::{read_twice, write_twice};
 use futures_lite::io::{
-    Blanks, Books, Cursor, Journal, JournalReadHalf, JournalWriteHalf, Takings, Tale, history,
-    split_journalled,
+    CounterNames, Cursor, Journal, JournalReadHalf, JournalWriteHalf, NewCounters, ReadSpec,
+    WriteSpec, history, split_journalled,
 };
 use futures_lite::{AsyncRead, AsyncWrite};
 use std::alloc::AllocGlobal;
@@ -25,7 +25,7 @@ fn main(rt: HostRuntime) -> io::Result<()> {
         return Err(ErrorKind::OutOfMemory.into());
     };
     // The proof of this call picks the books: `proofs/main/Invariants.antt`.
-    let told = in_two_threads::<HostRuntime, Brand>(rt, journal, Blanks::new())?;
+    let told = in_two_threads::<HostRuntime, Brand>(rt, journal, NewCounters::new())?;
     println!(rt; "{told}")
 }
 
@@ -33,15 +33,15 @@ fn main(rt: HostRuntime) -> io::Result<()> {
 fn in_two_threads<R, B>(
     rt: R,
     journal: Journal<Cursor<Vec<u8>>>,
-    blanks: Blanks,
+    counters: NewCounters,
 ) -> io::Result<String>
 where
     R: Threads + Wait + RandomSource + AllocGlobal + Copy + Send + Sync,
-    B: Books + Send + Sync,
-    requires { blanks ≡ B.names }
+    B: CounterNames + Send + Sync,
+    requires { counters ≡ B.names }
 {
     let Ok((mut reader, mut writer)) = split_journalled::<R, Cursor<Vec<u8>>, B>(
-        rt, journal, blanks,
+        rt, journal, counters,
     ) else {
         return Err(ErrorKind::OutOfMemory.into());
     };
@@ -69,8 +69,8 @@ fn tell<R, T, B>(
 ) -> io::Result<String>
 where
     R: Wait + AllocGlobal,
-    T: Tale + Takings + Clone,
-    B: Books,
+    T: ReadSpec + WriteSpec + Clone,
+    B: CounterNames,
 {
     let entries = history(reader, writer)?.entries().len();
     let (reads, got) = (reader.calls(), reader.bytes());

@@ -14,20 +14,20 @@ use Rattle.framed.specs.declared.serve_error.ServeError.{ServeError}
 use Rattle.framed.specs.declared.serve_error.ServeError.TheVariants.{Encode, Input, Memory, Output}
 
 module _ {T D O C S A E B F : Type 0} (gives : Gives D A E) (from_gives : Error → E → Type 0) (reads : Runs ReadMark T)
-    (lent : T → List ℕ) (writes : Runs WriteMark O) (encodes : C → B → List ℕ → C → Type 0)
+    (buffer_of : T → List ℕ) (writes : Runs WriteMark O) (encodes : C → B → List ℕ → C → Type 0)
     (rejects : C → B → ℕ → F → Type 0) (answers : ServiceStep S A B) (refuses : LastWords S E B)
     (x : Session T D O C S) where
   abbrev Taking : Option (Result A E) → Framed T D → O → Type 0
-  Taking item y w = TakesNextItem gives from_gives reads lent writes x.requests x.replies item y w
+  Taking item y w = TakesNextItem gives from_gives reads buffer_of writes x.requests x.replies item y w
 
   abbrev pub StepTo : Option (Result A E) → Bool → Session T D O C S → Type 0
-  StepTo item on y = Step gives from_gives reads lent writes encodes rejects answers refuses item on x y
+  StepTo item on y = Step gives from_gives reads buffer_of writes encodes rejects answers refuses item on x y
 
   abbrev pub One : Result (Result Bool (ServeError E F)) Error → Session T D O C S → Type 0
-  One r y = StepEnds gives from_gives reads lent writes encodes rejects answers refuses x r y
+  One r y = StepEnds gives from_gives reads buffer_of writes encodes rejects answers refuses x r y
 
   abbrev pub Next : Result Bool (ServeError E F) → Session T D O C S → Type 0
-  Next r y = NextEnds gives from_gives reads lent writes encodes rejects answers refuses x r y
+  Next r y = NextEnds gives from_gives reads buffer_of writes encodes rejects answers refuses x r y
 
   -- at the end of the input nothing is written
   pub nothing : MarkLaws writes → (y : Framed T D) (w : O) → Taking None y w

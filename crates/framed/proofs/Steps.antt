@@ -6,7 +6,7 @@ use Rattle.std.specs.declared.io.Error.{Error}
 use Rattle.std.proofs.Common.{◌∙◌, ap, append-nil, arith, drop_at, eqb-true, inl, inr, length-append, le_refl, refl, subst, sym, take_all, take_at}
 use Rattle.std.proofs.lemmas.List.{map-append}
 use Rattle.futures_lite.specs.Answers.{Answer, Pending, Ready}
-use Rattle.futures_lite.specs.Marks.{ReadMark, bytes, filled}
+use Rattle.futures_lite.specs.Marks.{ReadMark, bytes, filled_marks}
 use Rattle.futures_lite.specs.Own.{MarkLaws, Reaches, Runs}
 use Rattle.tokio_util.specs.Codec.Next.{Gives, IsStable, PartialHasNoFrame, at_end as last_frame, decoded, partial}
 use Rattle.framed.specs.FrameLaws.{TakesMore, frame_ran, goes_on, joined, last_on}
@@ -121,7 +121,7 @@ some_shown [] e = cc e
 some_shown (x ∷ xs) e = omega arith
 
 -- A fill that showed bytes left no mark.
-pub no_mark : {T : Type 0} (reads : Runs ReadMark T) (xs : List ℕ) → 0 < length xs → {a b : T} → reads a (filled xs) b
+pub no_mark : {T : Type 0} (reads : Runs ReadMark T) (xs : List ℕ) → 0 < length xs → {a b : T} → reads a (filled_marks xs) b
     → reads a [] b
 no_mark reads [] some h = absurd (omega (arith, some))
 no_mark reads (x ∷ xs) some h = h
@@ -131,31 +131,31 @@ more_length xs ys some = omega (arith, length-append xs ys, some)
 
 -- No frame was in hand at `x`, which became `m`. Then the reader of `m` was filled.
 module _ {T D X E : Type 0} (gives : Gives D X E) (from_gives : Error → E → Type 0) (reads : Runs ReadMark T)
-    (laws : MarkLaws reads) (no_frame : PartialHasNoFrame gives) (lent : T → List ℕ) (x m y : Framed T D)
-    (h : InHand gives from_gives reads lent x Pending m) where
+    (laws : MarkLaws reads) (no_frame : PartialHasNoFrame gives) (buffer_of : T → List ℕ) (x m y : Framed T D)
+    (h : InHand gives from_gives reads buffer_of x Pending m) where
   after_mark : (last : List ReadMark) → reads m.reader last y.reader
-      → reads x.reader (bytes (lent x.reader) ++ last) y.reader
+      → reads x.reader (bytes (buffer_of x.reader) ++ last) y.reader
   after_mark last came = laws.follows _ _ _ _ _ h.1 came
 
   pub at_end : (r : Option (Result X E)) (s : T) → reads m.reader (ReadMark.end ∷ []) s → y.reader ≡ s
       → Last gives (record m { reader = s }) [] r y → FrameStep gives from_gives reads x (Ready r) y
   at_end r s came same last =
-      inr (h.0, lent x.reader, ReadMark.end ∷ [], after_mark _ (rw same came), by r last given)
+      inr (h.0, buffer_of x.reader, ReadMark.end ∷ [], after_mark _ (rw same came), by r last given)
     where
       -- No whole frame was held, so a frame is one that the end gives.
       only_last : (v : X) → Last gives (record m { reader = s }) [] (Some (Ok v)) y
-          → gives x.decoder (x.held ++ lent x.reader) (last_frame (Ok (Some v)) y.decoder y.held)
+          → gives x.decoder (x.held ++ buffer_of x.reader) (last_frame (Ok (Some v)) y.decoder y.held)
       only_last v k =
           elim k.1 [
             | inl p ↦ absurd (no_frame m.decoder m.held v y.decoder y.held h.3.1 (rw (append-nil m.held) at p))
-            | inr q ↦ rw (append-nil (x.held ++ lent x.reader)) at (h.3.2 [] _ q)
+            | inr q ↦ rw (append-nil (x.held ++ buffer_of x.reader)) at (h.3.2 [] _ q)
           ]
 
-      given : Last gives x (lent x.reader) r y
-      given = subst (λ l. Last gives x l r y) (append-nil (lent x.reader)) (last_on gives x m y (lent x.reader) h.3.2 [] r last)
+      given : Last gives x (buffer_of x.reader) r y
+      given = subst (λ l. Last gives x l r y) (append-nil (buffer_of x.reader)) (last_on gives x m y (buffer_of x.reader) h.3.2 [] r last)
 
-      by : (q : Option (Result X E)) → Last gives (record m { reader = s }) [] q y → Last gives x (lent x.reader) q y
-          → PollGives gives from_gives x (lent x.reader) (ReadMark.end ∷ []) (Ready q) y
+      by : (q : Option (Result X E)) → Last gives (record m { reader = s }) [] q y → Last gives x (buffer_of x.reader) q y
+          → PollGives gives from_gives x (buffer_of x.reader) (ReadMark.end ∷ []) (Ready q) y
       by None l k = (refl, k)
       by (Some (Ok v)) l k = inr (refl, (k.0, only_last v l))
       by (Some (Err e)) l k = inr (inl (refl, k))
@@ -166,7 +166,7 @@ module _ {T D X E : Type 0} (gives : Gives D X E) (from_gives : Error → E → 
   failed cause e s came made is =
       inr (
         h.0,
-        lent x.reader,
+        buffer_of x.reader,
         ReadMark.fault (error_kind cause) ∷ [],
         after_mark _ (rw is came),
         inr (inr ((cause, made, inl refl), (rw is refl), (rw is h.3.2))),
@@ -174,35 +174,35 @@ module _ {T D X E : Type 0} (gives : Gives D X E) (from_gives : Error → E → 
 
   pub pended : (s : T) → reads m.reader (ReadMark.pending ∷ []) s → y ≡ record m { reader = s }
       → FrameStep gives from_gives reads x Pending y
-  pended s came is = inr (h.0, lent x.reader, ReadMark.pending ∷ [], after_mark _ (rw is came), (refl, rw is h.3))
+  pended s came is = inr (h.0, buffer_of x.reader, ReadMark.pending ∷ [], after_mark _ (rw is came), (refl, rw is h.3))
 
   -- Then the bytes that the reader showed were looked at.
   module _ (s : T) (came : reads m.reader [] s) where
-    waits_at : (reads x.reader (bytes (lent x.reader)) s) × NoFrame gives x (lent x.reader) (record m { reader = s })
+    waits_at : (reads x.reader (bytes (buffer_of x.reader)) s) × NoFrame gives x (buffer_of x.reader) (record m { reader = s })
     waits_at = (subst (λ l. reads x.reader l s) (append-nil _) (laws.follows _ _ _ _ _ h.1 came), h.3)
 
-    in_hand_step : (r : Option (Result X E)) → InHand gives from_gives reads lent (record m { reader = s }) (Ready r) y
+    in_hand_step : (r : Option (Result X E)) → InHand gives from_gives reads buffer_of (record m { reader = s }) (Ready r) y
         → FrameStep gives from_gives reads (record m { reader = s }) (Ready r) y
     in_hand_step r (inl after) = inl (r, refl, after)
     in_hand_step r (inr k) =
         inr (k.0, k.1, [], subst (λ l. reads s l y.reader) (sym (append-nil _)) k.2, k.4)
 
-    pub answered : (r : Option (Result X E)) → InHand gives from_gives reads lent (record m { reader = s }) (Ready r) y
+    pub answered : (r : Option (Result X E)) → InHand gives from_gives reads buffer_of (record m { reader = s }) (Ready r) y
         → FrameStep gives from_gives reads x (Ready r) y
     answered r k =
-        joined gives from_gives reads laws no_frame x _ y (Ready r) (lent x.reader) h.0 waits_at.1 waits_at.0
+        joined gives from_gives reads laws no_frame x _ y (Ready r) (buffer_of x.reader) h.0 waits_at.1 waits_at.0
         (in_hand_step r k)
 
-    pub took : 0 < length (lent s) → InHand gives from_gives reads lent (record m { reader = s }) Pending y
+    pub took : 0 < length (buffer_of s) → InHand gives from_gives reads buffer_of (record m { reader = s }) Pending y
         → TakesMore gives reads x y
     took some k =
         record {
-          taken = lent x.reader ++ lent s;
-          some = more_length (lent x.reader) (lent s) some;
-          came = subst (λ l. reads x.reader l y.reader) (sym (map-append ReadMark.byte (lent x.reader) (lent s)))
+          taken = buffer_of x.reader ++ buffer_of s;
+          some = more_length (buffer_of x.reader) (buffer_of s) some;
+          came = subst (λ l. reads x.reader l y.reader) (sym (map-append ReadMark.byte (buffer_of x.reader) (buffer_of s)))
               (laws.follows _ s _ _ _ waits_at.0 k.1);
           was = h.0;
-          waits = (k.3.0, k.3.1, goes_on gives x (record m { reader = s }) y (lent x.reader) waits_at.1.2 (lent s) k.3.2);
+          waits = (k.3.0, k.3.1, goes_on gives x (record m { reader = s }) y (buffer_of x.reader) waits_at.1.2 (buffer_of s) k.3.2);
         }
 
 module _ {T D X E : Type 0} (gives : Gives D X E) (from_gives : Error → E → Type 0) (reads : Runs ReadMark T)

@@ -219,7 +219,7 @@ module _ {T D A E : Type 0} (gives : Gives D A E) (from_gives : Error → E → 
           }
 
 module _ {T D O C L S A E B F P Q : Type 0} (gives : Gives D A E) (from_gives : Error → E → Type 0) (reads : Runs ReadMark T)
-    (lent : T → List ℕ) (writes : Runs WriteMark O) (encodes : C → B → List ℕ → C → Type 0)
+    (buffer_of : T → List ℕ) (writes : Runs WriteMark O) (encodes : C → B → List ℕ → C → Type 0)
     (rejects : C → B → ℕ → F → Type 0) (asked : A → P) (told : B → Q) (holds : L → S) (step : S → P → AnswerOf Q × S)
     (refuses : LastWords L E B) (idle : D → Type 0) (frame_of : A → List ℕ → Type 0)
     (laws : FrameByFrame frame_of gives idle) (no_frame : PartialHasNoFrame gives) (read_laws : MarkLaws reads)
@@ -227,10 +227,10 @@ module _ {T D O C L S A E B F P Q : Type 0} (gives : Gives D A E) (from_gives : 
   -- A session that returned `Ok`, from a stream that was not read before.
   pub conversed : (x y : Session T D O C L) (u : Unit {0}) → idle x.requests.decoder → x.requests.phase ≡ reading
       → x.requests.held ≡ []
-      → ServeEnds gives from_gives reads lent writes encodes rejects (ServesAs asked told holds step) refuses x (Ok u) y
+      → ServeEnds gives from_gives reads buffer_of writes encodes rejects (ServesAs asked told holds step) refuses x (Ok u) y
       → Dialogue reads writes frame_of encodes asked told holds step x y
   conversed x y u is phase none ends =
-      let s = served_to_end gives from_gives reads lent writes encodes rejects (ServesAs asked told holds step) refuses
+      let s = served_to_end gives from_gives reads buffer_of writes encodes rejects (ServesAs asked told holds step) refuses
       no_frame read_laws write_laws x y u ends in
       let runs = stripped_laws read_laws in
       let start = none_read gives from_gives (ToldStripped reads) runs idle frame_of laws x.requests is phase none in

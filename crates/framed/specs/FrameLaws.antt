@@ -5,14 +5,14 @@ use Rattle.std.specs.declared.io.Error.{Error}
 use Rattle.std.proofs.Common.{◌∙◌, ap, append-nil, append_assoc, arith, inl, inr, length-append, refl, subst, sym}
 use Rattle.std.proofs.lemmas.List.{nil_from_length}
 use Rattle.futures_lite.specs.Answers.{Answer, Pending, Ready, end, item, items}
-use Rattle.futures_lite.specs.Marks.{ReadMark, bytes, given}
+use Rattle.futures_lite.specs.Marks.{ReadMark, bytes, given_count}
 use Rattle.futures_lite.specs.Own.{MarkLaws, Reaches, Runs}
 use Rattle.futures_lite.specs.Ranks.{AtMost, AtMost-both, Below, Below-after, Below-first, Lowers, OkCounting, Ranks, ReadCounting}
 use Rattle.lite_base.specs.OkRanks.{all_ok}
 use Rattle.lite_base.specs.Laws.Falling.{Lowers-at_most}
 use Rattle.lite_io_base.specs.Falls.{Falls}
 use Rattle.lite_io_base.specs.Laws.Falls.{GivenRun}
-use Rattle.lite_io_base.specs.Laws.Marks.{given-append, given-bytes}
+use Rattle.lite_io_base.specs.Laws.Marks.{given_count-append, given_count-bytes}
 use Rattle.lite_read.specs.Laws.PollSteps.{given_of, steps_answer}
 use Rattle.lite_stream.specs.Laws.Lower.{at_most_below, lowers_at_most}
 use Rattle.tokio_util.specs.Codec.Next.{Gives, Next, PartialHasNoFrame, Resumes, at_end, decoded, partial}
@@ -153,8 +153,8 @@ rank_stays : (k : ℕ) (rs ss us vs : List ℕ) → Falls k rs ss → length us 
 rank_stays zero rs ss us vs h e b = AtMost-both rs ss us vs h (b refl)
 rank_stays (suc k) rs ss us vs h e b = inr (Below-first rs ss us vs h e)
 
-no_bytes : (xs : List ℕ) (last : List ReadMark) → given (bytes xs ++ last) ≡ 0 → xs ≡ []
-no_bytes xs last e = nil_from_length xs (omega (arith, given-append (bytes xs) last, given-bytes xs))
+no_bytes : (xs : List ℕ) (last : List ReadMark) → given_count (bytes xs ++ last) ≡ 0 → xs ≡ []
+no_bytes xs last e = nil_from_length xs (omega (arith, given_count-append (bytes xs) last, given_count-bytes xs))
 
 zeros_low : (n k : ℕ) → AtMost (0 ∷ 0 ∷ 0 ∷ []) (0 ∷ n ∷ k ∷ [])
 zeros_low (suc n) k = inr (inr (refl, inl (omega arith, refl)))
@@ -206,12 +206,12 @@ module _ {T D X E : Type 0} (gives : Gives D X E) (owes : D → ℕ) (laws : Pro
     whole x = (frame_ranks owes r).rank x
 
     fallen : (x y : Framed T D) (l : List ReadMark) → r.firm x.reader → reads x.reader l y.reader
-        → (given l ≡ 0 → Below (own owes y) (own owes x)) → Below (whole y) (whole x)
-    fallen x y l f came b = rank_falls (given l) _ _ _ _ (counting.lowers _ _ l f came) (own_width owes y x) b
+        → (given_count l ≡ 0 → Below (own owes y) (own owes x)) → Below (whole y) (whole x)
+    fallen x y l f came b = rank_falls (given_count l) _ _ _ _ (counting.lowers _ _ l f came) (own_width owes y x) b
 
     stayed : (x y : Framed T D) (l : List ReadMark) → r.firm x.reader → reads x.reader l y.reader
-        → (given l ≡ 0 → AtMost (own owes y) (own owes x)) → AtMost (whole y) (whole x)
-    stayed x y l f came b = rank_stays (given l) _ _ _ _ (counting.lowers _ _ l f came) (own_width owes y x) b
+        → (given_count l ≡ 0 → AtMost (own owes y) (own owes x)) → AtMost (whole y) (whole x)
+    stayed x y l f came b = rank_stays (given_count l) _ _ _ _ (counting.lowers _ _ l f came) (own_width owes y x) b
 
     kept_falls : (x y : Framed T D) → y.reader ≡ x.reader → Below (own owes y) (own owes x) → Below (whole y) (whole x)
     kept_falls x y e b = rank_falls zero _ _ _ _ (inl (ap r.rank e)) (own_width owes y x) (λ _. b)

@@ -104,13 +104,13 @@ module _ {T D X E : Type 0} (gives : Gives D X E) where
           ⊎ ((x.phase ≡ reading) × (xs : List ℕ) × (last : List ReadMark)
           × reads x.reader (bytes xs ++ last) y.reader × PollGives x xs last a y)
 
-      -- What is known without a read, of the bytes held and those that the reader shows, `lent`. It is `Pending` if all of
+      -- What is known without a read, of the bytes held and those that the reader shows, `buffer_of`. It is `Pending` if all of
       -- them are no whole frame. Those shown are taken then.
       abbrev pub InHand : (T → List ℕ) → Framed T D → Answer (Result X E) → Framed T D → Type 0
-      InHand lent x Pending y = (x.phase ≡ reading) × reads x.reader (bytes (lent x.reader)) y.reader
-          × (lent y.reader ≡ []) × NoFrame x (lent x.reader) y
-      InHand lent x (Ready r) y = AfterEnd x r y
-          ⊎ ((x.phase ≡ reading) × (xs : List ℕ) × reads x.reader (bytes xs) y.reader × StandsFirst xs (lent x.reader)
+      InHand buffer_of x Pending y = (x.phase ≡ reading) × reads x.reader (bytes (buffer_of x.reader)) y.reader
+          × (buffer_of y.reader ≡ []) × NoFrame x (buffer_of x.reader) y
+      InHand buffer_of x (Ready r) y = AfterEnd x r y
+          ⊎ ((x.phase ≡ reading) × (xs : List ℕ) × reads x.reader (bytes xs) y.reader × StandsFirst xs (buffer_of x.reader)
           × PollGives x xs [] (Ready r) y)
 
 -- The rank: that of the reader, then whether the input goes on, then the bytes and the frames that are left.

@@ -67,7 +67,7 @@ module _ {T D A E : Type 0} (gives : Gives D A E) (from_gives : Error → E → 
   error_read items m y e (to_the_end xs of is phase came) (inr h) = let k = h.0 in cc
 
 module _ {T D O C L S A E B F P Q : Type 0} (gives : Gives D A E) (from_gives : Error → E → Type 0) (reads : Runs ReadMark T)
-    (lent : T → List ℕ) (writes : Runs WriteMark O) (encodes : C → B → List ℕ → C → Type 0)
+    (buffer_of : T → List ℕ) (writes : Runs WriteMark O) (encodes : C → B → List ℕ → C → Type 0)
     (rejects : C → B → ℕ → F → Type 0) (asked : A → P) (told : B → Q) (holds : L → S) (step : S → P → AnswerOf Q × S)
     (refuses : LastWords L E B) (idle : D → Type 0) (frame_of : A → List ℕ → Type 0)
     (laws : FrameByFrame frame_of gives idle) (no_frame : PartialHasNoFrame gives) (read_laws : MarkLaws reads)
@@ -75,20 +75,20 @@ module _ {T D O C L S A E B F P Q : Type 0} (gives : Gives D A E) (from_gives : 
   -- A session that stopped at an error of the input, from a stream that was not read before.
   pub refused_at : (x y : Session T D O C L) (e : E) → idle x.requests.decoder → x.requests.phase ≡ reading
       → x.requests.held ≡ []
-      → ServeEnds gives from_gives reads lent writes encodes rejects (ServesAs asked told holds step) refuses x (Err (Input e)) y
+      → ServeEnds gives from_gives reads buffer_of writes encodes rejects (ServesAs asked told holds step) refuses x (Err (Input e)) y
       → Refusal reads writes frame_of encodes asked told holds step refuses x y e
   refused_at x y e is phase none (requests, m, served, (n, stop, (took, came, no_bytes, once), same, encoder, service)) =
-      let all = served_all gives from_gives reads lent writes encodes rejects (ServesAs asked told holds step) refuses
+      let all = served_all gives from_gives reads buffer_of writes encodes rejects (ServesAs asked told holds step) refuses
       no_frame read_laws write_laws x requests m served in
       let runs = stripped_laws read_laws in
       let start = none_read gives from_gives (ToldStripped reads) runs idle frame_of laws x.requests is phase none in
       let frames_read = all_read gives from_gives (ToldStripped reads) runs idle frame_of laws x.requests [] requests
       x.requests m.requests start all.read in
-      let next = takes_next gives from_gives reads lent writes encodes rejects (ServesAs asked told holds step) refuses
+      let next = takes_next gives from_gives reads buffer_of writes encodes rejects (ServesAs asked told holds step) refuses
       no_frame read_laws write_laws _ _ _ _ (Some (Err e)) stop.turned.0 in
       let read = error_read gives from_gives (ToldStripped reads) runs idle frame_of laws x.requests requests m.requests
       y.requests e frames_read (rw same next) in
-      let last = step_wrote gives from_gives reads lent writes encodes rejects (ServesAs asked told holds step) refuses
+      let last = step_wrote gives from_gives reads buffer_of writes encodes rejects (ServesAs asked told holds step) refuses
       no_frame read_laws write_laws (Some (Err e)) false m n stop in
       let (first, wrote, only, these) = all.wrote in
       record {

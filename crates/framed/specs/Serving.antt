@@ -35,19 +35,19 @@ module _ {S A E B : Type 0} (answers : ServiceStep S A B) (refuses : LastWords S
   RefusedMemory s (Err e) t = refuses s e None t
 
 module _ {T D O A E : Type 0} (gives : Gives D A E) (from_gives : Error → E → Type 0) (reads : Runs ReadMark T)
-    (lent : T → List ℕ) (writes : Runs WriteMark O) where
+    (buffer_of : T → List ℕ) (writes : Runs WriteMark O) where
   -- The next item of the stream was in hand, and the writer is as it was. Or it was not, and then the writer was flushed
   -- before the item was read.
   abbrev pub TakesNextItem : Framed T D → O → Option (Result A E) → Framed T D → O → Type 0
   TakesNextItem x w item y v =
-      (InHand gives from_gives reads lent x (Ready item) y × (v ≡ w))
-      ⊎ ((m : Framed T D) × InHand gives from_gives reads lent x Pending m × FlushesOnce writes w (Ok tt) v
+      (InHand gives from_gives reads buffer_of x (Ready item) y × (v ≡ w))
+      ⊎ ((m : Framed T D) × InHand gives from_gives reads buffer_of x Pending m × FlushesOnce writes w (Ok tt) v
       × FrameStep gives from_gives (ToldStripped reads) m (Ready item) y)
 
   -- The same. If the flush failed, no item was read.
   abbrev pub TakesOrFails : Framed T D → O → Result (Option (Result A E)) Error → Framed T D → O → Type 0
   TakesOrFails x w (Ok item) y v = TakesNextItem x w item y v
-  TakesOrFails x w (Err e) y v = InHand gives from_gives reads lent x Pending y × FlushesOnce writes w (Err e) v
+  TakesOrFails x w (Err e) y v = InHand gives from_gives reads buffer_of x Pending y × FlushesOnce writes w (Err e) v
 
 module _ {O C B : Type 0} (writes : Runs WriteMark O) (encodes : C → B → List ℕ → C → Type 0) where
   -- The writer was given the frames of these replies, one behind another.
@@ -61,11 +61,11 @@ module _ {O C B : Type 0} (writes : Runs WriteMark O) (encodes : C → B → Lis
   Sent rejects w c replies (Err e) v d = EncodesUpTo encodes rejects c replies e d × (v ≡ w)
 
 module _ {T D O C S A E B F : Type 0} (gives : Gives D A E) (from_gives : Error → E → Type 0) (reads : Runs ReadMark T)
-    (lent : T → List ℕ) (writes : Runs WriteMark O) (encodes : C → B → List ℕ → C → Type 0)
+    (buffer_of : T → List ℕ) (writes : Runs WriteMark O) (encodes : C → B → List ℕ → C → Type 0)
     (rejects : C → B → ℕ → F → Type 0) (answers : ServiceStep S A B) (refuses : LastWords S E B) where
   -- An item was taken, and the service made these replies to it. The writer is `w` then.
   abbrev pub Turns : Session T D O C S → Option (Result A E) → O → List B → Bool → Session T D O C S → Type 0
-  Turns x item w replies on y = TakesNextItem gives from_gives reads lent writes x.requests x.replies item y.requests w
+  Turns x item w replies on y = TakesNextItem gives from_gives reads buffer_of writes x.requests x.replies item y.requests w
       × Performs answers refuses x.service item replies on y.service
 
   -- A whole step: an item was taken, the service made its replies, and the writer took the frames of all of them.
@@ -77,7 +77,7 @@ module _ {T D O C S A E B F : Type 0} (gives : Gives D A E) (from_gives : Error 
 
   -- The flush before a read failed. No item was taken.
   abbrev pub FailsToRead : Error → Session T D O C S → Session T D O C S → Type 0
-  FailsToRead e x y = InHand gives from_gives reads lent x.requests Pending y.requests
+  FailsToRead e x y = InHand gives from_gives reads buffer_of x.requests Pending y.requests
       × FlushesOnce writes x.replies (Err e) y.replies × (y.encoder ≡ x.encoder) × (y.service ≡ x.service)
 
   -- A write of the replies to an item failed. The writer took a front of their frames.
@@ -93,7 +93,7 @@ module _ {T D O C S A E B F : Type 0} (gives : Gives D A E) (from_gives : Error 
   -- An item was taken, and memory was refused to the service. Nothing was written.
   abbrev pub FailsToAnswer : Session T D O C S → Session T D O C S → Type 0
   FailsToAnswer x y = (item : Result A E)
-      × TakesNextItem gives from_gives reads lent writes x.requests x.replies (Some item) y.requests y.replies
+      × TakesNextItem gives from_gives reads buffer_of writes x.requests x.replies (Some item) y.requests y.replies
       × RefusedMemory answers refuses x.service item y.service × (y.encoder ≡ x.encoder)
 
   -- Serving stops, though the output did not fail: at the end of the input, or because the service ends; at an error of

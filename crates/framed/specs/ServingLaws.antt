@@ -53,7 +53,7 @@ module _ {O : Type 0} (writes : Runs WriteMark O) (laws : MarkLaws writes) where
   )
 
 module _ {T D O C S A E B F : Type 0} (gives : Gives D A E) (from_gives : Error → E → Type 0) (reads : Runs ReadMark T)
-    (lent : T → List ℕ) (writes : Runs WriteMark O) (encodes : C → B → List ℕ → C → Type 0)
+    (buffer_of : T → List ℕ) (writes : Runs WriteMark O) (encodes : C → B → List ℕ → C → Type 0)
     (rejects : C → B → ℕ → F → Type 0) (answers : ServiceStep S A B) (refuses : LastWords S E B) where
   -- Each request was read from the reader in turn. The service answered them in turn. The writer took exactly the frames
   -- of all these replies, one behind another.
@@ -86,14 +86,14 @@ module _ {T D O C S A E B F : Type 0} (gives : Gives D A E) (from_gives : Error 
   module _ (no_frame : PartialHasNoFrame gives) (read_laws : MarkLaws reads) (write_laws : MarkLaws writes) where
     -- An item was taken.
     abbrev Taking : Framed T D → O → Option (Result A E) → Framed T D → O → Type 0
-    Taking = TakesNextItem gives from_gives reads lent writes
+    Taking = TakesNextItem gives from_gives reads buffer_of writes
 
     -- An item that was taken is the next one of the reader.
     pub takes_next : (x y : Framed T D) (w v : O) (item : Option (Result A E)) → Taking x w item y v
         → FrameStep gives from_gives (ToldStripped reads) x (Ready item) y
-    takes_next x y w v item (inl h) = hand_told gives from_gives reads no_frame read_laws lent x y item h.0
+    takes_next x y w v item (inl h) = hand_told gives from_gives reads no_frame read_laws buffer_of x y item h.0
     takes_next x y w v item (inr (m, pending, flushed, h)) =
-        then_hand_told gives from_gives reads no_frame read_laws lent x m y item pending h
+        then_hand_told gives from_gives reads no_frame read_laws buffer_of x m y item pending h
 
     takes_flushed : (x y : Framed T D) (w v : O) (item : Option (Result A E)) → Taking x w item y v → Wrote writes w [] v
     takes_flushed x y w v item (inl h) = rw h.1 (wrote_none writes write_laws w)
@@ -101,7 +101,7 @@ module _ {T D O C S A E B F : Type 0} (gives : Gives D A E) (from_gives : Error 
 
     -- A whole step wrote the frames of its replies.
     pub step_wrote : (item : Option (Result A E)) (on : Bool) (x y : Session T D O C S)
-        → (step : Step gives from_gives reads lent writes encodes rejects answers refuses item on x y)
+        → (step : Step gives from_gives reads buffer_of writes encodes rejects answers refuses item on x y)
         → Wrote writes x.replies step.sent.0 y.replies
     step_wrote item on x y step =
         let (frames, encoded, (took, (came, front), (only, all))) = step.sent in
@@ -110,7 +110,7 @@ module _ {T D O C S A E B F : Type 0} (gives : Gives D A E) (from_gives : Error 
 
     -- What a run of whole steps did in all.
     pub served_all : (x : Session T D O C S) (requests : List A) (y : Session T D O C S)
-        → ServesEach gives from_gives reads lent writes encodes rejects answers refuses x requests y → ServedAll x requests y
+        → ServesEach gives from_gives reads buffer_of writes encodes rejects answers refuses x requests y → ServedAll x requests y
     served_all x [] y h =
         rw (← h)
         record {
@@ -134,8 +134,8 @@ module _ {T D O C S A E B F : Type 0} (gives : Gives D A E) (from_gives : Error 
         }
 
     at_end : (x m n y : Session T D O C S) (requests : List A)
-        → ServesEach gives from_gives reads lent writes encodes rejects answers refuses x requests m → (last : Option A)
-        → Step gives from_gives reads lent writes encodes rejects answers refuses (as_item last) false m n
+        → ServesEach gives from_gives reads buffer_of writes encodes rejects answers refuses x requests m → (last : Option A)
+        → Step gives from_gives reads buffer_of writes encodes rejects answers refuses (as_item last) false m n
         → FlushesOnce writes n.replies (Ok tt) y.replies → y.requests ≡ n.requests → y.encoder ≡ n.encoder
         → y.service ≡ n.service → ServedToEnd x y
     at_end x m n y requests served last step (took, came, none, once) same encoder service =
@@ -161,7 +161,7 @@ module _ {T D O C S A E B F : Type 0} (gives : Gives D A E) (from_gives : Error 
 
     -- What serving did in all if it returned `Ok`.
     pub served_to_end : (x y : Session T D O C S) (u : Unit {0})
-        → ServeEnds gives from_gives reads lent writes encodes rejects answers refuses x (Ok u) y → ServedToEnd x y
+        → ServeEnds gives from_gives reads buffer_of writes encodes rejects answers refuses x (Ok u) y → ServedToEnd x y
     served_to_end x y u (requests, m, served, (n, inl step, flush, same, encoder, service)) =
         at_end x m n y requests served None step flush same encoder service
     served_to_end x y u (requests, m, served, (n, inr (request, step), flush, same, encoder, service)) =

@@ -77,20 +77,20 @@ module _ {T D X E : Type 0} (gives : Gives D X E) (from_gives : Error → E → 
         ready_told x y v step
 
     -- An item that was in hand is one that a poll returns.
-    pub hand_told : (lent : T → List ℕ) (x y : Framed T D) (r : Option (Result X E))
-        → InHand gives from_gives reads lent x (Ready r) y
+    pub hand_told : (buffer_of : T → List ℕ) (x y : Framed T D) (r : Option (Result X E))
+        → InHand gives from_gives reads buffer_of x (Ready r) y
         → FrameStep gives from_gives (ToldStripped reads) x (Ready r) y
-    hand_told lent x y r (inl h) = inl (r, refl, h)
-    hand_told lent x y r (inr (was, xs, came, shown, polled)) =
+    hand_told buffer_of x y r (inl h) = inl (r, refl, h)
+    hand_told buffer_of x y r (inr (was, xs, came, shown, polled)) =
         ready_told x y r (inr (was, xs, [], rw (append-nil (bytes xs)) came, polled))
 
     -- If none was in hand, the next one comes of all bytes, those that were in hand among them.
-    pub then_hand_told : (lent : T → List ℕ) (x m z : Framed T D) (r : Option (Result X E))
-        → InHand gives from_gives reads lent x Pending m
+    pub then_hand_told : (buffer_of : T → List ℕ) (x m z : Framed T D) (r : Option (Result X E))
+        → InHand gives from_gives reads buffer_of x Pending m
         → FrameStep gives from_gives (ToldStripped reads) m (Ready r) z
         → FrameStep gives from_gives (ToldStripped reads) x (Ready r) z
-    then_hand_told lent x m z r (was, came, none, waits) h =
-        then_told x m z r (lent x.reader) was waits (_, came, only_bytes (lent x.reader)) h
+    then_hand_told buffer_of x m z r (was, came, none, waits) h =
+        then_told x m z r (buffer_of x.reader) was waits (_, came, only_bytes (buffer_of x.reader)) h
 
   pub told_counting : {r : Ranks T} → ReadCounting reads r → (x y : Framed T D) (a : Answer (Result X E))
       → r.counts x.reader → FrameStep gives from_gives (ToldStripped reads) x a y → r.counts y.reader

@@ -11,8 +11,8 @@ use std::io;
 /// Fills the buffer of a reader. Returns whether it is at end of file.
 #[inline(always)]
 pub(crate) fn fill<R: AsyncBufRead>(reader: &mut R, cx: &mut Context<'_>) -> Poll<io::Result<bool>>
-    ensures ran { R.reads reader.old (fill_marks result (R.lent reader.new)) reader.new }
-    ensures ended { IfReady result (λ r. IfOk r (λ ended. ended ≡ (length (R.lent reader.new) == 0))) }
+    ensures ran { R.reads reader.old (fill_marks result (R.buffer_of reader.new)) reader.new }
+    ensures ended { IfReady result (λ r. IfOk r (λ ended. ended ≡ (length (R.buffer_of reader.new) == 0))) }
     ensures registered { Registered result (R.registers reader.new) cx.new }
     ensures context { Keeps cx.old cx.new }
 {

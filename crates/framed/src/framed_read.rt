@@ -107,7 +107,7 @@ impl<T: AsyncBufRead, D: PromptDecoder> Model for FramedRead<T, D> {
       phase = phase_of f.stage;
     } };
 
-    ghost invariant = { λ f. InStep D.gives f.decoder f.stage f.buffer.items (T.lent f.reader) };
+    ghost invariant = { λ f. InStep D.gives f.decoder f.stage f.buffer.items (T.buffer_of f.reader) };
 }
 
 impl<T: AsyncBufRead, D: PromptDecoder> FramedRead<T, D> {
@@ -217,7 +217,7 @@ impl<T: AsyncBufRead, D: PromptDecoder> FramedRead<T, D> {
     /// ```
     #[inline(always)]
     pub fn in_hand(&mut self) -> Poll<Option<Result<D::Item, D::Error>>>
-        ensures { InHand D.gives D.Error.from_gives T.reads T.lent self.old result self.new }
+        ensures { InHand D.gives D.Error.from_gives T.reads T.buffer_of self.old result self.new }
     {
         match self.stage {
             Stage::Fresh | Stage::Open => self.look(),
@@ -230,7 +230,7 @@ impl<T: AsyncBufRead, D: PromptDecoder> FramedRead<T, D> {
     #[inline(always)]
     fn look(&mut self) -> Poll<Option<Result<D::Item, D::Error>>>
         requires { self.old.phase ≡ reading }
-        ensures { InHand D.gives D.Error.from_gives T.reads T.lent self.old result self.new }
+        ensures { InHand D.gives D.Error.from_gives T.reads T.buffer_of self.old result self.new }
     {
         let shown = self.reader.buffer();
         let amount = shown.len();
@@ -262,7 +262,7 @@ impl<T: AsyncBufRead, D: PromptDecoder> FramedRead<T, D> {
 
     // What the end of the input says of the bytes held.
     fn last(&mut self) -> Option<Result<D::Item, D::Error>>
-        requires { (self.old.phase ≡ ending) ⊎ (T.lent self.old.reader ≡ []) }
+        requires { (self.old.phase ≡ ending) ⊎ (T.buffer_of self.old.reader ≡ []) }
         ensures item { Last D.gives self.old [] result self.new }
         ensures reader { self.new.reader ≡ self.old.reader }
     {
@@ -284,9 +284,9 @@ impl<T: AsyncBufRead, D: PromptDecoder> FramedRead<T, D> {
 
     // Fills the reader's buffer, which shows nothing. Returns whether the input has ended.
     fn fill(&mut self, cx: &mut Context<'_>) -> Poll<io::Result<bool>>
-        requires { T.lent self.old.reader ≡ [] }
-        ensures ran { T.reads self.old.reader (fill_marks result (T.lent self.new.reader)) self.new.reader }
-        ensures ended { IfReady result (λ r. IfOk r (λ ended. ended ≡ (length (T.lent self.new.reader) == 0))) }
+        requires { T.buffer_of self.old.reader ≡ [] }
+        ensures ran { T.reads self.old.reader (fill_marks result (T.buffer_of self.new.reader)) self.new.reader }
+        ensures ended { IfReady result (λ r. IfOk r (λ ended. ended ≡ (length (T.buffer_of self.new.reader) == 0))) }
         ensures rest { self.new ≡ record self.old { reader = self.new.reader } }
         ensures registered { Registered result (T.registers self.new.reader) cx.new }
         ensures context { Keeps cx.old cx.new }

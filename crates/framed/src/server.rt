@@ -101,7 +101,7 @@ where
     E: Encoder<S::Reply>,
     S: Service<Request: Drop, Reply: Drop, Error: Drop>,
     requires { T.ranks.counts requests.old.reader }
-    ensures served { ServeEnds D.gives S.Error.from_gives T.reads T.lent O.writes E.encodes E.refuses S.answers S.refuses
+    ensures served { ServeEnds D.gives S.Error.from_gives T.reads T.buffer_of O.writes E.encodes E.refuses S.answers S.refuses
         (record { requests = requests.old; replies = replies.old; encoder = encoder.old; service = service.old }) result
         (record { requests = requests.new; replies = replies.new; encoder = encoder.new; service = service.new }) }
     ensures again { T.ranks.counts requests.new.reader }
@@ -135,7 +135,7 @@ where
     E: Encoder<S::Reply>,
     S: Service<Request: Drop, Reply: Drop, Error: Drop>,
     requires { T.ranks.counts requests.old.reader }
-    ensures served { NextEnds D.gives S.Error.from_gives T.reads T.lent O.writes E.encodes E.refuses S.answers S.refuses
+    ensures served { NextEnds D.gives S.Error.from_gives T.reads T.buffer_of O.writes E.encodes E.refuses S.answers S.refuses
         (record { requests = requests.old; replies = replies.old; encoder = encoder.old; service = service.old }) result
         (record { requests = requests.new; replies = replies.new; encoder = encoder.new; service = service.new }) }
     ensures again { T.ranks.counts requests.new.reader }
@@ -174,7 +174,7 @@ where
     E: Encoder<S::Reply>,
     S: Service<Request: Drop, Reply: Drop, Error: Drop>,
     requires { T.ranks.counts requests.old.reader }
-    ensures served { StepEnds D.gives S.Error.from_gives T.reads T.lent O.writes E.encodes E.refuses S.answers S.refuses
+    ensures served { StepEnds D.gives S.Error.from_gives T.reads T.buffer_of O.writes E.encodes E.refuses S.answers S.refuses
         (record { requests = requests.old; replies = replies.old; encoder = encoder.old; service = service.old }) result
         (record { requests = requests.new; replies = replies.new; encoder = encoder.new; service = service.new }) }
     ensures again { T.ranks.counts requests.new.reader }
@@ -218,7 +218,7 @@ where
     D: PromptDecoder,
     O: AsyncWrite,
     requires { T.ranks.counts requests.old.reader }
-    ensures taken { TakesOrFails D.gives D.Error.from_gives T.reads T.lent O.writes requests.old replies.old result
+    ensures taken { TakesOrFails D.gives D.Error.from_gives T.reads T.buffer_of O.writes requests.old replies.old result
         requests.new replies.new }
     ensures again { T.ranks.counts requests.new.reader }
 {

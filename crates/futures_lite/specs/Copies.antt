@@ -3,6 +3,6 @@ pub use Rattle.lite_base.specs.Future.AtEachOk.{AtEachOk}
 pub use Rattle.lite_write.specs.Copy.{Copied, CopyValue, RegistersIn}
 pub use Rattle.lite_write.specs.MarkLists.{bytes_told, waits_told, waits_taken}
 pub use Rattle.lite_write.specs.Parts.{NothingCopied}
-pub use Rattle.lite_theorems.specs.Chained.{CopiesBoth, CopiesWhole, TakesWhole, TellsBoth, TellsRest, TellsWhole}
+pub use Rattle.lite_theorems.specs.Chained.{CopiesBoth, CopiesWhole, WritesWhole, ReadsBoth, ReadsRest, ReadsWhole}
 -- what a chain tells whole is what its readers tell: `tells_both`
 pub use Rattle.lite_theorems.specs.Laws.Chained

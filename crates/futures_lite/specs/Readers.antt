@@ -1,8 +1,8 @@
 -- Readers: what runs of calls may do, what is lent, and what each reader of the library does, by its own file.
 pub use Rattle.lite_io_base.specs.Runs.{Afterwards, Fills, Idle, LendsFront, OnlyOkLends, ReadsInto, Shows, StandsFirst}
 pub use Rattle.lite_io_base.specs.Runs.{room_in}
-pub use Rattle.lite_io_base.specs.Told.{TellsScript}
-pub use Rattle.lite_io_base.specs.Known.{Known, Knows, TellsKnown, unknown}
+pub use Rattle.lite_io_base.specs.Told.{ReadsScript}
+pub use Rattle.lite_io_base.specs.Known.{Known, Knows, ReadsKnown, unknown}
 pub use Rattle.lite_io_base.specs.Steps.{Steps}
 pub use Rattle.lite_io_base.specs.SeekKeeps.{SeekKeeps}
 pub use Rattle.lite_io_base.specs.Steady.{CalmReadLaws, NoPendingRead, OneTale, SteadyReadLaws, strip_marks}

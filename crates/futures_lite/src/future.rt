@@ -6,7 +6,7 @@ ghost use Rattle.futures.specs.declared.task.Poll.{Poll};
 ghost use Rattle.lite_base.specs.Answers.{Gives};
 ghost use Rattle.lite_base.specs.Future.Finishes.{Finishes};
 ghost use Rattle.lite_base.specs.Future.TryZip.{try_pair};
-ghost use Rattle.lite_base.specs.declared.future.half.Half.TheVariants.{Asked};
+ghost use Rattle.lite_base.specs.declared.future.side.Side.TheVariants.{Asked};
 ghost use Rattle.lite_views.specs.Answering.{HasOk, HasValueAs, PickedValue, ReturnedBy};
 ghost use Rattle.lite_views.specs.Waiting.{LeftSeen};
 
@@ -15,8 +15,8 @@ pub use lite_base::future::block_on::BlockOn;
 use lite_base::future::make;
 pub use lite_base::future::make::{fuse, poll_once, yield_now};
 pub use lite_base::future::{
-    Budgeted, Either, Exhausted, Fuse, Or, Pending, PollFn, PollOnce, Race, Ready, TryZip, Waits,
-    YieldNow, Zip,
+    Either, Exhausted, Fuse, Or, Pending, PollFn, PollLimited, PollOnce, Race, Ready, TryZip,
+    Waits, YieldNow, Zip,
 };
 use lite_base::{Context, Poll};
 use rand_core::{Rng, SeedableRng};
@@ -478,17 +478,17 @@ pub trait FutureExt: Future {
     /// use futures_lite::future::{self, Exhausted};
     /// use futures_lite::FutureExt;
     ///
-    /// let soon = future::yield_now().with_budget(2);
+    /// let soon = future::yield_now().with_poll_limit(2);
     /// assert_eq!(rt; future::block_on(&rt, soon)?, Ok(()));
-    /// let late = future::yield_now().with_budget(1);
+    /// let late = future::yield_now().with_poll_limit(1);
     /// assert_eq!(rt; future::block_on(&rt, late)?, Err(Exhausted));
     /// ```
-    final fn with_budget(self, polls: usize) -> Budgeted<Self>
+    final fn with_poll_limit(self, polls: usize) -> PollLimited<Self>
     where
         Self: Sized,
         ensures { result ≡ record { inner = self; left = polls } }
     {
-        make::with_budget(self, polls)
+        make::with_poll_limit(self, polls)
     }
 
     /// Returns a future that resolves to the value of the future that is ready first. If both are, `rng`

@@ -1,7 +1,7 @@
 //! Functions whose contracts state laws over whole runs, and traits that are laws of a type.
 
 pub use lite_base::{CalmFuture, CalmStream, SteadyFuture, SteadyStream};
-pub use lite_bridge::answers_as_bare;
+pub use lite_bridge::answers_as_cursor;
 pub use lite_buffered::{counts_after_seek, keeps_order};
 pub use lite_io_base::{CalmRead, CalmWrite, SteadyRead, SteadyWrite};
 pub use lite_laws::{block_on_both, run, run_both, run_calm};

@@ -22,7 +22,7 @@ pub record CalmRuns {S A : Type 0} (NoWait : List A → Type 0) (run : Runs A S)
 
 -- What a `CalmStream` or a `CalmFuture` promises: no run from a calm value has a `Pending`, and each leaves a calm
 -- value. A type of this library is calm if its sources are calm and its closures make calm values. Of the futures `or`
--- and `race` one calm future is enough. `pending`, `fuse` of futures, `with_budget` of a stream or a reader, and the
+-- and `race` one calm future is enough. `pending`, `fuse` of futures, `with_poll_limit` of a stream or a reader, and the
 -- stream `bytes` return `Pending` by themselves, so they are not calm.
 abbrev pub CalmLaws : {S A : Type 0} → Runs (Poll A) S → (S → Type 0) → Type 0
 CalmLaws = CalmRuns NoPending

@@ -121,34 +121,34 @@ module _ {T : Type 0} (seeks : T → SeekFrom → Poll (Result ℕ ErrorKind) �
   seek_blocks x y r (inl h) = inl (sought x.pos h.0 x y r refl h.1 h.2)
   seek_blocks x y r (inr h) = inr (h.0, ap (λ (t : SeekFuture T). t.seeker.now) h.1)
 
-module _ {T : Type 0} {reads : Runs ReadMark T} {lent : T → List ℕ} where
+module _ {T : Type 0} {reads : Runs ReadMark T} {buffer_of : T → List ℕ} where
   pub fill_blocks : {unused : Type 0} → MarkLaws reads → (x y : Filling T) (r : Result (Unit {0}) Error)
-      → GaveOrRefused unused (PolledByCalls (FillsLent reads lent)) x r y
-      → Blocks unused reads ReadMark.pending (λ c. fill_marks c (lent y.io.now)) x.io.now r y.io.now
+      → GaveOrRefused unused (PolledByCalls (FillsLent reads buffer_of)) x r y
+      → Blocks unused reads ReadMark.pending (λ c. fill_marks c (buffer_of y.io.now)) x.io.now r y.io.now
   fill_blocks laws =
-      gave_blocks (FillsLent reads lent) laws (λ (x : Filling T). x.io.now) ReadMark.pending
-      (λ c y. fill_marks c (lent y.io.now)) (λ y. refl) (λ x y c h. h.came)
+      gave_blocks (FillsLent reads buffer_of) laws (λ (x : Filling T). x.io.now) ReadMark.pending
+      (λ c y. fill_marks c (buffer_of y.io.now)) (λ y. refl) (λ x y c h. h.came)
 
   pub filling_stays : {unused : Type 0} (x y : Filling T) (r : Result (Unit {0}) Error)
-      → GaveOrRefused unused (PolledByCalls (FillsLent reads lent)) x r y → y.io.ghost_name ≡ x.io.ghost_name
+      → GaveOrRefused unused (PolledByCalls (FillsLent reads buffer_of)) x r y → y.io.ghost_name ≡ x.io.ghost_name
   filling_stays =
-      gave_stays (FillsLent reads lent) (λ (x : Filling T). x.io.ghost_name)
+      gave_stays (FillsLent reads buffer_of) (λ (x : Filling T). x.io.ghost_name)
       (λ x y c h. ap (λ (t : Filling T). t.io.ghost_name) h.stays)
 
   -- what is lent then, in place of nothing
   pub fill_lends : {unused A : Type 0} → MarkLaws reads → (x y : Filling T) (r : Result (Unit {0}) Error) (s : A) → r ≡ Ok tt
-      → GaveOrRefused unused (PolledByCalls (FillsLent reads lent)) x r y
-      → Blocks unused reads ReadMark.pending (λ (c : Poll (Result A Error)). fill_marks c (lent y.io.now)) x.io.now
+      → GaveOrRefused unused (PolledByCalls (FillsLent reads buffer_of)) x r y
+      → Blocks unused reads ReadMark.pending (λ (c : Poll (Result A Error)). fill_marks c (buffer_of y.io.now)) x.io.now
       (Ok s) y.io.now
   fill_lends {unused = unused} laws x y r s e h =
       subst (λ (t : Result (Unit {0}) Error). Blocks unused reads ReadMark.pending
-      (λ c. fill_marks c (lent y.io.now)) x.io.now t y.io.now) e (fill_blocks laws x y r h)
+      (λ c. fill_marks c (buffer_of y.io.now)) x.io.now t y.io.now) e (fill_blocks laws x y r h)
 
   pub fill_fails : {unused : Type 0} (A : Type 0) → MarkLaws reads → (x y : Filling T) (r : Result (Unit {0}) Error) (e : Error)
       → r ≡ Err e
-      → GaveOrRefused unused (PolledByCalls (FillsLent reads lent)) x r y
-      → Blocks unused reads ReadMark.pending (λ (c : Poll (Result A Error)). fill_marks c (lent y.io.now)) x.io.now
+      → GaveOrRefused unused (PolledByCalls (FillsLent reads buffer_of)) x r y
+      → Blocks unused reads ReadMark.pending (λ (c : Poll (Result A Error)). fill_marks c (buffer_of y.io.now)) x.io.now
       (Err e) y.io.now
   fill_fails {unused = unused} A laws x y r e is h =
       subst (λ (t : Result (Unit {0}) Error). Blocks unused reads ReadMark.pending
-      (λ c. fill_marks c (lent y.io.now)) x.io.now t y.io.now) is (fill_blocks laws x y r h)
+      (λ c. fill_marks c (buffer_of y.io.now)) x.io.now t y.io.now) is (fill_blocks laws x y r h)

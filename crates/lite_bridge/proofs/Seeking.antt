@@ -1,7 +1,7 @@
 -- A seek of a buffered reader over a cursor is one of the bare cursor.
 use Rattle.std.specs.Prelude.{◌≡◌, ◌<◌, ◌^◌, ℕ, pos, ◌-◌, List, [], length, take, Option, Some, None, Ok}
 use Rattle.std.proofs.Common.{◌-ℤ◌}
-use Rattle.lite_bridge.specs.Uses.{◌∙◌, inl, inr, refl, sym, ap, subst, arith, SeekFrom, Start, End, Current, Ready, BufReader, ahead}
+use Rattle.lite_bridge.specs.Uses.{◌∙◌, inl, inr, refl, sym, ap, subst, arith, SeekFrom, Start, End, Current, Ready, BufReader, bytes_ahead}
 use Rattle.lite_bridge.specs.Uses.{reader_capacity, reader_inner, SeeksThrough}
 use Rattle.lite_buffered.specs.SeeksThrough.{AheadAfter, IsUnsuccessful, SeekAnswer, SeeksOnce}
 use Rattle.lite_bridge.specs.declared.cursor.Cursor.{Cursor}
@@ -16,10 +16,10 @@ same_some n m e = cc e
 
 module _ {T : Type 0} (bytes : T → List ℕ) where
   -- with nothing ahead the logical position is the inner one
-  fresh : (y : BufReader (Cursor T)) → ahead y ≡ [] → logical y ≡ reader_inner y
+  fresh : (y : BufReader (Cursor T)) → bytes_ahead y ≡ [] → logical y ≡ reader_inner y
   fresh y none = ap (λ (k : ℕ). at_place (reader_inner y) k) (omega (arith, ap length none))
 
-  fresh_in_step : (y : BufReader (Cursor T)) → ahead y ≡ [] → 0 < reader_capacity y
+  fresh_in_step : (y : BufReader (Cursor T)) → bytes_ahead y ≡ [] → 0 < reader_capacity y
       → position_of (reader_inner y) < 2 ^ 64 → length (bytes (value_of (reader_inner y))) < 2 ^ 64 → IsInStep bytes y
   fresh_in_step y none buffered place size =
       record {
@@ -31,29 +31,29 @@ module _ {T : Type 0} (bytes : T → List ℕ) where
       }
 
   -- with the same inner cursor and the same bytes ahead all is as it was
-  unmoved : (x y : BufReader (Cursor T)) → reader_inner y ≡ reader_inner x → ahead y ≡ ahead x → logical y ≡ logical x
-  unmoved x y same kept = ap (λ (c : Cursor T). at_place c (position_of c - length (ahead y))) same
+  unmoved : (x y : BufReader (Cursor T)) → reader_inner y ≡ reader_inner x → bytes_ahead y ≡ bytes_ahead x → logical y ≡ logical x
+  unmoved x y same kept = ap (λ (c : Cursor T). at_place c (position_of c - length (bytes_ahead y))) same
       ∙ ap (λ (l : List ℕ). at_place (reader_inner x) (position_of (reader_inner x) - length l)) kept
 
-  unmoved_in_step : (x y : BufReader (Cursor T)) → reader_inner y ≡ reader_inner x → ahead y ≡ ahead x
+  unmoved_in_step : (x y : BufReader (Cursor T)) → reader_inner y ≡ reader_inner x → bytes_ahead y ≡ bytes_ahead x
       → reader_capacity y ≡ reader_capacity x → IsInStep bytes x → IsInStep bytes y
   unmoved_in_step x y same kept cap s =
       record {
         buffered = subst (λ n. 0 < n) (sym cap) s.buffered;
         behind = omega (arith, ap length kept, ap position_of same, s.behind);
         same = kept ∙ s.same ∙ sym (ap (λ (l : List ℕ). take (length l) (bytes_left bytes (logical x))) kept)
-            ∙ sym (ap (λ c. take (length (ahead y)) (bytes_left bytes c)) (unmoved x y same kept));
+            ∙ sym (ap (λ c. take (length (bytes_ahead y)) (bytes_left bytes c)) (unmoved x y same kept));
         place = omega (arith, ap position_of same, s.place);
         size = subst (λ (c : Cursor T). length (bytes (value_of c)) < 2 ^ 64) (sym same) s.size;
       }
 
   -- a seek that goes to a place, or to none
   lands : (there : Option ℕ) → ((n : ℕ) → there ≡ Some n → n < 2 ^ 64) → (x y : BufReader (Cursor T)) (r : SeekAnswer)
-      → IsInStep bytes x → reader_capacity y ≡ reader_capacity x → AheadAfter r (ahead x) (ahead y)
+      → IsInStep bytes x → reader_capacity y ≡ reader_capacity x → AheadAfter r (bytes_ahead x) (bytes_ahead y)
       → Lands there (reader_inner x) r (reader_inner y)
       → Lands there (logical x) r (logical y) × IsInStep bytes y
   lands (Some n) place x y r s cap after h =
-      let none : ahead y ≡ [] = subst (λ (a : SeekAnswer). AheadAfter a (ahead x) (ahead y)) h.0 after in
+      let none : bytes_ahead y ≡ [] = subst (λ (a : SeekAnswer). AheadAfter a (bytes_ahead x) (bytes_ahead y)) h.0 after in
       let same : value_of (reader_inner y) ≡ value_of (reader_inner x) = ap value_of h.1 in
       let at : position_of (reader_inner y) ≡ n = ap position_of h.1 in (
         (h.0, fresh y none ∙ h.1),
@@ -61,7 +61,7 @@ module _ {T : Type 0} (bytes : T → List ℕ) where
             (subst (λ t. length (bytes t) < 2 ^ 64) (sym same) s.size),
       )
   lands None place x y r s cap after h =
-      let kept : ahead y ≡ ahead x = subst (λ (a : SeekAnswer). AheadAfter a (ahead x) (ahead y)) h.0 after in
+      let kept : bytes_ahead y ≡ bytes_ahead x = subst (λ (a : SeekAnswer). AheadAfter a (bytes_ahead x) (bytes_ahead y)) h.0 after in
       ((h.0, unmoved x y h.1 kept), unmoved_in_step x y h.1 kept cap s)
 
   once : (x y : BufReader (Cursor T)) (to : SeekFrom) (r : SeekAnswer) (there : Option ℕ)
@@ -80,26 +80,26 @@ module _ {T : Type 0} (bytes : T → List ℕ) where
       once x y (End offset) r (at_offset (length (bytes (value_of (reader_inner x)))) offset) refl
       (λ m e. at_offset_place (length (bytes (value_of (reader_inner x)))) offset m s.size e) s h
   seeks_as_bare x y (Current offset) r s place (inl h) =
-      let k = length (ahead x) in
+      let k = length (bytes_ahead x) in
       let p = position_of (reader_inner x) in
       let is = at_offset_less p k offset s.behind s.place in
       once x y (Current (offset -ℤ pos k)) r (at_offset (p - k) offset) is
       (λ m e. at_offset_place (p - k) offset m (omega (arith, s.place)) e) s h.1
   seeks_as_bare x y (Current offset) r s place (inr (far, inl (n, m, first, second))) =
-      let k = length (ahead x) in
+      let k = length (bytes_ahead x) in
       let p = position_of (reader_inner x) in
       let back = at_offset_back p k s.behind s.place in
       let one = once x m (Current (pos 0 -ℤ pos k)) (Ready (Ok n)) (Some (p - k)) (sym back)
       (λ i e. omega (arith, same_some (p - k) i e, s.place)) s first in
       let there : logical m ≡ logical x = one.0.1 in
-      let none : ahead m ≡ [] = first.after in
+      let none : bytes_ahead m ≡ [] = first.after in
       let is : at_offset (p - k) offset ≡ at_offset (position_of (reader_inner m)) offset =
       ap (λ (c : Cursor T). at_offset (position_of c) offset) (sym there ∙ fresh m none) in
       let two = once m y (Current offset) r (at_offset (p - k) offset) is
       (λ i e. at_offset_place (p - k) offset i (omega (arith, s.place)) e) one.1 second in
       (subst (λ (c : Cursor T). Lands (at_offset (p - k) offset) c r (logical y)) there two.0, two.1)
   seeks_as_bare x y (Current offset) r s place (inr (far, inr (first, refused))) =
-      let k = length (ahead x) in
+      let k = length (bytes_ahead x) in
       let p = position_of (reader_inner x) in
       let back = at_offset_back p k s.behind s.place in
       let landed = subst (λ t. Lands t (reader_inner x) r (reader_inner y)) back first.sought in

@@ -1,6 +1,6 @@
 -- A read of a buffered reader over a cursor is one of the bare cursor.
 use Rattle.std.specs.Prelude.{◌≡◌, ◌≤◌, ◌<◌, ◌^◌, ℕ, suc, ◌+◌, ◌-◌, List, [], ◌∷◌, ◌++◌, length, take}
-use Rattle.lite_bridge.specs.Uses.{◌∙◌, refl, sym, ap, subst, arith, length-take, BufReader, ThroughBuffer, ahead, reader_capacity, reader_inner}
+use Rattle.lite_bridge.specs.Uses.{◌∙◌, refl, sym, ap, subst, arith, length-take, BufReader, ThroughBuffer, bytes_ahead, reader_capacity, reader_inner}
 use Rattle.lite_bridge.specs.Uses.{Runs}
 use Rattle.lite_buffered.specs.Laws.BufReader.{passes_some}
 use Rattle.lite_io_base.specs.Laws.Steps.{steps_follow, steps_split}
@@ -49,9 +49,9 @@ module _ {T : Type 0} (bytes : T → List ℕ) where
   stays_placed x y (_ ∷ l) h p s = absurd h.1
 
   -- the bare cursor reads what is ahead, and is then where the inner one is
-  ahead_read : (x : BufReader (Cursor T)) → IsInStep bytes x → moves (logical x) (marks_of (ahead x)) (reader_inner x)
+  ahead_read : (x : BufReader (Cursor T)) → IsInStep bytes x → moves (logical x) (marks_of (bytes_ahead x)) (reader_inner x)
   ahead_read x s =
-      let k = length (ahead x) in
+      let k = length (bytes_ahead x) in
       let fits : k ≤ length (bytes_left bytes (logical x)) =
       omega (arith, ap length s.same, length-take k (bytes_left bytes (logical x))) in
       let back : position_of (logical x) + k ≡ position_of (reader_inner x) = omega (arith, s.behind) in
@@ -60,25 +60,25 @@ module _ {T : Type 0} (bytes : T → List ℕ) where
       (at_place (logical x) n)) back (cursor_taken bytes (logical x) k fits))
 
   -- where the bare cursor read what is ahead to be where the inner one is, it was at the logical position
-  ahead_stood : (x : BufReader (Cursor T)) (m : Cursor T) → moves m (marks_of (ahead x)) (reader_inner x)
-      → (m ≡ logical x) × (length (ahead x) ≤ position_of (reader_inner x))
-      × (ahead x ≡ take (length (ahead x)) (bytes_left bytes (logical x)))
+  ahead_stood : (x : BufReader (Cursor T)) (m : Cursor T) → moves m (marks_of (bytes_ahead x)) (reader_inner x)
+      → (m ≡ logical x) × (length (bytes_ahead x) ≤ position_of (reader_inner x))
+      × (bytes_ahead x ≡ take (length (bytes_ahead x)) (bytes_left bytes (logical x)))
   ahead_stood x m h =
-      let s = stood m (reader_inner x) (ahead x) h in
-      let there : position_of (reader_inner x) ≡ position_of m + length (ahead x) = ap position_of s.0 in
-      let back : position_of m ≡ position_of (reader_inner x) - length (ahead x) = omega (arith, there) in
+      let s = stood m (reader_inner x) (bytes_ahead x) h in
+      let there : position_of (reader_inner x) ≡ position_of m + length (bytes_ahead x) = ap position_of s.0 in
+      let back : position_of m ≡ position_of (reader_inner x) - length (bytes_ahead x) = omega (arith, there) in
       let is : m ≡ logical x = ap (λ (k : ℕ). at_place m k) back
-      ∙ sym (ap (λ (c : Cursor T). at_place c (position_of (reader_inner x) - length (ahead x))) s.0) in
-      (is, omega (arith, there), s.1 ∙ ap (λ c. take (length (ahead x)) (bytes_left bytes c)) is)
+      ∙ sym (ap (λ (c : Cursor T). at_place c (position_of (reader_inner x) - length (bytes_ahead x))) s.0) in
+      (is, omega (arith, there), s.1 ∙ ap (λ c. take (length (bytes_ahead x)) (bytes_left bytes c)) is)
 
   pub reads_as_bare : (x y : BufReader (Cursor T)) (l : List ReadMark) → IsInStep bytes x → ThroughBuffer moves x l y
       → moves (logical x) l (logical y) × IsInStep bytes y
   reads_as_bare x y l s h =
-      let is : marks_of (ahead x) ++ h.came ≡ l ++ marks_of (ahead y) =
-      passes_some (reader_capacity x) (ahead x) h.came l (ahead y) s.buffered h.passes in
+      let is : marks_of (bytes_ahead x) ++ h.came ≡ l ++ marks_of (bytes_ahead y) =
+      passes_some (reader_capacity x) (bytes_ahead x) h.came l (bytes_ahead y) s.buffered h.passes in
       let whole = steps_follow (ReadStep bytes) (logical x) (reader_inner x) (reader_inner y)
-      (marks_of (ahead x)) h.came (ahead_read x s) h.ran in
-      let cut = steps_split (ReadStep bytes) (logical x) (reader_inner y) l (marks_of (ahead y))
+      (marks_of (bytes_ahead x)) h.came (ahead_read x s) h.ran in
+      let cut = steps_split (ReadStep bytes) (logical x) (reader_inner y) l (marks_of (bytes_ahead y))
       (subst (λ k. moves (logical x) k (reader_inner y)) is whole) in
       let at = ahead_stood y cut.0 cut.2 in
       let placed = stays_placed (reader_inner x) (reader_inner y) h.came h.ran s.place s.size in (

@@ -4,7 +4,7 @@ use Rattle.lite_bridge.specs.Uses.{Error, Poll, ReadMark, fill_marks, Runs}
 use Rattle.lite_bridge.specs.declared.filling.Filling.{Filling}
 
 -- One poll of such a fill: the reader ran by the marks of a fill with this result. The future keeps its reference.
-pub record FillsLent {T : Type 0} (reads : Runs ReadMark T) (lent : T → List ℕ) (x : Filling T)
+pub record FillsLent {T : Type 0} (reads : Runs ReadMark T) (buffer_of : T → List ℕ) (x : Filling T)
     (c : Poll (Result (Unit {0}) Error)) (y : Filling T) : Type 0 where
-  pub came : reads x.io.now (fill_marks c (lent y.io.now)) y.io.now
+  pub came : reads x.io.now (fill_marks c (buffer_of y.io.now)) y.io.now
   pub stays : y ≡ record x { io = record x.io { now = y.io.now } }

@@ -9,7 +9,8 @@ ghost use Rattle.lite_bridge.specs.Laws.StdKnown.{spends_steady};
 use crate::interrupted::{MOST_INTERRUPTIONS, insist};
 use lite_base::{Context, Poll};
 use lite_io_base::{
-    AsyncRead, AsyncSeek, AsyncWrite, CalmRead, CalmWrite, SteadyRead, SteadyWrite, Takings, Tale,
+    AsyncRead, AsyncSeek, AsyncWrite, CalmRead, CalmWrite, ReadSpec, SteadyRead, SteadyWrite,
+    WriteSpec,
 };
 use std::io;
 use std::io::{ErrorKind, IoSlice, Read, Seek, SeekFrom, Write};
@@ -171,7 +172,7 @@ impl<T> AssertAsync<T> {
     }
 }
 
-impl<T: Read> Tale for AssertAsync<T> {
+impl<T: Read> ReadSpec for AssertAsync<T> {
     ghost use Rattle.lite_bridge.specs.AssertAsync.{handle_of};
 
     ghost reads = { λ x l y. SpendsKnown (T.remaining (handle_of x)) l (T.remaining (handle_of y)) };
@@ -209,7 +210,7 @@ impl<T: Read> CalmRead for AssertAsync<T> {
     ghost calm = { spends_calm (λ x. T.remaining (handle_of x)) };
 }
 
-impl<T: Write> Takings for AssertAsync<T> {
+impl<T: Write> WriteSpec for AssertAsync<T> {
     ghost use Rattle.lite_bridge.specs.AssertAsync.{handle_of};
 
     ghost writes = { λ x l y. GainsKnown (T.contents (handle_of x)) l (T.contents (handle_of y)) };

@@ -228,13 +228,13 @@ impl<R: Wait + RandomSource + AllocGlobal, T: AsyncBufRead> BufRead for BlockOn<
         ensures front { IfSome None (λ (xs : List ℕ). IfOk result (λ s. StartsWith xs s.now)) }
         ensures end { IfSome None (λ (xs : List ℕ). IfOk result (λ s. length s.now ≡ 0 → xs ≡ [])) }
         ensures* after_borrow { sem 𝓛 (Rests (the_row R.row T.row) self.entry (λ new. FillKeeps None None None result
-            × Blocks (IsUnused self.old) T.reads ReadMark.pending (λ answer. fill_marks answer (T.lent (io_of new))) (io_of self.old) result
+            × Blocks (IsUnused self.old) T.reads ReadMark.pending (λ answer. fill_marks answer (T.buffer_of (io_of new))) (io_of self.old) result
             (io_of new)
-            × IfOk result (λ s. s.now ≡ T.lent (io_of new))
+            × IfOk result (λ s. s.now ≡ T.buffer_of (io_of new))
             × (IsUnused new → NoMemoryToWait (IsUnused self.old) result))) }
         ensures shown { (left : T)
-            × Blocks (IsUnused self.old) T.reads ReadMark.pending (λ answer. fill_marks answer (T.lent left))
-            (io_of self.old) result left × IfOk result (λ s. s.now ≡ T.lent left) }
+            × Blocks (IsUnused self.old) T.reads ReadMark.pending (λ answer. fill_marks answer (T.buffer_of left))
+            (io_of self.old) result left × IfOk result (λ s. s.now ≡ T.buffer_of left) }
     {
         let mut filling = Filling { io: &mut self.io };
         match wait_for(&self.rt, &mut self.waiter, &mut filling) {
@@ -246,8 +246,8 @@ impl<R: Wait + RandomSource + AllocGlobal, T: AsyncBufRead> BufRead for BlockOn<
     /// Consumes the first `amount` bytes of the buffer, or all of them if there are fewer. It does not wait.
     fn consume(&mut self, amount: usize)
         ensures bytes { DropsConsumable None None None amount }
-        ensures ran { T.reads (io_of self.old) (bytes (take amount (T.lent (io_of self.old)))) (io_of self.new) }
-        ensures rest { T.lent (io_of self.new) ≡ drop amount (T.lent (io_of self.old)) }
+        ensures ran { T.reads (io_of self.old) (bytes (take amount (T.buffer_of (io_of self.old)))) (io_of self.new) }
+        ensures rest { T.buffer_of (io_of self.new) ≡ drop amount (T.buffer_of (io_of self.old)) }
         ensures used { IsUnused self.new → IsUnused self.old }
     {
         let most = self.io.buffer().len();

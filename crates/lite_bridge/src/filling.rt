@@ -16,11 +16,11 @@ pub(crate) struct Filling<'a, T> {
 impl<T: AsyncBufRead> Future for Filling<'_, T> {
     type Output = io::Result<()>;
 
-    ghost run = { PolledByCalls (FillsLent T.reads T.lent) };
+    ghost run = { PolledByCalls (FillsLent T.reads T.buffer_of) };
 
     ghost registers = { λ x. T.registers x.io.now };
 
-    ghost laws = { polled_laws (FillsLent T.reads T.lent) (λ x y c h. tt) };
+    ghost laws = { polled_laws (FillsLent T.reads T.buffer_of) (λ x y c h. tt) };
 
     fn poll(&mut self, cx: &mut Context<'_>) -> Poll<io::Result<()>> {
         fill(self.io, cx)

@@ -1,6 +1,6 @@
 -- The poll in which a `Chain` goes on to its second reader.
 use Rattle.std.specs.Prelude.{◌≡◌, ◌<◌, ◌≤◌, ℕ, List, [], ◌∷◌, true, false, length, Result}
-use Rattle.lite_buffered.specs.Uses.{refl, arith, Error, IoSliceMut, Poll, CountsWithin, ReadMark, moved, read_marks, MarkLaws, ReadsInto, room_in}
+use Rattle.lite_buffered.specs.Uses.{refl, arith, Error, IoSliceMut, Poll, CountsWithin, ReadMark, moved_marks, read_marks, MarkLaws, ReadsInto, room_in}
 use Rattle.lite_buffered.specs.Uses.{Runs}
 use Rattle.lite_io_base.specs.Laws.Runs.{in_room, within_more}
 use Rattle.lite_buffered.specs.declared.chain.Chain.{Chain}
@@ -23,7 +23,7 @@ module _ {R S : Type 0} (first : Runs ReadMark R) (second : Runs ReadMark S) (x 
       })
 
 -- an end where there was room
-pub moved_end : (buf : List ℕ) → 0 < length buf → moved buf [] ≡ ReadMark.end ∷ []
+pub moved_end : (buf : List ℕ) → 0 < length buf → moved_marks buf [] ≡ ReadMark.end ∷ []
 moved_end (b ∷ buf) some = refl
 moved_end [] some = absurd (omega (arith, some))
 

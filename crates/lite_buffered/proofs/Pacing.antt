@@ -1,6 +1,6 @@
 -- Reads within a budget.
 use Rattle.std.specs.Prelude.{◌≡◌, ◌≤◌, ◌<◌, ◌+◌, ◌-◌, [], ◌∷◌, ℕ, List, length, take, drop}
-use Rattle.lite_buffered.specs.Uses.{◌∙◌, inr, refl, ap, sym, subst, arith, length-take, length-take-le, take-take, drop-take, bytes, moved}
+use Rattle.lite_buffered.specs.Uses.{◌∙◌, inr, refl, ap, sym, subst, arith, length-take, length-take-le, take-take, drop-take, bytes, moved_marks}
 use Rattle.lite_buffered.specs.Budgeted.{PacesMarks}
 
 pub paced_bytes : (budget left : ℕ) (xs : List ℕ) → length xs ≤ left
@@ -17,7 +17,7 @@ paced_bytes budget left (x ∷ xs) h =
     )
 
 pub paced_moved : (budget left : ℕ) (buf xs : List ℕ) → length xs ≤ left → 0 < left → 0 < length buf
-    → PacesMarks (budget, left) (moved buf xs) (moved buf xs) (budget, left - length xs)
+    → PacesMarks (budget, left) (moved_marks buf xs) (moved_marks buf xs) (budget, left - length xs)
 paced_moved budget left buf (x ∷ xs) fits some room = paced_bytes budget left (x ∷ xs) fits
 paced_moved budget left [] [] fits some room = absurd (omega (arith, room))
 paced_moved budget left (b ∷ buf) [] fits some room =
@@ -25,18 +25,18 @@ paced_moved budget left (b ∷ buf) [] fits some room =
     inr (λ none. omega (arith, none, some), [], refl, (refl, rw whole refl))
 
 -- the first n of the bytes that are lent, up to what is left of the budget, are consumed
-module _ (left n : ℕ) (lent : List ℕ) (fits : n ≤ length (take left lent)) where
-  pub consumed_bytes : (budget : ℕ) → (take n (take left lent) ≡ take n lent)
-      × PacesMarks (budget, left) (bytes (take n lent)) (bytes (take n lent)) (budget, left - n)
+module _ (left n : ℕ) (buffer_of : List ℕ) (fits : n ≤ length (take left buffer_of)) where
+  pub consumed_bytes : (budget : ℕ) → (take n (take left buffer_of) ≡ take n buffer_of)
+      × PacesMarks (budget, left) (bytes (take n buffer_of)) (bytes (take n buffer_of)) (budget, left - n)
   consumed_bytes budget =
-      let within : n ≤ length lent = omega (arith, fits, length-take left lent) in
-      let len : length (take n lent) ≡ n = length-take-le n lent within in (
+      let within : n ≤ length buffer_of = omega (arith, fits, length-take left buffer_of) in
+      let len : length (take n buffer_of) ≡ n = length-take-le n buffer_of within in (
         grind (arith, take-take, length-take),
-        subst (λ k. PacesMarks (budget, left) (bytes (take n lent)) (bytes (take n lent)) (budget, left - k)) len
-            (paced_bytes budget left (take n lent) (omega (arith, len, fits, length-take left lent))),
+        subst (λ k. PacesMarks (budget, left) (bytes (take n buffer_of)) (bytes (take n buffer_of)) (budget, left - k)) len
+            (paced_bytes budget left (take n buffer_of) (omega (arith, len, fits, length-take left buffer_of))),
       )
 
-  pub consumed_rest : take (left - n) (drop n lent) ≡ drop n (take left lent)
+  pub consumed_rest : take (left - n) (drop n buffer_of) ≡ drop n (take left buffer_of)
   consumed_rest =
-      let whole : n + (left - n) ≡ left = omega (arith, fits, length-take left lent) in
-      sym (drop-take n (left - n) lent) ∙ ap (λ k. drop n (take k lent)) whole
+      let whole : n + (left - n) ≡ left = omega (arith, fits, length-take left buffer_of) in
+      sym (drop-take n (left - n) buffer_of) ∙ ap (λ k. drop n (take k buffer_of)) whole

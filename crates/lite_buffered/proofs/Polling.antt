@@ -1,7 +1,7 @@
 -- A read that polls the inner reader at most once.
 use Rattle.std.specs.Prelude.{◌≡◌, ◌≤◌, ◌<◌, ℕ, List, [], ◌∷◌, Result, length}
 use Rattle.lite_buffered.specs.Uses.{refl, sym, subst, inl, inr, arith, Error, Poll, ReadMark, read_marks, MarkLaws, Runs}
-use Rattle.lite_buffered.specs.BufReader.{AsksWhereEmpty, PollsOnce, ReadsOnce, ahead}
+use Rattle.lite_buffered.specs.BufReader.{AsksWhereEmpty, PollsOnce, ReadsOnce, bytes_ahead}
 use Rattle.lite_buffered.specs.declared.buf_reader.BufReader.{BufReader}
 
 module _ {R : Type 0} (reads : Runs ReadMark R) (most : ℕ) (x y : R) where
@@ -23,6 +23,6 @@ module _ {R : Type 0} (reads : Runs ReadMark R) (most : ℕ) (x y : R) where
 pub polls_asked : {R : Type 0} (reads : Runs ReadMark R) (space most : ℕ) (x y : BufReader R) → MarkLaws reads
     → space ≤ most → AsksWhereEmpty reads space x y → PollsOnce reads most x.inner y.inner
 polls_asked reads space most x y laws within h =
-    polls_where reads most x.inner y.inner (ahead x) space laws within h.0 h.1
+    polls_where reads most x.inner y.inner (bytes_ahead x) space laws within h.0 h.1
 
 pub ruleset polls_rules = (polls_none, polls_one, polls_asked)

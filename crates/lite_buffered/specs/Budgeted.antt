@@ -49,7 +49,7 @@ lent_noted (Some n) bytes = take n bytes
 
 -- The bytes that a reader with a budget has buffered, from those of its inner reader.
 abbrev pub budgeted_lent : {R : Type 0} → (R → List ℕ) → Budgeted R → List ℕ
-budgeted_lent lent x = lent_noted x.left (lent x.reader)
+budgeted_lent buffer_of x = lent_noted x.left (buffer_of x.reader)
 
 -- How much of the budget is left after a mark. A byte or an error uses one, a `Pending` restores the whole budget, and
 -- end of file uses none.

@@ -4,8 +4,8 @@ use Rattle.lite_buffered.specs.Uses.{Error, Poll, ReadMark, bytes, read_marks, W
 use Rattle.lite_buffered.specs.declared.buf_reader.BufReader.{BufReader}
 
 -- The bytes ahead: those in the buffer that were read from the inner reader and not yet consumed.
-abbrev pub ahead : {R : Type 0} → BufReader R → List ℕ
-ahead r = slice_range r.buf.items r.pos r.end
+abbrev pub bytes_ahead : {R : Type 0} → BufReader R → List ℕ
+bytes_ahead r = slice_range r.buf.items r.pos r.end
 
 -- The inner reader, from which the buffer is filled.
 abbrev pub reader_inner : {R : Type 0} → BufReader R → R
@@ -35,7 +35,7 @@ pub record ThroughBuffer {R : Type 0} (reads : Runs ReadMark R) (x : BufReader R
   pub came : List ReadMark
   pub ran : reads x.inner came y.inner
   pub capacity : reader_capacity y ≡ reader_capacity x
-  pub passes : PassesBuffer (reader_capacity x) (ahead x) came ms (ahead y)
+  pub passes : PassesBuffer (reader_capacity x) (bytes_ahead x) came ms (bytes_ahead y)
 
 -- No mark, or the marks of one read into a buffer of at most `most` bytes.
 abbrev pub OfOneRead : ℕ → List ReadMark → Type 0
@@ -60,24 +60,24 @@ pub record ReadsOnce {R : Type 0} (reads : Runs ReadMark R) (most : ℕ) (x y : 
 -- If no byte is ahead, the inner reader is polled once, for at most `most` bytes. If some are, it is not polled.
 abbrev pub AsksWhereEmpty : {R : Type 0} → Runs ReadMark R → ℕ → BufReader R → BufReader R → Type 0
 AsksWhereEmpty reads most x y =
-    (ahead x ≡ [] → ReadsOnce reads most x.inner y.inner) × (0 < length (ahead x) → y.inner ≡ x.inner)
+    (bytes_ahead x ≡ [] → ReadsOnce reads most x.inner y.inner) × (0 < length (bytes_ahead x) → y.inner ≡ x.inner)
 
 -- A read that bypasses the buffer: the inner reader read into the caller's room, and no byte is ahead. This is how a
 -- read runs if no byte is ahead and the room is at least the capacity. A fill whose bytes are all copied at once leaves
 -- the same.
 abbrev pub ReadsPast : {R : Type 0} → Runs ReadMark R → Runs ReadMark (BufReader R)
-ReadsPast reads x ms y = reads x.inner ms y.inner × (ahead y ≡ [])
+ReadsPast reads x ms y = reads x.inner ms y.inner × (bytes_ahead y ≡ [])
 
 -- The run of writes: they go directly to the inner value, and the buffer stays as it is.
 abbrev pub Past : {R : Type 0} → Runs WriteMark R → Runs WriteMark (BufReader R)
-Past writes x ms y = writes x.inner ms y.inner × (reader_capacity y ≡ reader_capacity x) × (ahead y ≡ ahead x)
+Past writes x ms y = writes x.inner ms y.inner × (reader_capacity y ≡ reader_capacity x) × (bytes_ahead y ≡ bytes_ahead x)
 
 -- The rank of a `BufReader`: the inner reader's rank, followed by the number of bytes ahead.
 abbrev pub ahead_ranks : {R : Type 0} → Ranks R → Ranks (BufReader R)
 ahead_ranks r =
     record {
       width = r.width + 1;
-      rank = λ x. r.rank x.inner ++ length (ahead x) ∷ [];
+      rank = λ x. r.rank x.inner ++ length (bytes_ahead x) ∷ [];
       counts = λ x. r.counts x.inner;
       firm = λ x. r.firm x.inner;
     }

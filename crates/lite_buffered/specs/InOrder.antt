@@ -3,7 +3,7 @@ use Rattle.std.specs.Prelude.{◌≡◌, List, [], ◌∷◌, ⊤}
 use Rattle.lite_buffered.specs.Uses.{ReadMark, Part, WriteMark, Runs}
 use Rattle.lite_io_base.specs.Parts.{PartsInOrder, reading_of}
 use Rattle.lite_buffered.specs.declared.buf_reader.BufReader.{BufReader}
-use Rattle.lite_buffered.specs.BufReader.{PassesBuffer, Past, ThroughBuffer, ahead, reader_capacity}
+use Rattle.lite_buffered.specs.BufReader.{PassesBuffer, Past, ThroughBuffer, bytes_ahead, reader_capacity}
 
 -- Two lists of parts have the same writes, and reads at the same places.
 abbrev pub SameWrites : List Part → List Part → Type 0
@@ -18,4 +18,4 @@ abbrev pub KeepsOrder : {R : Type 0} → Runs ReadMark R → Runs WriteMark R �
 KeepsOrder {R} reads writes x =
     (ps : List Part) (y : BufReader R) → PartsInOrder (ThroughBuffer reads) (Past writes) x ps y
     → (qs : List Part) × PartsInOrder reads writes x.inner qs y.inner × SameWrites ps qs
-    × PassesBuffer (reader_capacity x) (ahead x) (reading_of qs) (reading_of ps) (ahead y)
+    × PassesBuffer (reader_capacity x) (bytes_ahead x) (reading_of qs) (reading_of ps) (bytes_ahead y)

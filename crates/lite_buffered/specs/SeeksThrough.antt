@@ -4,7 +4,7 @@ use Rattle.lite_buffered.specs.Uses.{ErrorKind, SeekFrom, Current, Poll, Ready, 
 use Rattle.std.specs.Int.{w64}
 use Rattle.std.specs.declared.io.traits.SeekFrom.TheVariants.{End, Start}
 use Rattle.lite_buffered.specs.declared.buf_reader.BufReader.{BufReader}
-use Rattle.lite_buffered.specs.BufReader.{ahead, reader_capacity}
+use Rattle.lite_buffered.specs.BufReader.{bytes_ahead, reader_capacity}
 
 -- What a seek returns, with an error given by its kind.
 abbrev pub SeekAnswer : Type 0
@@ -27,7 +27,7 @@ module _ {R : Type 0} (seeks : R → SeekFrom → SeekAnswer → R → Type 0) w
   pub record SeeksOnce (x : BufReader R) (to : SeekFrom) (r : SeekAnswer) (y : BufReader R) : Type 0 where
     pub sought : seeks x.inner to r y.inner
     pub capacity : reader_capacity y ≡ reader_capacity x
-    pub after : AheadAfter r (ahead x) (ahead y)
+    pub after : AheadAfter r (bytes_ahead x) (bytes_ahead y)
 
   -- The inner reader seeks twice, the second time only if the first succeeds. Otherwise the result is that of the
   -- first.
@@ -43,6 +43,6 @@ module _ {R : Type 0} (seeks : R → SeekFrom → SeekAnswer → R → Type 0) w
   SeeksThrough x (Start n) r y = SeeksOnce x (Start n) r y
   SeeksThrough x (End offset) r y = SeeksOnce x (End offset) r y
   SeeksThrough x (Current offset) r y =
-      let less = offset -ℤ pos (length (ahead x)) in
+      let less = offset -ℤ pos (length (bytes_ahead x)) in
       (FitsSigned w64 less × SeeksOnce x (Current less) r y)
-      ⊎ ((FitsSigned w64 less → ⊥) × SeeksTwice x (Current (pos 0 -ℤ pos (length (ahead x)))) (Current offset) r y)
+      ⊎ ((FitsSigned w64 less → ⊥) × SeeksTwice x (Current (pos 0 -ℤ pos (length (bytes_ahead x)))) (Current offset) r y)

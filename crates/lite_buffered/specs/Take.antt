@@ -25,7 +25,7 @@ LimitEnds rest (m ∷ ms) = (rest ≡ 0) × (m ≡ ReadMark.end) × LimitEnds re
 
 -- The run of `take`: the inner reader's marks through the limit's last byte, and then ends of file. Once the limit is
 -- 0, the inner reader is not polled, and nothing changes.
-pub record TakesMarks {R : Type 0} (reads : Runs ReadMark R) (x : Take R) (ms : List ReadMark)
+pub record ReadsWithin {R : Type 0} (reads : Runs ReadMark R) (x : Take R) (ms : List ReadMark)
     (y : Take R) : Type 0 where
   pub front : List ReadMark
   pub ends : List ReadMark

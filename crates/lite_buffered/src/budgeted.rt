@@ -3,8 +3,8 @@ ghost use Rattle.lite_buffered.specs.Uses.{Lends, sem, IfReady, Keeps, Registere
 
 use lite_base::{Context, Poll, ready};
 use lite_io_base::{
-    AsyncBufRead, AsyncRead, AsyncSeek, AsyncWrite, CalmWrite, CountedRead, SteadyRead,
-    SteadyWrite, Takings, Tale, fill,
+    AsyncBufRead, AsyncRead, AsyncSeek, AsyncWrite, CalmWrite, CountedRead, ReadSpec, SteadyRead,
+    SteadyWrite, WriteSpec, fill,
 };
 use std::io;
 use std::io::{IoSlice, SeekFrom};
@@ -124,7 +124,7 @@ impl<R> Budgeted<R> {
     }
 }
 
-impl<R: Tale> Tale for Budgeted<R> {
+impl<R: ReadSpec> ReadSpec for Budgeted<R> {
     ghost use Rattle.lite_buffered.specs.Budgeted.{BudgetsMarks};
     ghost use Rattle.lite_buffered.specs.Laws.Budgeted.{budgets_known, budgets_laws};
 
@@ -135,7 +135,7 @@ impl<R: Tale> Tale for Budgeted<R> {
     ghost known = { budgets_known R.known };
 }
 
-impl<R: Takings> Takings for Budgeted<R> {
+impl<R: WriteSpec> WriteSpec for Budgeted<R> {
     ghost use Rattle.lite_buffered.specs.Budgeted.{WritesWithin};
     ghost use Rattle.lite_buffered.specs.Laws.Budgeted.{within_laws};
 
@@ -187,7 +187,7 @@ impl<R: AsyncBufRead> Budgeted<R> {
     ghost use Rattle.lite_buffered.specs.Budgeted.{BudgetRegisters, BudgetsMarks, RegistersRest, budgeted_inner, budgeted_lent, left_of};
 
     fn show(&self) -> &[u8]
-        ensures { result.now ≡ budgeted_lent R.lent self.now }
+        ensures { result.now ≡ budgeted_lent R.buffer_of self.now }
     {
         let Some(left) = self.left else {
             return &[];
@@ -199,8 +199,8 @@ impl<R: AsyncBufRead> Budgeted<R> {
 
     // Fills the buffer of the reader, or returns `Pending` if the budget is used up.
     fn fill(&mut self, cx: &mut Context<'_>) -> Poll<io::Result<()>>
-        ensures ran { BudgetsMarks R.reads self.old (fill_marks result (budgeted_lent R.lent self.new)) self.new }
-        ensures lends { OnlyOkLends result (budgeted_lent R.lent self.new) }
+        ensures ran { BudgetsMarks R.reads self.old (fill_marks result (budgeted_lent R.buffer_of self.new)) self.new }
+        ensures lends { OnlyOkLends result (budgeted_lent R.buffer_of self.new) }
         ensures registered { Registered result (BudgetRegisters R.registers self.new) cx.new }
         ensures context { Keeps cx.old cx.new }
         ensures registered_by { Registered result (RegistersRest (left_of self.old) (R.registers (budgeted_inner self.new))) cx.new }
@@ -223,9 +223,9 @@ impl<R: AsyncBufRead> AsyncBufRead for Budgeted<R> {
     ghost use Rattle.lite_buffered.specs.Budgeted.{budgeted_lent};
     ghost use Rattle.lite_buffered.specs.Laws.Budgeted.{budgets_show};
 
-    ghost lent = { budgeted_lent R.lent };
+    ghost buffer_of = { budgeted_lent R.buffer_of };
 
-    ghost shows = { budgets_show R.lent R.shows };
+    ghost shows = { budgets_show R.buffer_of R.shows };
 
     fn poll_fill_buf(&mut self, cx: &mut Context<'_>) -> Poll<io::Result<&[u8]>> {
         match ready!(self.fill(cx)) {

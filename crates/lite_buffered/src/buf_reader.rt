@@ -3,8 +3,8 @@ ghost use Rattle.lite_buffered.specs.Uses.{Lends, sem, IfReady, Keeps, fill_mark
 
 use lite_base::{Context, Poll, ready};
 use lite_io_base::{
-    AsyncBufRead, AsyncRead, AsyncSeek, AsyncWrite, CalmRead, CalmWrite, CountedRead, SteadyRead,
-    SteadyWrite, Takings, Tale, fill_slice, fill_slices, total_room,
+    AsyncBufRead, AsyncRead, AsyncSeek, AsyncWrite, CalmRead, CalmWrite, CountedRead, ReadSpec,
+    SteadyRead, SteadyWrite, WriteSpec, fill_slice, fill_slices, total_room,
 };
 use std::alloc::Global;
 use std::io::{IoSliceMut, SeekFrom};
@@ -58,7 +58,7 @@ impl<R: fmt::Debug> fmt::Debug for BufReader<R> {
 
 impl<R: Drop> BufReader<R> {
     ghost use Rattle.lite_buffered.specs.contracts.buf_reader.BufReader.{the_row};
-    ghost use Rattle.lite_buffered.specs.BufReader.{ahead, reader_capacity, reader_inner};
+    ghost use Rattle.lite_buffered.specs.BufReader.{bytes_ahead, reader_capacity, reader_inner};
 
     /// Returns a reader over `inner` with an empty buffer of 8192 bytes.
     ///
@@ -96,7 +96,7 @@ impl<R: Drop> BufReader<R> {
     /// ```
     pub fn new(alloc: Global, inner: R) -> Result<BufReader<R>, R>
         ensures inner { IfOk result (λ r. reader_inner r ≡ inner) }
-        ensures empty { IfOk result (λ r. ahead r ≡ []) }
+        ensures empty { IfOk result (λ r. bytes_ahead r ≡ []) }
         ensures capacity { IfOk result (λ r. reader_capacity r ≡ 8192) }
         ensures handed_back { IfErr result (λ r. r ≡ inner) }
     {
@@ -142,7 +142,7 @@ impl<R: Drop> BufReader<R> {
     /// ```
     pub fn with_capacity(alloc: Global, capacity: usize, inner: R) -> Result<BufReader<R>, R>
         ensures inner { IfOk result (λ r. reader_inner r ≡ inner) }
-        ensures empty { IfOk result (λ r. ahead r ≡ []) }
+        ensures empty { IfOk result (λ r. bytes_ahead r ≡ []) }
         ensures capacity { IfOk result (λ r. reader_capacity r ≡ capacity) }
         ensures handed_back { IfErr result (λ r. r ≡ inner) }
     {
@@ -277,7 +277,7 @@ impl<R: Drop> BufReader<R> {
 }
 
 impl<R> BufReader<R> {
-    ghost use Rattle.lite_buffered.specs.BufReader.{ahead, reader_capacity};
+    ghost use Rattle.lite_buffered.specs.BufReader.{bytes_ahead, reader_capacity};
 
     /// Returns a slice of the bytes that were read ahead and not yet consumed.
     ///
@@ -311,13 +311,13 @@ impl<R> BufReader<R> {
     /// assert_eq!(rt; reader.buffer(), b"llo".as_slice());
     /// ```
     pub fn buffer(&self) -> &[u8]
-        ensures { result.now ≡ ahead self.now }
+        ensures { result.now ≡ bytes_ahead self.now }
     {
         self.show()
     }
 
     fn show(&self) -> &[u8]
-        ensures { result.now ≡ ahead self.now }
+        ensures { result.now ≡ bytes_ahead self.now }
     {
         &self.buf[self.pos..self.end]
     }
@@ -326,8 +326,8 @@ impl<R> BufReader<R> {
     // capacity.
     #[inline(always)]
     fn is_passed(&self, room: usize) -> bool
-        ensures passed { result ≡ true → (ahead self.now ≡ []) × (reader_capacity self.now ≤ room) }
-        ensures used { result ≡ false → ahead self.now ≡ [] → room < reader_capacity self.now }
+        ensures passed { result ≡ true → (bytes_ahead self.now ≡ []) × (reader_capacity self.now ≤ room) }
+        ensures used { result ≡ false → bytes_ahead self.now ≡ [] → room < reader_capacity self.now }
     {
         self.pos == self.end && room >= self.buf.len()
     }
@@ -335,8 +335,8 @@ impl<R> BufReader<R> {
     // How many bytes are ahead, as an offset.
     #[inline(always)]
     fn offset_ahead(&self) -> i64
-        ensures count { result ≡ pos (length (ahead self.now)) }
-        ensures small { length (ahead self.now) < 9223372036854775808 }
+        ensures count { result ≡ pos (length (bytes_ahead self.now)) }
+        ensures small { length (bytes_ahead self.now) < 9223372036854775808 }
     {
         (self.end - self.pos) as i64
     }
@@ -344,10 +344,10 @@ impl<R> BufReader<R> {
     // Takes the first `amount` bytes of those that are ahead.
     #[tactic(auto, using(crate::proofs::Ranges::slice_range_advance))]
     fn advance(&mut self, amount: usize)
-        requires { amount ≤ length (ahead self.old) }
+        requires { amount ≤ length (bytes_ahead self.old) }
         ensures inner { self.new.inner ≡ self.old.inner }
         ensures capacity { reader_capacity self.new ≡ reader_capacity self.old }
-        ensures rest { ahead self.new ≡ drop amount (ahead self.old) }
+        ensures rest { bytes_ahead self.new ≡ drop amount (bytes_ahead self.old) }
     {
         self.pos += amount;
     }
@@ -356,11 +356,11 @@ impl<R> BufReader<R> {
     #[inline(always)]
     #[tactic(auto, using(crate::proofs::Ranges::taken_front))]
     fn hand_out(&mut self, buf: &mut [u8]) -> usize
-        ensures count { result ≡ min (length (ahead self.old)) (length buf.new) }
-        ensures bytes { take result buf.new ≡ take result (ahead self.old) }
+        ensures count { result ≡ min (length (bytes_ahead self.old)) (length buf.new) }
+        ensures bytes { take result buf.new ≡ take result (bytes_ahead self.old) }
         ensures inner { self.new.inner ≡ self.old.inner }
         ensures capacity { reader_capacity self.new ≡ reader_capacity self.old }
-        ensures rest { ahead self.new ≡ drop result (ahead self.old) }
+        ensures rest { bytes_ahead self.new ≡ drop result (bytes_ahead self.old) }
     {
         let n = fill_slice(self.show(), buf);
         self.advance(n);
@@ -370,10 +370,10 @@ impl<R> BufReader<R> {
     // Hands out as `hand_out` does, into several buffers.
     #[inline(always)]
     fn hand_out_vectored(&mut self, bufs: &mut [IoSliceMut<'_>]) -> usize
-        ensures count { result ≡ min (length (ahead self.old)) (room_in bufs.old) }
+        ensures count { result ≡ min (length (bytes_ahead self.old)) (room_in bufs.old) }
         ensures inner { self.new.inner ≡ self.old.inner }
         ensures capacity { reader_capacity self.new ≡ reader_capacity self.old }
-        ensures rest { ahead self.new ≡ drop result (ahead self.old) }
+        ensures rest { bytes_ahead self.new ≡ drop result (bytes_ahead self.old) }
     {
         let n = fill_slices(self.show(), bufs);
         self.advance(n);
@@ -381,7 +381,7 @@ impl<R> BufReader<R> {
     }
 }
 
-impl<R: Tale> Tale for BufReader<R> {
+impl<R: ReadSpec> ReadSpec for BufReader<R> {
     ghost use Rattle.lite_buffered.specs.BufReader.{ThroughBuffer};
     ghost use Rattle.lite_buffered.specs.Laws.BufReader.{through_laws};
     ghost use Rattle.lite_buffered.specs.Laws.Known.{through_known};
@@ -393,7 +393,7 @@ impl<R: Tale> Tale for BufReader<R> {
     ghost known = { through_known R.known };
 }
 
-impl<R: Takings> Takings for BufReader<R> {
+impl<R: WriteSpec> WriteSpec for BufReader<R> {
     ghost use Rattle.lite_buffered.specs.BufReader.{Past};
     ghost use Rattle.lite_buffered.specs.Laws.BufReader.{past_laws};
 
@@ -403,12 +403,12 @@ impl<R: Takings> Takings for BufReader<R> {
 }
 
 impl<R: AsyncRead> BufReader<R> {
-    ghost use Rattle.lite_buffered.specs.BufReader.{AsksWhereEmpty, ThroughBuffer, ahead, reader_capacity, reader_inner};
+    ghost use Rattle.lite_buffered.specs.BufReader.{AsksWhereEmpty, ThroughBuffer, bytes_ahead, reader_capacity, reader_inner};
 
     // Reads ahead if nothing is there.
     fn fill(&mut self, cx: &mut Context<'_>) -> Poll<io::Result<()>>
-        ensures ran { ThroughBuffer R.reads self.old (fill_marks result (ahead self.new)) self.new }
-        ensures lends { OnlyOkLends result (ahead self.new) }
+        ensures ran { ThroughBuffer R.reads self.old (fill_marks result (bytes_ahead self.new)) self.new }
+        ensures lends { OnlyOkLends result (bytes_ahead self.new) }
         ensures asks { AsksWhereEmpty R.reads (reader_capacity self.old) self.old self.new }
         ensures registered { Registered result (R.registers (reader_inner self.new)) cx.new }
         ensures context { Keeps cx.old cx.new }
@@ -421,9 +421,9 @@ impl<R: AsyncRead> BufReader<R> {
 
     // Reads into the whole buffer, as nothing is ahead.
     fn refill(&mut self, cx: &mut Context<'_>) -> Poll<io::Result<()>>
-        requires { ahead self.old ≡ [] }
-        ensures ran { ThroughBuffer R.reads self.old (fill_marks result (ahead self.new)) self.new }
-        ensures lends { OnlyOkLends result (ahead self.new) }
+        requires { bytes_ahead self.old ≡ [] }
+        ensures ran { ThroughBuffer R.reads self.old (fill_marks result (bytes_ahead self.new)) self.new }
+        ensures lends { OnlyOkLends result (bytes_ahead self.new) }
         ensures asks { AsksWhereEmpty R.reads (reader_capacity self.old) self.old self.new }
         ensures registered { Registered result (R.registers (reader_inner self.new)) cx.new }
         ensures context { Keeps cx.old cx.new }
@@ -477,7 +477,7 @@ impl<R: AsyncRead> BufReader<R> {
 }
 
 impl<R: AsyncRead> AsyncRead for BufReader<R> {
-    ghost use Rattle.lite_buffered.specs.BufReader.{AsksWhereEmpty, PollsOnce, ReadsPast, ThroughBuffer, ahead};
+    ghost use Rattle.lite_buffered.specs.BufReader.{AsksWhereEmpty, PollsOnce, ReadsPast, ThroughBuffer, bytes_ahead};
     ghost use Rattle.lite_buffered.specs.BufReader.{reader_capacity, reader_inner};
 
     ghost registers = { λ r. R.registers (reader_inner r) };
@@ -502,7 +502,7 @@ impl<R: AsyncRead> AsyncRead for BufReader<R> {
 
         // If none are ahead and the room is at least the capacity, its result is returned. Tests show that it
         // reads into `buf` itself.
-        ensures past { 0 < length buf.old → ahead self.old ≡ [] → reader_capacity self.old ≤ length buf.old
+        ensures past { 0 < length buf.old → bytes_ahead self.old ≡ [] → reader_capacity self.old ≤ length buf.old
             → ReadsPast R.reads self.old (read_marks result buf.new) self.new }
 
         // Without room nothing is polled.
@@ -541,9 +541,9 @@ impl<R: AsyncRead> AsyncRead for BufReader<R> {
             → AsksWhereEmpty R.reads (max (reader_capacity self.old) (room_in bufs.old)) self.old self.new }
 
         // If none are ahead and the room is at least the capacity, its result is returned.
-        ensures past { 0 < room_in bufs.old → ahead self.old ≡ [] → reader_capacity self.old ≤ room_in bufs.old
+        ensures past { 0 < room_in bufs.old → bytes_ahead self.old ≡ [] → reader_capacity self.old ≤ room_in bufs.old
             → ReadsInto R.reads (reader_inner self.old) result bufs.old (reader_inner self.new)
-            × (ahead self.new ≡ []) }
+            × (bytes_ahead self.new ≡ []) }
 
         // Without room nothing is polled.
         ensures idle { room_in bufs.old ≡ 0 → (result ≡ Poll.Ready (Ok 0)) × (self.new ≡ self.old) }
@@ -564,18 +564,18 @@ impl<R: AsyncRead> AsyncRead for BufReader<R> {
 }
 
 impl<R: AsyncRead> AsyncBufRead for BufReader<R> {
-    ghost use Rattle.lite_buffered.specs.BufReader.{AsksWhereEmpty, ThroughBuffer, ahead, reader_capacity, reader_inner};
+    ghost use Rattle.lite_buffered.specs.BufReader.{AsksWhereEmpty, ThroughBuffer, bytes_ahead, reader_capacity, reader_inner};
     ghost use Rattle.lite_buffered.specs.Laws.BufReader.{through_shows};
     ghost use Rattle.lite_buffered.specs.contracts.buf_reader.BufReader.{the_row};
     ghost use Rattle.lite_io_base.specs.Runs.{Afterwards, Fills};
 
-    ghost lent = { ahead };
+    ghost buffer_of = { bytes_ahead };
 
     ghost shows = { through_shows };
 
     fn poll_fill_buf(&mut self, cx: &mut Context<'_>) -> Poll<io::Result<&[u8]>>
         ensures* after_borrow { sem 𝓛 (Afterwards (the_row R.row) self.entry
-            (λ new. Fills (ThroughBuffer R.reads) ahead self.old result new
+            (λ new. Fills (ThroughBuffer R.reads) bytes_ahead self.old result new
             × Registered result (R.registers (reader_inner new)) cx.new
             × AsksWhereEmpty R.reads (reader_capacity self.old) self.old new)) }
         ensures context { Keeps cx.old cx.new }
@@ -652,10 +652,14 @@ impl<R: AsyncSeek> BufReader<R> {
         ensures context { Keeps cx.old cx.new }
     {
         let ahead = self.offset_ahead();
-        if let Some(less) = offset.checked_sub(ahead) {
+        if let Some(less) = offset.checked_sub(bytes_ahead) {
             return self.seek_once(cx, SeekFrom::Current(less));
         }
-        self.seek_twice(cx, SeekFrom::Current(-ahead), SeekFrom::Current(offset))
+        self.seek_twice(
+            cx,
+            SeekFrom::Current(-bytes_ahead),
+            SeekFrom::Current(offset),
+        )
     }
 
     // Seeks the inner reader, and once more if that succeeds.

@@ -1,10 +1,10 @@
 ghost use Rattle.std.specs.Prelude.{◌≡◌, ◌+◌, ◌<◌, ◌≤◌, [], Ok, ◌++◌, length, IfOk, IfErr};
 ghost use Rattle.lite_buffered.specs.Uses.{Lends, sem, boxed_slice_items, IfReady, Keeps, by_kind, idle_laws, Idle, done_marks, write_marks};
 ghost use Rattle.lite_buffered.specs.Uses.{Registered};
-ghost use Rattle.lite_io_base.specs.Takings.WriteMark.{closed, flushed};
+ghost use Rattle.lite_io_base.specs.WriteMarks.WriteMark.{closed, flushed};
 
 use lite_base::{Context, Poll, ready};
-use lite_io_base::{AsyncSeek, AsyncWrite, CalmWrite, SteadyWrite, Takings, Tale};
+use lite_io_base::{AsyncSeek, AsyncWrite, CalmWrite, ReadSpec, SteadyWrite, WriteSpec};
 use std::alloc::Global;
 use std::boxed::BoxedSlice;
 use std::io::{ErrorKind, SeekFrom};
@@ -386,7 +386,7 @@ impl<W> BufWriter<W> {
     }
 }
 
-impl<W: Takings> Takings for BufWriter<W> {
+impl<W: WriteSpec> WriteSpec for BufWriter<W> {
     ghost use Rattle.lite_buffered.specs.BufWriter.{Buffers};
     ghost use Rattle.lite_buffered.specs.Laws.BufWriter.{buffers_laws, buffers_stored};
 
@@ -398,7 +398,7 @@ impl<W: Takings> Takings for BufWriter<W> {
 }
 
 // It is not read from.
-impl<W> Tale for BufWriter<W> {
+impl<W> ReadSpec for BufWriter<W> {
     ghost reads = { Idle };
 
     ghost read_laws = { idle_laws };

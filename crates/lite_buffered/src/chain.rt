@@ -4,8 +4,8 @@ ghost use Rattle.lite_buffered.specs.Uses.{Registered};
 
 use lite_base::{Context, Poll, ready};
 use lite_io_base::{
-    AsyncBufRead, AsyncRead, CalmRead, CountedRead, SteadyRead, Takings, Tale, fill, fill_slices,
-    total_room,
+    AsyncBufRead, AsyncRead, CalmRead, CountedRead, ReadSpec, SteadyRead, WriteSpec, fill,
+    fill_slices, total_room,
 };
 use std::io::IoSliceMut;
 use std::{fmt, io};
@@ -198,7 +198,7 @@ impl<R1, R2> Chain<R1, R2> {
     }
 }
 
-impl<R1: Tale, R2: Tale> Tale for Chain<R1, R2> {
+impl<R1: ReadSpec, R2: ReadSpec> ReadSpec for Chain<R1, R2> {
     ghost use Rattle.lite_buffered.specs.Chain.{ChainsReaders};
     ghost use Rattle.lite_buffered.specs.Laws.Chain.{chains_laws};
     ghost use Rattle.lite_buffered.specs.Laws.Known.{chains_known};
@@ -211,7 +211,7 @@ impl<R1: Tale, R2: Tale> Tale for Chain<R1, R2> {
 }
 
 // It is not written to.
-impl<R1, R2> Takings for Chain<R1, R2> {
+impl<R1, R2> WriteSpec for Chain<R1, R2> {
     ghost writes = { Idle };
 
     ghost write_laws = { idle_laws };
@@ -362,8 +362,8 @@ impl<R1: AsyncBufRead, R2: AsyncBufRead> Chain<R1, R2> {
     #[tactic(auto, using(crate::proofs::Crossing::crossed))]
     fn fill(&mut self, cx: &mut Context<'_>) -> Poll<io::Result<()>>
         ensures ran { ChainsReaders R1.reads R2.reads self.old
-            (fill_marks result (chain_shown R1.lent R2.lent self.new)) self.new }
-        ensures lends { OnlyOkLends result (chain_shown R1.lent R2.lent self.new) }
+            (fill_marks result (chain_shown R1.buffer_of R2.buffer_of self.new)) self.new }
+        ensures lends { OnlyOkLends result (chain_shown R1.buffer_of R2.buffer_of self.new) }
         ensures registered { Registered result (ChainReadRegisters R1.registers R2.registers self.new) cx.new }
         ensures context { Keeps cx.old cx.new }
     {
@@ -382,7 +382,7 @@ impl<R1: AsyncBufRead, R2: AsyncBufRead> Chain<R1, R2> {
     }
 
     fn show(&self) -> &[u8]
-        ensures { result.now ≡ chain_shown R1.lent R2.lent self.now }
+        ensures { result.now ≡ chain_shown R1.buffer_of R2.buffer_of self.now }
     {
         if self.has_ended {
             self.second.buffer()
@@ -396,9 +396,9 @@ impl<R1: AsyncBufRead, R2: AsyncBufRead> AsyncBufRead for Chain<R1, R2> {
     ghost use Rattle.lite_buffered.specs.Chain.{chain_shown};
     ghost use Rattle.lite_buffered.specs.Laws.Chain.{chains_show};
 
-    ghost lent = { chain_shown R1.lent R2.lent };
+    ghost buffer_of = { chain_shown R1.buffer_of R2.buffer_of };
 
-    ghost shows = { chains_show R1.reads R2.reads R1.lent R2.lent R1.read_laws R1.shows R2.shows };
+    ghost shows = { chains_show R1.reads R2.reads R1.buffer_of R2.buffer_of R1.read_laws R1.shows R2.shows };
 
     fn poll_fill_buf(&mut self, cx: &mut Context<'_>) -> Poll<io::Result<&[u8]>> {
         match ready!(self.fill(cx)) {

@@ -5,10 +5,12 @@ ghost use Rattle.lite_io_base.specs.Laws.Counting.{number_counting};
 ghost use Rattle.lite_io_base.specs.Laws.Known.{told_known};
 ghost use Rattle.lite_io_base.specs.Laws.Steady.{told_calm, told_steady};
 ghost use Rattle.lite_io_base.specs.Laws.Told.{told_falls, told_laws};
-ghost use Rattle.lite_io_base.specs.Told.{TellsScript};
+ghost use Rattle.lite_io_base.specs.Told.{ReadsScript};
 
 use lite_base::{Context, Poll};
-use lite_io_base::{AsyncBufRead, AsyncRead, CalmRead, CountedRead, SteadyRead, Takings, Tale};
+use lite_io_base::{
+    AsyncBufRead, AsyncRead, CalmRead, CountedRead, ReadSpec, SteadyRead, WriteSpec,
+};
 use std::{fmt, io};
 
 /// A reader that is always at end of file.
@@ -29,8 +31,8 @@ impl Empty {
     }
 }
 
-impl Tale for Empty {
-    ghost reads = { λ x l y. TellsScript [] l [] };
+impl ReadSpec for Empty {
+    ghost reads = { λ x l y. ReadsScript [] l [] };
 
     ghost read_laws = { told_laws (λ x. []) };
 
@@ -38,7 +40,7 @@ impl Tale for Empty {
 }
 
 // It is not written to.
-impl Takings for Empty {
+impl WriteSpec for Empty {
     ghost writes = { Idle };
 
     ghost write_laws = { idle_laws };
@@ -51,7 +53,7 @@ impl AsyncRead for Empty {
 }
 
 impl AsyncBufRead for Empty {
-    ghost lent = { λ x. [] };
+    ghost buffer_of = { λ x. [] };
 
     ghost shows = { λ x y l h. tt };
 
@@ -73,7 +75,7 @@ impl CountedRead for Empty {
 }
 
 impl SteadyRead for Empty {
-    ghost ample = { λ x l y. TellsScript [] l [] };
+    ghost ample = { λ x l y. ReadsScript [] l [] };
 
     ghost alike = { λ x y. strip_marks [] ≡ strip_marks [] };
 

@@ -3,7 +3,7 @@ ghost use Rattle.lite_buffered.specs.InOrder.{KeepsOrder};
 use crate::buf_reader::BufReader;
 use lite_io_base::{AsyncRead, AsyncWrite};
 
-/// Does nothing. Its contract says that a buffered reader keeps the order of reads and writes.
+/// States that a buffered reader keeps the order of reads and writes.
 ///
 /// However reads and writes follow one another, the inner value is read and written in the same order, and
 /// what is written is the same. The bytes in the buffer before, followed by those read since from the inner

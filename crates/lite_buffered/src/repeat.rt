@@ -5,7 +5,7 @@ ghost use Rattle.lite_buffered.specs.Laws.Repeat.{repeats_laws};
 ghost use Rattle.lite_buffered.specs.Laws.Steady.Repeat.{repeat_calm, repeat_steady};
 
 use lite_base::{Context, Poll};
-use lite_io_base::{AsyncRead, CalmRead, SteadyRead, Takings, Tale};
+use lite_io_base::{AsyncRead, CalmRead, ReadSpec, SteadyRead, WriteSpec};
 use std::io;
 
 /// A reader that gives one byte for ever: each read fills its whole buffer.
@@ -24,14 +24,14 @@ impl Repeat {
     }
 }
 
-impl Tale for Repeat {
+impl ReadSpec for Repeat {
     ghost reads = { RepeatsByte };
 
     ghost read_laws = { repeats_laws };
 }
 
 // It is not written to.
-impl Takings for Repeat {
+impl WriteSpec for Repeat {
     ghost writes = { Idle };
 
     ghost write_laws = { idle_laws };

@@ -5,7 +5,7 @@ ghost use Rattle.lite_buffered.specs.SeeksThrough.{SeeksThrough};
 use crate::buf_reader::BufReader;
 use lite_io_base::{AsyncSeek, CountedRead};
 
-/// Does nothing. Its contract says that a buffered reader is still `CountedRead` after a seek, with a rank
+/// States that a buffered reader is still `CountedRead` after a seek, with a rank
 /// that counts and is as firm as before, if that is true of its inner reader.
 ///
 /// So a call that consumes many bytes in one poll may be made after a seek, too.

@@ -3,7 +3,8 @@ ghost use Rattle.lite_buffered.specs.Uses.{Lends, sem, IfReady, Keeps, read_mark
 
 use lite_base::{Context, Poll, ready};
 use lite_io_base::{
-    AsyncBufRead, AsyncRead, CalmRead, CountedRead, SteadyRead, Takings, Tale, fill, first_room,
+    AsyncBufRead, AsyncRead, CalmRead, CountedRead, ReadSpec, SteadyRead, WriteSpec, fill,
+    first_room,
 };
 use std::io;
 use std::io::IoSliceMut;
@@ -193,12 +194,12 @@ impl<R> Take<R> {
     }
 }
 
-impl<R: Tale> Tale for Take<R> {
-    ghost use Rattle.lite_buffered.specs.Take.{TakesMarks};
+impl<R: ReadSpec> ReadSpec for Take<R> {
+    ghost use Rattle.lite_buffered.specs.Take.{ReadsWithin};
     ghost use Rattle.lite_buffered.specs.Laws.Known.{takes_known};
     ghost use Rattle.lite_buffered.specs.Laws.Take.{takes_laws};
 
-    ghost reads = { TakesMarks R.reads };
+    ghost reads = { ReadsWithin R.reads };
 
     ghost read_laws = { takes_laws R.read_laws };
 
@@ -206,20 +207,20 @@ impl<R: Tale> Tale for Take<R> {
 }
 
 // It is not written to.
-impl<R> Takings for Take<R> {
+impl<R> WriteSpec for Take<R> {
     ghost writes = { Idle };
 
     ghost write_laws = { idle_laws };
 }
 
 impl<R: AsyncRead> AsyncRead for Take<R> {
-    ghost use Rattle.lite_buffered.specs.Take.{TakesMarks, limit_of, take_inner};
+    ghost use Rattle.lite_buffered.specs.Take.{ReadsWithin, limit_of, take_inner};
 
     ghost registers = { λ r. R.registers (take_inner r) };
 
     fn poll_read(&mut self, cx: &mut Context<'_>, buf: &mut [u8]) -> Poll<io::Result<usize>>
         ensures bound { IfReady result (λ r. IfOk r (λ n. n ≤ length buf.new)) }
-        ensures ran { TakesMarks R.reads self.old (read_marks result buf.new) self.new }
+        ensures ran { ReadsWithin R.reads self.old (read_marks result buf.new) self.new }
         ensures registered { Registered result (R.registers (take_inner self.new)) cx.new }
         ensures context { Keeps cx.old cx.new }
 
@@ -246,7 +247,7 @@ impl<R: AsyncRead> AsyncRead for Take<R> {
         bufs: &mut [IoSliceMut<'_>],
     ) -> Poll<io::Result<usize>>
         ensures bound { IfReady result (λ r. IfOk r (λ n. n ≤ room_in bufs.old)) }
-        ensures ran { ReadsInto (TakesMarks R.reads) self.old result bufs.old self.new }
+        ensures ran { ReadsInto (ReadsWithin R.reads) self.old result bufs.old self.new }
         ensures registered { Registered result (R.registers (take_inner self.new)) cx.new }
         ensures context { Keeps cx.old cx.new }
 
@@ -261,7 +262,7 @@ impl<R: AsyncBufRead> Take<R> {
     ghost use Rattle.lite_buffered.specs.Take.{limit_of, take_inner};
 
     fn show(&self) -> &[u8]
-        ensures { result.now ≡ take (limit_of self.now) (R.lent (take_inner self.now)) }
+        ensures { result.now ≡ take (limit_of self.now) (R.buffer_of (take_inner self.now)) }
     {
         first_bytes(self.inner.buffer(), self.limit)
     }
@@ -279,9 +280,9 @@ impl<R: AsyncBufRead> AsyncBufRead for Take<R> {
     ghost use Rattle.lite_buffered.specs.Take.{limit_of, take_inner};
     ghost use Rattle.lite_buffered.specs.Laws.Take.{takes_show};
 
-    ghost lent = { λ r. take (limit_of r) (R.lent (take_inner r)) };
+    ghost buffer_of = { λ r. take (limit_of r) (R.buffer_of (take_inner r)) };
 
-    ghost shows = { takes_show R.lent R.shows };
+    ghost shows = { takes_show R.buffer_of R.shows };
 
     fn poll_fill_buf(&mut self, cx: &mut Context<'_>) -> Poll<io::Result<&[u8]>> {
         // What is compared is what cuts, so that it is known below that it is not 0.
@@ -320,10 +321,10 @@ impl<R: CountedRead> CountedRead for Take<R> {
 }
 
 impl<R: SteadyRead> SteadyRead for Take<R> {
-    ghost use Rattle.lite_buffered.specs.Take.{TakesMarks};
+    ghost use Rattle.lite_buffered.specs.Take.{ReadsWithin};
     ghost use Rattle.lite_buffered.specs.Laws.Steady.Take.{LimitAlike, take_steady};
 
-    ghost ample = { TakesMarks R.ample };
+    ghost ample = { ReadsWithin R.ample };
 
     ghost needs_none = { R.needs_none };
 

@@ -5,5 +5,5 @@ use Rattle.lite_consume.specs.Consuming.{Fold}
 use Rattle.lite_consume.specs.TestedUntil.{tested_until}
 
 -- The value is false at the first item that the predicate rejects, and true at the end of the stream.
-abbrev pub alls : {F A : Type 0} → Question F A Bool → Fold F A Bool
-alls test = tested_until test true false
+abbrev pub all_fold : {F A : Type 0} → Question F A Bool → Fold F A Bool
+all_fold test = tested_until test true false

@@ -15,8 +15,8 @@ module _ {F B T E : Type 0} (call : F → B × T → Result B E → F → Type 0
   TryFoldStep p (Err e) (Some r) q = (r ≡ Err e) × (q ≡ p)
 
   -- The value is the accumulator at the end of the stream, in `Ok`, or the first error.
-  abbrev pub tries_fold : Fold (F × Option B) (Result T E) (Result B E)
-  tries_fold =
+  abbrev pub try_fold_steps : Fold (F × Option B) (Result T E) (Result B E)
+  try_fold_steps =
       record {
         asks = TryFoldStep;
         closes = λ p r q. (a : B) × (p.1 ≡ Some a) × (r ≡ Ok a) × (q ≡ (p.0, None));

@@ -10,5 +10,5 @@ module _ {F A E : Type 0} (call : Question F A (Result (Unit {0}) E)) where
   TryForEachStep p x (Some r) q = IsErr r × call p x r q
 
   -- The value is the first error that the function returns, or `Ok(())` at the end of the stream.
-  abbrev pub tries_each : Fold F A (Result (Unit {0}) E)
-  tries_each = record { asks = TryForEachStep; closes = λ p r q. (r ≡ Ok tt) × (q ≡ p) }
+  abbrev pub try_each_fold : Fold F A (Result (Unit {0}) E)
+  try_each_fold = record { asks = TryForEachStep; closes = λ p r q. (r ≡ Ok tt) × (q ≡ p) }

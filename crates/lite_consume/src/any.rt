@@ -1,6 +1,6 @@
 ghost use Rattle.std.specs.Prelude.{◌≡◌};
 ghost use Rattle.lite_consume.specs.Uses.{AgreeFrom, Calls, SameItem};
-ghost use Rattle.lite_consume.specs.Any.{anys};
+ghost use Rattle.lite_consume.specs.Any.{any_fold};
 ghost use Rattle.lite_consume.specs.Consuming.{fold_of};
 ghost use Rattle.lite_consume.specs.Laws.Agreeing.{part_steady};
 ghost use Rattle.lite_consume.specs.Laws.Matching.{any_steady};
@@ -27,7 +27,7 @@ pub struct Any<P> {
 impl<S: Counted, P: FnMut(S::Item) -> bool> Folder<S> for Any<P> {
     type Output = bool;
 
-    ghost fold = { fold_of (λ f. f.predicate) (anys (Calls P.FnMut)) };
+    ghost fold = { fold_of (λ f. f.predicate) (any_fold (Calls P.FnMut)) };
 
     ghost can_take = { λ f x. P.FnMut.pre f.predicate (x, tt) };
 
@@ -41,7 +41,7 @@ impl<S: Counted, P: FnMut(S::Item) -> bool> Folder<S> for Any<P> {
         }
     }
 
-    fn close(&mut self) -> bool {
+    fn finish(&mut self) -> bool {
         false
     }
 
@@ -49,7 +49,7 @@ impl<S: Counted, P: FnMut(S::Item) -> bool> Folder<S> for Any<P> {
 }
 
 impl<S: Counted + SteadyStream, P: FnMut(S::Item) -> bool> SteadyFolder<S> for Any<P> {
-    ghost ample = { fold_of (λ f. f.predicate) (anys (Calls P.FnMut)) };
+    ghost ample = { fold_of (λ f. f.predicate) (any_fold (Calls P.FnMut)) };
 
     ghost agree = { λ f g. AgreeFrom (SameItem S.same) (λ y z. y ≡ z) (Calls P.FnMut) f.predicate g.predicate };
 

@@ -1,8 +1,8 @@
 ghost use Rattle.std.specs.Prelude.{◌≡◌, IfOk, None, OnErr, OnOk, Some};
 ghost use Rattle.lite_consume.specs.Uses.{CalledAt, TakesAt, Calls};
 ghost use Rattle.lite_consume.specs.Given.{BlockGives, MayCall, MayFold, nothing};
-ghost use Rattle.lite_consume.specs.All.{alls};
-ghost use Rattle.lite_consume.specs.Any.{anys};
+ghost use Rattle.lite_consume.specs.All.{all_fold};
+ghost use Rattle.lite_consume.specs.Any.{any_fold};
 ghost use Rattle.lite_consume.specs.Calls.{CallsBoth};
 ghost use Rattle.lite_consume.specs.Count.{counts};
 ghost use Rattle.lite_consume.specs.Find.{finds};
@@ -269,9 +269,9 @@ impl<R: Wait + RandomSource + AllocGlobal, S: Stream> BlockOn<R, S> {
         P: FnMut(S::Item) -> bool + Drop,
         requires polls { S.can_poll self.old.stream }
         requires counts { S.ranks.counts self.old.stream }
-        requires asks { MayTakeEach S.run (alls (Calls P.FnMut)) (MayCall P.FnMut) self.old.stream predicate }
+        requires asks { MayTakeEach S.run (all_fold (Calls P.FnMut)) (MayCall P.FnMut) self.old.stream predicate }
         ensures gave { IfOk result
-            (λ value. BlockGives (alls (Calls P.FnMut)) S.run self.old.stream predicate value self.new.stream) }
+            (λ value. BlockGives (all_fold (Calls P.FnMut)) S.run self.old.stream predicate value self.new.stream) }
         ensures again { S.can_poll self.new.stream }
         ensures unchanged { OnErr result (self.new.stream ≡ self.old.stream) }
         ensures first { OnErr result (NeverWaited self.old) }
@@ -303,9 +303,9 @@ impl<R: Wait + RandomSource + AllocGlobal, S: Stream> BlockOn<R, S> {
         P: FnMut(S::Item) -> bool + Drop,
         requires polls { S.can_poll self.old.stream }
         requires counts { S.ranks.counts self.old.stream }
-        requires asks { MayTakeEach S.run (anys (Calls P.FnMut)) (MayCall P.FnMut) self.old.stream predicate }
+        requires asks { MayTakeEach S.run (any_fold (Calls P.FnMut)) (MayCall P.FnMut) self.old.stream predicate }
         ensures gave { IfOk result
-            (λ value. BlockGives (anys (Calls P.FnMut)) S.run self.old.stream predicate value self.new.stream) }
+            (λ value. BlockGives (any_fold (Calls P.FnMut)) S.run self.old.stream predicate value self.new.stream) }
         ensures again { S.can_poll self.new.stream }
         ensures unchanged { OnErr result (self.new.stream ≡ self.old.stream) }
         ensures first { OnErr result (NeverWaited self.old) }

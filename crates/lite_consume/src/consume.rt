@@ -50,7 +50,7 @@ impl<S: Stream, F: Folder<S>> PollSteps for Consume<S, F> {
                 Some(value) => Some(Poll::Ready(value)),
                 None => None,
             },
-            Poll::Ready(None) => Some(Poll::Ready(self.folder.close())),
+            Poll::Ready(None) => Some(Poll::Ready(self.folder.finish())),
             Poll::Pending => Some(Poll::Pending),
         }
     }

@@ -33,7 +33,7 @@ impl<S: Counted<Item: Drop>> Folder<S> for Count {
         None
     }
 
-    fn close(&mut self) -> usize {
+    fn finish(&mut self) -> usize {
         self.count
     }
 

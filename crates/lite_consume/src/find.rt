@@ -40,7 +40,7 @@ impl<S: Counted<Item: Drop>, P: FnMut(&S::Item) -> bool> Folder<S> for Find<P> {
         }
     }
 
-    fn close(&mut self) -> Option<S::Item> {
+    fn finish(&mut self) -> Option<S::Item> {
         None
     }
 

@@ -38,7 +38,7 @@ impl<B, S: Counted, F: FnMut(S::Item) -> Option<B>> Folder<S> for FindMap<F> {
         }
     }
 
-    fn close(&mut self) -> Option<B> {
+    fn finish(&mut self) -> Option<B> {
         None
     }
 

@@ -48,7 +48,7 @@ impl<T: Drop, S: Counted, F: FnMut(T, S::Item) -> T> Folder<S> for Fold<F, T> {
         }
     }
 
-    fn close(&mut self) -> T {
+    fn finish(&mut self) -> T {
         match self.acc.take() {
             Some(acc) => acc,
             None => unreachable!(),

@@ -55,7 +55,7 @@ pub trait Folder<S: Stream> {
     ///         if item == 0 { Some(self.sum) } else { None }
     ///     }
     ///
-    ///     fn close(&mut self) -> u32 {
+    ///     fn finish(&mut self) -> u32 {
     ///         self.sum
     ///     }
     ///
@@ -98,7 +98,7 @@ pub trait Folder<S: Stream> {
     ///         None
     ///     }
     ///
-    ///     fn close(&mut self) -> u32 {
+    ///     fn finish(&mut self) -> u32 {
     ///         self.count
     ///     }
     ///
@@ -108,9 +108,9 @@ pub trait Folder<S: Stream> {
     /// let mut folder = Tally { count: 0 };
     /// assert_eq!(rt; folder.take_in(5), None);
     /// assert_eq!(rt; folder.take_in(0), None);
-    /// assert_eq!(rt; folder.close(), 2);
+    /// assert_eq!(rt; folder.finish(), 2);
     /// ```
-    fn close(&mut self) -> Self::Output
+    fn finish(&mut self) -> Self::Output
         requires { is_open self.old }
         ensures { fold.closes self.old result self.new };
 

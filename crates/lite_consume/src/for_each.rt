@@ -36,7 +36,7 @@ impl<S: Counted, F: FnMut(S::Item)> Folder<S> for ForEach<F> {
         None
     }
 
-    fn close(&mut self) {}
+    fn finish(&mut self) {}
 
     ghost returns = { returns_counted S.counting (λ p q x o h. tt) };
 }

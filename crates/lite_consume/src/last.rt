@@ -33,7 +33,7 @@ impl<T: Drop, S: Counted<Item = T>> Folder<S> for Last<T> {
         None
     }
 
-    fn close(&mut self) -> Option<T> {
+    fn finish(&mut self) -> Option<T> {
         self.last.take()
     }
 

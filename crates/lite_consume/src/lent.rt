@@ -20,8 +20,8 @@ impl<S: Stream, F: Folder<S>> Folder<&mut S> for &mut F {
         (**self).take_in(item)
     }
 
-    fn close(&mut self) -> F::Output {
-        (**self).close()
+    fn finish(&mut self) -> F::Output {
+        (**self).finish()
     }
 
     ghost returns = { lent_returns S.run F.fold F.returns };

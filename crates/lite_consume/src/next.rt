@@ -26,7 +26,7 @@ impl<S: Stream> Folder<S> for Next {
         Some(Some(item))
     }
 
-    fn close(&mut self) -> Option<S::Item> {
+    fn finish(&mut self) -> Option<S::Item> {
         None
     }
 

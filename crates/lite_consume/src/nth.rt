@@ -37,7 +37,7 @@ impl<S: Stream<Item: Drop>> Folder<S> for Nth {
         None
     }
 
-    fn close(&mut self) -> Option<S::Item> {
+    fn finish(&mut self) -> Option<S::Item> {
         None
     }
 

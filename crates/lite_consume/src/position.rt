@@ -44,7 +44,7 @@ impl<S: Counted, P: FnMut(S::Item) -> bool> Folder<S> for Position<P> {
         None
     }
 
-    fn close(&mut self) -> Option<usize> {
+    fn finish(&mut self) -> Option<usize> {
         None
     }
 

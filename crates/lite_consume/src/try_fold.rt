@@ -6,7 +6,7 @@ ghost use Rattle.lite_consume.specs.Kin.{AgreeBeside, AgreeDeciding, Giving};
 ghost use Rattle.lite_consume.specs.Laws.Agreeing.{part_steady};
 ghost use Rattle.lite_consume.specs.Laws.Matching.{try_fold_steady};
 ghost use Rattle.lite_consume.specs.Laws.Returning.{returns_ok};
-ghost use Rattle.lite_consume.specs.TryFold.{tries_fold, tries_fold_open};
+ghost use Rattle.lite_consume.specs.TryFold.{try_fold_steps, tries_fold_open};
 
 use crate::consume::Consume;
 use crate::folder::{Folder, SteadyFolder};
@@ -31,7 +31,7 @@ pub struct TryFold<F, B> {
 impl<B: Drop, S: OkCounted, F: FnMut(B, S::Ok) -> Result<B, S::Err>> Folder<S> for TryFold<F, B> {
     type Output = Result<B, S::Err>;
 
-    ghost fold = { fold_of (λ m. (m.f, m.acc)) (tries_fold (CallsBoth F.FnMut)) };
+    ghost fold = { fold_of (λ m. (m.f, m.acc)) (try_fold_steps (CallsBoth F.FnMut)) };
 
     ghost can_take = { λ m x. (a : B) (y : S.Ok) → m.acc ≡ Some a → x ≡ Ok y → F.FnMut.pre m.f (a, (y, tt)) };
 
@@ -56,7 +56,7 @@ impl<B: Drop, S: OkCounted, F: FnMut(B, S::Ok) -> Result<B, S::Err>> Folder<S> f
         }
     }
 
-    fn close(&mut self) -> Result<B, S::Err> {
+    fn finish(&mut self) -> Result<B, S::Err> {
         match self.acc.take() {
             Some(acc) => Ok(acc),
             None => unreachable!(),
@@ -69,11 +69,11 @@ impl<B: Drop, S: OkCounted, F: FnMut(B, S::Ok) -> Result<B, S::Err>> Folder<S> f
 
 impl<B: Drop, S: OkCounted + SteadyStream, F: FnMut(B, S::Ok) -> Result<B, S::Err>> SteadyFolder<S>
     for TryFold<F, B> {
-    ghost ample = { fold_of (λ m. (m.f, m.acc)) (tries_fold (CallsBoth F.FnMut)) };
+    ghost ample = { fold_of (λ m. (m.f, m.acc)) (try_fold_steps (CallsBoth F.FnMut)) };
 
-    ghost same = { Giving S.same (tries_fold (CallsBoth F.FnMut)) };
+    ghost same = { Giving S.same (try_fold_steps (CallsBoth F.FnMut)) };
 
-    ghost agree = { λ m n. AgreeDeciding S.same (AgreeBeside (Agree (CallsBoth F.FnMut))) (tries_fold (CallsBoth F.FnMut))
+    ghost agree = { λ m n. AgreeDeciding S.same (AgreeBeside (Agree (CallsBoth F.FnMut))) (try_fold_steps (CallsBoth F.FnMut))
         (m.f, m.acc) (n.f, n.acc) };
 
     ghost steady_fold = { part_steady (λ m. (m.f, m.acc)) (try_fold_steady (CallsBoth F.FnMut) S.same) };

@@ -4,7 +4,7 @@ ghost use Rattle.lite_consume.specs.Kin.{AgreeDeciding, Giving};
 ghost use Rattle.lite_consume.specs.Laws.Agreeing.{part_steady};
 ghost use Rattle.lite_consume.specs.Laws.Matching.{try_for_each_steady};
 ghost use Rattle.lite_consume.specs.Laws.Returning.{returns_counted};
-ghost use Rattle.lite_consume.specs.TryForEach.{tries_each};
+ghost use Rattle.lite_consume.specs.TryForEach.{try_each_fold};
 
 use crate::consume::Consume;
 use crate::folder::{Folder, SteadyFolder};
@@ -27,7 +27,7 @@ pub struct TryForEach<F> {
 impl<E, S: Counted, F: FnMut(S::Item) -> Result<(), E>> Folder<S> for TryForEach<F> {
     type Output = Result<(), E>;
 
-    ghost fold = { fold_of (λ m. m.f) (tries_each (Calls F.FnMut)) };
+    ghost fold = { fold_of (λ m. m.f) (try_each_fold (Calls F.FnMut)) };
 
     ghost can_take = { λ m x. F.FnMut.pre m.f (x, tt) };
 
@@ -40,7 +40,7 @@ impl<E, S: Counted, F: FnMut(S::Item) -> Result<(), E>> Folder<S> for TryForEach
         }
     }
 
-    fn close(&mut self) -> Result<(), E> {
+    fn finish(&mut self) -> Result<(), E> {
         Ok(())
     }
 
@@ -49,11 +49,11 @@ impl<E, S: Counted, F: FnMut(S::Item) -> Result<(), E>> Folder<S> for TryForEach
 
 impl<E, S: Counted + SteadyStream, F: FnMut(S::Item) -> Result<(), E>> SteadyFolder<S>
     for TryForEach<F> {
-    ghost ample = { fold_of (λ m. m.f) (tries_each (Calls F.FnMut)) };
+    ghost ample = { fold_of (λ m. m.f) (try_each_fold (Calls F.FnMut)) };
 
-    ghost same = { Giving S.same (tries_each (Calls F.FnMut)) };
+    ghost same = { Giving S.same (try_each_fold (Calls F.FnMut)) };
 
-    ghost agree = { λ m n. AgreeDeciding S.same (Agree (Calls F.FnMut)) (tries_each (Calls F.FnMut)) m.f n.f };
+    ghost agree = { λ m n. AgreeDeciding S.same (Agree (Calls F.FnMut)) (try_each_fold (Calls F.FnMut)) m.f n.f };
 
     ghost steady_fold = { part_steady (λ m. m.f) (try_for_each_steady (Calls F.FnMut) S.same) };
 }

@@ -30,7 +30,7 @@ impl<T, E, S: Stream<Item = Result<T, E>>> Folder<S> for TryNext {
         }
     }
 
-    fn close(&mut self) -> Result<Option<T>, E> {
+    fn finish(&mut self) -> Result<Option<T>, E> {
         Ok(None)
     }
 

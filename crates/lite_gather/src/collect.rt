@@ -45,7 +45,7 @@ impl<S: Counted, C: Gather<S::Item>> Folder<S> for Collect<C> {
         }
     }
 
-    fn close(&mut self) -> Result<C, Refused<C, S::Item>> {
+    fn finish(&mut self) -> Result<C, Refused<C, S::Item>> {
         Ok(self.collection.take().unwrap())
     }
 

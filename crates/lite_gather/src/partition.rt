@@ -68,7 +68,7 @@ impl<S: Counted, P: FnMut(&S::Item) -> bool, B: Gather<S::Item>> Folder<S> for P
         Some(Err(Refused { collected, item }))
     }
 
-    fn close(&mut self) -> Result<(B, B), Refused<(B, B), S::Item>> {
+    fn finish(&mut self) -> Result<(B, B), Refused<(B, B), S::Item>> {
         Ok(self.res.take().unwrap())
     }
 

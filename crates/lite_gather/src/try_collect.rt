@@ -56,7 +56,7 @@ impl<S: OkCounted, C: Gather<S::Ok>> Folder<S> for TryCollect<C> {
         }
     }
 
-    fn close(&mut self) -> Result<C, TryCollectError<C, S::Ok, S::Err>> {
+    fn finish(&mut self) -> Result<C, TryCollectError<C, S::Ok, S::Err>> {
         Ok(self.items.take().unwrap())
     }
 

@@ -92,7 +92,7 @@ impl<A, B, S: Counted<Item = (A, B)>, FromA: Gather<A>, FromB: Gather<B>> Folder
         Some(Err(part.with(collected)))
     }
 
-    fn close(&mut self) -> Result<(FromA, FromB), UnzipRefused<FromA, FromB, A, B>> {
+    fn finish(&mut self) -> Result<(FromA, FromB), UnzipRefused<FromA, FromB, A, B>> {
         Ok(self.res.take().unwrap())
     }
 

@@ -7,7 +7,7 @@ mod drive;
 mod polls;
 
 use crate::entry::Entry;
-use lite_io_base::{Takings, Tale};
+use lite_io_base::{ReadSpec, WriteSpec};
 use std::alloc::{AllocError, Global};
 use std::marker::Model;
 use std::snapshot::Snapshot;
@@ -46,14 +46,14 @@ use std::snapshot::Snapshot;
 /// assert_eq!(rt; journal.into_inner().into_inner().as_slice(), b"ax".as_slice());
 /// ```
 #[derive(Debug, Drop)]
-pub struct Journal<T: Tale + Takings + Clone> {
+pub struct Journal<T: ReadSpec + WriteSpec + Clone> {
     start: T,
     stream: T,
     entries: Vec<Entry>,
     alloc: Global,
 }
 
-impl<T: Tale + Takings + Clone> Model for Journal<T> {
+impl<T: ReadSpec + WriteSpec + Clone> Model for Journal<T> {
     ghost use Rattle.std.specs.Prelude.{◌-◌, vec_capacity, vec_len};
     ghost use Rattle.lite_halves.specs.Journal.{Chronicle, IsSound};
     ghost use Rattle.lite_halves.specs.Entry.{notes_in};
@@ -76,7 +76,7 @@ impl<T: Tale + Takings + Clone> Model for Journal<T> {
         }) };
 }
 
-impl<T: Tale + Takings + Clone> Journal<T> {
+impl<T: ReadSpec + WriteSpec + Clone> Journal<T> {
     /// Returns a journal of `stream` without entries, which keeps a clone of `stream` as its start.
     ///
     /// Guarantees about the start hold up to the type's `Clone` contract: if clones equal their originals,
@@ -208,7 +208,7 @@ impl<T: Tale + Takings + Clone> Journal<T> {
     }
 }
 
-impl<T: Tale + Takings + Clone> Clone for Journal<T> {
+impl<T: ReadSpec + WriteSpec + Clone> Clone for Journal<T> {
     ghost is_clone = { λ a b. (b.notes ≡ a.notes) × T.is_clone a.start b.start × T.is_clone a.stream b.stream };
 
     fn clone(&self) -> Result<Journal<T>, AllocError> {

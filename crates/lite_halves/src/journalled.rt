@@ -3,7 +3,7 @@ ghost use Rattle.std.specs.Prelude.{◌≡◌, [], IfErr, IfOk};
 ghost use Rattle.lite_halves.specs.Counts.{got_in, reads_in, taken_in, writes_in};
 ghost use Rattle.lite_halves.specs.Journal.{IsSound, Replays};
 
-mod books;
+mod counter_names;
 mod locked;
 mod made;
 mod read_half;
@@ -11,8 +11,8 @@ mod tally;
 mod write_half;
 
 use crate::Journal;
-pub use books::{Blanks, Books};
-use lite_io_base::{Takings, Tale};
+pub use counter_names::{CounterNames, NewCounters};
+use lite_io_base::{ReadSpec, WriteSpec};
 use locked::Locked;
 pub use read_half::JournalReadHalf;
 use std::alloc::{AllocError, AllocGlobal};
@@ -23,32 +23,32 @@ pub use write_half::JournalWriteHalf;
 ///
 /// The read half counts the journal's reads and the bytes that they returned. The write half counts its writes
 /// and the bytes that they accepted. Entries from before the split are included. `B` names these four
-/// counters, so halves of two splits cannot be mixed. `blanks` must be the counters that `B` names.
+/// counters, so halves of two splits cannot be mixed. `counters` must be the counters that `B` names.
 ///
 /// Each call of a half locks the journal, so it may wait. The halves keep `rt` for that. This call does not
 /// wait. `rt` and the stream must be `Drop`.
 ///
 /// # Errors
 ///
-/// `Err` returns the journal: the memory for what the halves share was refused. `blanks` is dropped.
+/// `Err` returns the journal: the memory for what the halves share was refused. `counters` is dropped.
 ///
 /// # Examples
 ///
 /// ```
 /// use futures_lite::future;
-/// use futures_lite::io::{AsyncWriteExt, Blanks, Books, Cursor, Journal, split_journalled};
+/// use futures_lite::io::{AsyncWriteExt, NewCounters, CounterNames, Cursor, Journal, split_journalled};
 /// use std::alloc::{AllocError, AllocGlobal};
 /// use std::marker::Brand;
 /// use std::process::Abort;
 /// use std::random::RandomSource;
 /// use std::sync::Wait;
 ///
-/// fn writes<R, B>(rt: R, journal: Journal<Cursor<Vec<u8>>>, blanks: Blanks) -> Result<(), Fail>
+/// fn writes<R, B>(rt: R, journal: Journal<Cursor<Vec<u8>>>, counters: NewCounters) -> Result<(), Fail>
 /// where
 ///     R: Wait + Abort + RandomSource + AllocGlobal + Copy,
-///     B: Books,
+///     B: CounterNames,
 /// {
-///     let halves = split_journalled::<R, Cursor<Vec<u8>>, B>(rt, journal, blanks);
+///     let halves = split_journalled::<R, Cursor<Vec<u8>>, B>(rt, journal, counters);
 ///     let Ok((reader, mut writer)) = halves else {
 ///         return Err(AllocError.into());
 ///     };
@@ -60,18 +60,18 @@ pub use write_half::JournalWriteHalf;
 /// let Ok(journal) = Journal::new(rt.alloc(), Cursor::new(Vec::new(rt.alloc()))) else {
 ///     return Err(AllocError.into());
 /// };
-/// writes::<HostRuntime, Brand>(rt, journal, Blanks::new())?;
+/// writes::<HostRuntime, Brand>(rt, journal, NewCounters::new())?;
 /// ```
 pub fn split_journalled<R, T, B>(
     rt: R,
     journal: Journal<T>,
-    blanks: Blanks,
+    counters: NewCounters,
 ) -> Result<(JournalReadHalf<R, T, B>, JournalWriteHalf<R, T, B>), Journal<T>>
 where
     R: Wait + AllocGlobal + Clone + Drop,
-    T: Tale + Takings + Clone + Drop,
-    B: Books,
-    requires { blanks ≡ B.names }
+    T: ReadSpec + WriteSpec + Clone + Drop,
+    B: CounterNames,
+    requires { counters ≡ B.names }
     ensures read { IfOk result (λ r. (r.0.calls ≡ reads_in journal.notes) × (r.0.bytes ≡ got_in journal.notes)) }
     ensures none_made { IfOk result (λ r. (r.0.made ≡ []) × (r.1.made ≡ [])) }
     ensures write { IfOk result (λ r. (r.1.calls ≡ writes_in journal.notes) × (r.1.bytes ≡ taken_in journal.notes)) }
@@ -80,7 +80,7 @@ where
     let Ok(other_rt) = rt.clone() else {
         return Err(journal);
     };
-    let (locked, read_shares, write_shares) = Locked::open(blanks);
+    let (locked, read_shares, write_shares) = Locked::open(counters);
     // The journal is put in last, so that it can be returned after a refusal.
     let Ok(shared) = Arc::new(rt.alloc(), Mutex::new(locked)) else {
         return Err(journal);
@@ -115,7 +115,7 @@ where
 ///
 /// ```
 /// use futures_lite::future;
-/// use futures_lite::io::{AsyncWriteExt, Blanks, Call, Cursor, Journal, history, split_journalled};
+/// use futures_lite::io::{AsyncWriteExt, NewCounters, Call, Cursor, Journal, history, split_journalled};
 /// use std::alloc::AllocError;
 /// use std::marker::Brand;
 ///
@@ -124,7 +124,7 @@ where
 /// let Ok(journal) = Journal::new(rt.alloc(), Cursor::new(Vec::new(rt.alloc()))) else {
 ///     return Err(AllocError.into());
 /// };
-/// let halves = split_journalled::<HostRuntime, Bytes, Brand>(rt, journal, Blanks::new());
+/// let halves = split_journalled::<HostRuntime, Bytes, Brand>(rt, journal, NewCounters::new());
 /// let Ok((mut reader, mut writer)) = halves else {
 ///     return Err(AllocError.into());
 /// };
@@ -133,7 +133,7 @@ where
 /// assert_eq!(rt; so_far.entries().len(), 1);
 /// assert_eq!(rt; so_far.entries()[0].call, Call::Flush);
 /// ```
-pub fn history<R: Wait, T: Tale + Takings + Clone, B: Books>(
+pub fn history<R: Wait, T: ReadSpec + WriteSpec + Clone, B: CounterNames>(
     read: &mut JournalReadHalf<R, T, B>,
     write: &mut JournalWriteHalf<R, T, B>,
 ) -> Result<Journal<T>, AllocError>

@@ -5,12 +5,12 @@ use Rattle.lite_io_base.specs.Marks.{ReadMark}
 
 -- If the bytes `xs` are to come, these marks can come, and `ys` are left. Bytes come from the front, a `Pending` may
 -- come anywhere, end of file only when no byte is left, and no error comes.
-abbrev pub TellsKnown : Runs ReadMark (List ℕ)
-TellsKnown xs [] ys = ys ≡ xs
-TellsKnown xs (ReadMark.byte b ∷ l) ys = (rest : List ℕ) × (xs ≡ b ∷ rest) × TellsKnown rest l ys
-TellsKnown xs (ReadMark.pending ∷ l) ys = TellsKnown xs l ys
-TellsKnown xs (ReadMark.fault kind ∷ l) ys = ⊥
-TellsKnown xs (ReadMark.end ∷ l) ys = (xs ≡ []) × TellsKnown xs l ys
+abbrev pub ReadsKnown : Runs ReadMark (List ℕ)
+ReadsKnown xs [] ys = ys ≡ xs
+ReadsKnown xs (ReadMark.byte b ∷ l) ys = (rest : List ℕ) × (xs ≡ b ∷ rest) × ReadsKnown rest l ys
+ReadsKnown xs (ReadMark.pending ∷ l) ys = ReadsKnown xs l ys
+ReadsKnown xs (ReadMark.fault kind ∷ l) ys = ⊥
+ReadsKnown xs (ReadMark.end ∷ l) ys = (xs ≡ []) × ReadsKnown xs l ys
 
 -- What is known of the values of a reader's type. `knows` picks the values whose bytes to come are known, and `left` is
 -- those bytes. All this is said of the run `told`. A clause with a `Known` requires the reader to run so (`Knows`).
@@ -20,7 +20,7 @@ pub record Known (S : Type 0) : Type 1 where
   pub knows : S → Type 0
   -- The bytes to come.
   pub left : S → List ℕ
-  pub tells : (x y : S) (l : List ReadMark) → knows x → told x l y → knows y × TellsKnown (left x) l (left y)
+  pub tells : (x y : S) (l : List ReadMark) → knows x → told x l y → knows y × ReadsKnown (left x) l (left y)
 
 -- Nothing is known of any value.
 abbrev pub unknown : {S : Type 0} → Known S

@@ -2,7 +2,7 @@
 use Rattle.std.specs.Prelude.{◌≡◌, ℕ, List, [], ◌∷◌, ◌++◌, ⊤}
 use Rattle.lite_io_base.specs.Uses.{CalmRuns, Runs}
 use Rattle.std.specs.declared.io.ErrorKind.TheVariants.{Interrupted}
-use Rattle.lite_io_base.specs.Takings.{WriteMark, bytes_taken}
+use Rattle.lite_io_base.specs.WriteMarks.{WriteMark, bytes_taken}
 
 -- No mark is an error, except interruptions.
 abbrev pub NoError : List WriteMark → Type 0

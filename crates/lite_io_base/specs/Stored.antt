@@ -1,7 +1,7 @@
 -- What is known of the bytes that a writer keeps.
 use Rattle.std.specs.Prelude.{◌≡◌, ℕ, List, [], ◌∷◌, ◌++◌, ⊤}
 use Rattle.lite_io_base.specs.Uses.{Runs}
-use Rattle.lite_io_base.specs.Takings.{WriteMark, bytes_taken}
+use Rattle.lite_io_base.specs.WriteMarks.{WriteMark, bytes_taken}
 
 -- The mark is a flush or a close.
 abbrev pub Arrives : WriteMark → Type 0

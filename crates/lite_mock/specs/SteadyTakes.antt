@@ -2,7 +2,7 @@
 use Rattle.std.proofs.Common.{List, [], ◌∷◌}
 use Rattle.std.specs.Prelude.{⊤}
 use Rattle.lite_io_base.specs.SteadyWrite.{NoPendingWrite}
-use Rattle.lite_io_base.specs.Takings.{WriteMark}
+use Rattle.lite_io_base.specs.WriteMarks.{WriteMark}
 use Rattle.lite_mock.specs.Takes.{Orders}
 use Rattle.lite_mock.specs.declared.takes.Order.{Order}
 use Rattle.lite_mock.specs.declared.takes.Order.TheVariants.{Wait}

@@ -2,7 +2,7 @@ ghost use Rattle.std.specs.Prelude.{◌≡◌, ◌≤◌, ◌+◌, ◌<◌, ◌+
 ghost use Rattle.std.specs.Prelude.{MatchResult};
 ghost use Rattle.lite_io_base.specs.Marks.{ReadMark, bytes};
 ghost use Rattle.lite_io_base.specs.Steady.{NoPendingRead, strip_marks};
-ghost use Rattle.lite_io_base.specs.Told.{TellsScript};
+ghost use Rattle.lite_io_base.specs.Told.{ReadsScript};
 ghost use Rattle.lite_io_base.specs.Laws.Steady.{told_calm, told_steady};
 ghost use Rattle.lite_io_base.specs.Laws.Told.{told_falls, told_laws};
 ghost use Rattle.lite_base.specs.Ranks.{number_ranks};
@@ -11,7 +11,7 @@ ghost use Rattle.lite_io_base.specs.Runs.{Idle};
 ghost use Rattle.lite_io_base.specs.Laws.Runs.{idle_laws};
 
 use lite_base::{Context, Poll};
-use lite_io_base::{AsyncRead, CalmRead, CountedRead, SteadyRead, Takings, Tale};
+use lite_io_base::{AsyncRead, CalmRead, CountedRead, ReadSpec, SteadyRead, WriteSpec};
 use std::alloc::{AllocError, Global};
 use std::io;
 use std::io::ErrorKind;
@@ -112,14 +112,14 @@ impl Clone for Marks {
     }
 }
 
-impl Tale for Marks {
-    ghost reads = { TellsScript };
+impl ReadSpec for Marks {
+    ghost reads = { ReadsScript };
 
     ghost read_laws = { told_laws (λ x. x) };
 }
 
 // It is not written to.
-impl Takings for Marks {
+impl WriteSpec for Marks {
     ghost writes = { Idle };
 
     ghost write_laws = { idle_laws };
@@ -161,7 +161,7 @@ impl CountedRead for Marks {
 
 // Two that say the same, pendings aside.
 impl SteadyRead for Marks {
-    ghost ample = { TellsScript };
+    ghost ample = { ReadsScript };
 
     ghost alike = { λ x y. strip_marks x ≡ strip_marks y };
 

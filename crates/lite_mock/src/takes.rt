@@ -2,8 +2,8 @@ ghost use Rattle.std.specs.Prelude.{◌≡◌, ◌≤◌, ◌⊎◌, ◌++◌, �
 ghost use Rattle.futures.specs.Poll.{IfReady};
 ghost use Rattle.futures.specs.Task.{Keeps};
 ghost use Rattle.lite_io_base.specs.Kinds.{by_kind};
-ghost use Rattle.lite_io_base.specs.Takings.{done_marks, write_marks};
-ghost use Rattle.lite_io_base.specs.Takings.WriteMark.{closed, flushed};
+ghost use Rattle.lite_io_base.specs.WriteMarks.{done_marks, write_marks};
+ghost use Rattle.lite_io_base.specs.WriteMarks.WriteMark.{closed, flushed};
 ghost use Rattle.lite_io_base.specs.Runs.{Idle};
 ghost use Rattle.lite_io_base.specs.Laws.Runs.{idle_laws};
 ghost use Rattle.lite_mock.specs.SteadyTakes.{NoPendingOrder};
@@ -11,7 +11,7 @@ ghost use Rattle.lite_mock.specs.Laws.SteadyTakes.{takes_calm, takes_steady};
 ghost use Rattle.lite_base.specs.Registered.{Registered};
 
 use lite_base::{Context, Poll};
-use lite_io_base::{AsyncWrite, CalmWrite, SteadyWrite, Takings, Tale};
+use lite_io_base::{AsyncWrite, CalmWrite, ReadSpec, SteadyWrite, WriteSpec};
 use std::alloc::{AllocError, Global};
 use std::io;
 use std::io::ErrorKind;
@@ -85,7 +85,7 @@ impl Takes {
     }
 }
 
-impl Takings for Takes {
+impl WriteSpec for Takes {
     ghost use Rattle.lite_mock.specs.Takes.{AllObey, ObeysOrder};
     ghost use Rattle.lite_io_base.specs.Laws.Steps.{steps_laws};
 
@@ -95,7 +95,7 @@ impl Takings for Takes {
 }
 
 // It is not read from.
-impl Tale for Takes {
+impl ReadSpec for Takes {
     ghost reads = { Idle };
 
     ghost read_laws = { idle_laws };

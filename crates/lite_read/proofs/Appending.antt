@@ -1,7 +1,7 @@
 -- Steps and polls of `read_to_end`.
 use Rattle.std.specs.Prelude.{◌≡◌, ◌≤◌, ◌<◌, ◌+◌, ◌-◌, ℕ, List, [], ◌∷◌, length, take, Result, Err, ⊤, ◌*◌, max, vec_capacity}
 use Rattle.lite_read.specs.Uses.{◌∙◌, refl, ap, sym, subst, arith, length-take-le, error_kind, Error, OutOfMemory, with_items, Vec, OnPending, Poll}
-use Rattle.lite_read.specs.Uses.{Ready, Pending, Ranks, up_to_one, segment_alone, segments_one, Runs, ReadCounting, ReadMark, bytes, moved, MarkLaws}
+use Rattle.lite_read.specs.Uses.{Ready, Pending, Ranks, up_to_one, segment_alone, segments_one, Runs, ReadCounting, ReadMark, bytes, moved_marks, MarkLaws}
 use Rattle.lite_read.specs.Uses.{Reaches}
 use Rattle.std.proofs.Math.Seq.{take-length}
 use denote.MutBor.{MutBor}
@@ -91,7 +91,7 @@ module _ {R A : Type 0} (m : Type 0) (reads : Runs ReadMark R) where
   pub read_some : (x w : ReadToEndFuture R A) (r : R) (old new : List ℕ) (n room : ℕ)
       → w ≡ record x { buf = record x.buf { now = w.buf.now } } → read_front w ≡ read_front x
       → w.filled ≤ length w.buf.now.items → old ≡ w.buf.now.items
-      → Behind w.filled old new → n ≤ length new → 0 < n → reads w.reader.now (moved new (take n new)) r
+      → Behind w.filled old new → n ≤ length new → 0 < n → reads w.reader.now (moved_marks new (take n new)) r
       → vec_capacity x.buf.now ≤ vec_capacity w.buf.now → room ≤ max w.room (2 * n)
       → ReadsSome m reads x (after_read w r (put_mid w.filled (length old - w.filled) old new) (w.filled + n) room)
   read_some x w r old new n room same front_is within is long most some came grows asked =

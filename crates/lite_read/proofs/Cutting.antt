@@ -1,7 +1,7 @@
 -- What a fill, a search and what was consumed say of the cuts.
 use Rattle.std.specs.Prelude.{◌≡◌, ◌≢◌, ◌<◌, ◌≤◌, ◌+◌, ℕ, List, [], ◌∷◌, ◌++◌, Some, None, length, take, true}
 use Rattle.lite_read.specs.Uses.{◌∙◌, All, refl, ap, sym, subst, arith, add-one, get_or, eqb-true, eq-eqb, append-nil, append_assoc, length-take-le}
-use Rattle.lite_read.specs.Uses.{map-append, AllByRecursion, FoldsTo, Poll, Ready, Pending, IsFirstByte, is_byte, ReadMark, bytes, filled, MarkLaws}
+use Rattle.lite_read.specs.Uses.{map-append, AllByRecursion, FoldsTo, Poll, Ready, Pending, IsFirstByte, is_byte, ReadMark, bytes, filled_marks, MarkLaws}
 use Rattle.lite_read.specs.Uses.{segment_alone, segments_one, Runs}
 use Rattle.std.proofs.Common.{get_or-take, zero-le}
 use Rattle.std.proofs.Math.Seq.{take-suc}
@@ -43,7 +43,7 @@ found_none byte shown first =
 
 -- a fill that lent something left no mark
 pub fill_then : {S : Type 0} {reads : Runs ReadMark S} → MarkLaws reads
-    → {a b c : S} (shown : List ℕ) {l : List ReadMark} → 0 < length shown → reads a (filled shown) b → reads b l c
+    → {a b c : S} (shown : List ℕ) {l : List ReadMark} → 0 < length shown → reads a (filled_marks shown) b → reads b l c
     → reads a l c
 fill_then laws [] some fills took = absurd (omega (arith, some))
 fill_then laws {a} {b} {c} (x ∷ shown) {l} some fills took = laws.follows a b c [] l fills took

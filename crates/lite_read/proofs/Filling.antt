@@ -1,7 +1,7 @@
 -- A read into what is left of a buffer.
 use Rattle.std.specs.Prelude.{◌≡◌, ◌≤◌, ◌<◌, ◌+◌, ◌-◌, ℕ, List, [], ◌∷◌, ◌++◌, Result, Ok, length, take, drop}
 use Rattle.lite_read.specs.Uses.{◌∙◌, refl, ap, sym, subst, arith, append-nil, append_assoc, length-append, take-append-le, FoldsTo, with_items, Vec}
-use Rattle.lite_read.specs.Uses.{Error, Poll, Ready, ReadMark, bytes, moved, up_to_one, segment_alone, segments_one, Runs}
+use Rattle.lite_read.specs.Uses.{Error, Poll, Ready, ReadMark, bytes, moved_marks, up_to_one, segment_alone, segments_one, Runs}
 use Rattle.std.proofs.Math.Seq.{take-append-add}
 use Rattle.std.proofs.lemmas.List.{length-take-le, take_at}
 use borrow.Rule.Slice.PartMut.{mid_len, mid_of, post_of, put_mid, same_len_mid, take_put}
@@ -11,7 +11,7 @@ use Rattle.lite_read.specs.ReadFold.{AnswerMarks, LastMarks}
 use Rattle.lite_read.specs.PollSteps.{ReadsMore}
 use Rattle.lite_read.specs.declared.read_exact.ReadExactFuture.{ReadExactFuture}
 
-pub moved_some : (room xs : List ℕ) → 0 < length xs → moved room xs ≡ bytes xs
+pub moved_some : (room xs : List ℕ) → 0 < length xs → moved_marks room xs ≡ bytes xs
 moved_some room [] some = absurd (omega (arith, some))
 moved_some room (x ∷ xs) some = refl
 
@@ -35,13 +35,13 @@ front at k n old new room most =
     ∙ take-append-add _ _ n
     ∙ ap (λ l. take at old ++ l) (take-append-le n new (post_of at k old) most)
 
-moved_none : (room : List ℕ) → 0 < length room → moved room [] ≡ ReadMark.end ∷ []
+moved_none : (room : List ℕ) → 0 < length room → moved_marks room [] ≡ ReadMark.end ∷ []
 moved_none [] some = absurd (omega (arith, some))
 moved_none (b ∷ room) some = refl
 
 -- n bytes came, and no end
 pub bytes_came : {R : Type 0} (reads : Runs ReadMark R) (s r : R) (new : List ℕ) (n : ℕ) → n ≤ length new → 0 < n
-    → reads s (moved new (take n new)) r → (0 < length (take n new)) × reads s (bytes (take n new)) r
+    → reads s (moved_marks new (take n new)) r → (0 < length (take n new)) × reads s (bytes (take n new)) r
 bytes_came reads s r new n most some came =
     let any : 0 < length (take n new) = omega (arith, length-take-le n new most, some) in
     (any, rw (moved_some new _ any) at came)
@@ -55,7 +55,7 @@ how_long at old new long = long ∙ mid_len at (length old) old (omega arith)
 
 -- a read that gave nothing, where there was room, is at an end
 pub ends_behind : (at : ℕ) (old new : List ℕ) {xs : List ℕ} → old ≡ xs → Behind at old new → at < length xs
-    → moved new [] ≡ ReadMark.end ∷ []
+    → moved_marks new [] ≡ ReadMark.end ∷ []
 ends_behind at old new is long less = moved_none new (omega (arith, how_long at old new long, ap length is, less))
 
 -- a vector into whose room, behind so many bytes, others were written
@@ -93,7 +93,7 @@ some_left at xs within less = omega (arith, length-take-le at xs within, within,
 -- a read of n bytes into what is left
 pub read_more : {R : Type 0} (reads : Runs ReadMark R) (x : ReadExactFuture R) (r : R) (new : List ℕ) (n : ℕ)
     → x.filled ≤ length x.buf.now → Behind x.filled x.buf.now new → n ≤ length new → 0 < n
-    → reads x.reader.now (moved new (take n new)) r
+    → reads x.reader.now (moved_marks new (take n new)) r
     → ReadsMore reads x (record {
       reader = record x.reader { now = r };
       buf = record x.buf { now = put_mid x.filled (length x.buf.now - x.filled) x.buf.now new };

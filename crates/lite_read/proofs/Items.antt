@@ -1,6 +1,6 @@
 -- The steps of a stream of the pieces of a reader.
 use Rattle.std.specs.Prelude.{◌≡◌, ◌<◌, ◌≤◌, ◌+◌, ℕ, List, [], ◌∷◌, ◌++◌, Option, Some, None, Result, Ok, Err, length, take, ⊤, IfErr, IfOk}
-use Rattle.lite_read.specs.Uses.{inl, inr, refl, arith, error_kind, Error, OutOfMemory, Ready, Pending, IsFirstByte, is_byte, ReadMark, bytes, filled, MarkLaws}
+use Rattle.lite_read.specs.Uses.{inl, inr, refl, arith, error_kind, Error, OutOfMemory, Ready, Pending, IsFirstByte, is_byte, ReadMark, bytes, filled_marks, MarkLaws}
 use Rattle.lite_read.specs.Uses.{Runs}
 use Rattle.lite_read.specs.Pieces.{AtEnd, Cut, Itemised, pieces}
 use Rattle.lite_read.specs.Segments.{Flows, StreamOver}
@@ -23,7 +23,7 @@ module _ {X S K A : Type 0} {over : StreamOver X S (List ℕ) K} {byte : K → �
         flow_one came
         (concludes_at (byte _) m (Itemised whole final) _ _ (Cut.failed e) (Some _) _ (inl refl) (refl, held)) same
 
-    pub item_refused : (e : Error) (mid : S) (shown : List ℕ) → reads (over.reader x) (filled shown) mid
+    pub item_refused : (e : Error) (mid : S) (shown : List ℕ) → reads (over.reader x) (filled_marks shown) mid
         → 0 < length shown → error_kind e ≡ OutOfMemory → over.reader y ≡ mid → m (over.held x)
         → Flows over (λ k. pieces (byte k) m (Itemised whole final)) reads x (Ready (Some (Err e)) ∷ []) y
     item_refused e mid shown fills some is unread full =
@@ -52,7 +52,7 @@ module _ {X S K A : Type 0} {over : StreamOver X S (List ℕ) K} {byte : K → �
     item_at_end (Some r) is came = item_last r is.0 is.1 came
     item_at_end None is came = item_ends is came
 
-    pub item_cut : (mid : S) (shown : List ℕ) (k : ℕ) (r : Result A Error) → reads (over.reader x) (filled shown) mid
+    pub item_cut : (mid : S) (shown : List ℕ) (k : ℕ) (r : Result A Error) → reads (over.reader x) (filled_marks shown) mid
         → IsFirstByte (is_byte (byte (over.kept x))) shown (Some k)
         → whole (over.held x ++ take k shown) r → reads mid (bytes (take (k + 1) shown)) (over.reader y)
         → Flows over (λ k. pieces (byte k) m (Itemised whole final)) reads x (Ready (Some r) ∷ []) y
@@ -63,7 +63,7 @@ module _ {X S K A : Type 0} {over : StreamOver X S (List ℕ) K} {byte : K → �
         flow_one came (rw at.2 piece) same
 
   -- what became of the delimiter at k
-  pub item_found : (mid : S) (shown : List ℕ) (k : ℕ) (r : Result A Error) → reads (over.reader x) (filled shown) mid
+  pub item_found : (mid : S) (shown : List ℕ) (k : ℕ) (r : Result A Error) → reads (over.reader x) (filled_marks shown) mid
       → IsFirstByte (is_byte (byte (over.kept x))) shown (Some k)
       → IfOk r (λ v. whole (over.held x ++ take k shown) r × reads mid (bytes (take (k + 1) shown)) (over.reader y)
       × (over.held y ≡ []))
@@ -80,7 +80,7 @@ module _ {X S K A : Type 0} {over : StreamOver X S (List ℕ) K} {byte : K → �
 module _ {X S K A : Type 0} {over : StreamOver X S (List ℕ) K} (byte : K → ℕ)
     {whole final : List ℕ → Result A Error → Type 0} {reads : Runs ReadMark S} (laws : MarkLaws reads)
     {x y : X} (same : over.kept y ≡ over.kept x) (grows : over.room x ≤ over.room y) where
-  pub item_more : (mid : S) (shown : List ℕ) → reads (over.reader x) (filled shown) mid
+  pub item_more : (mid : S) (shown : List ℕ) → reads (over.reader x) (filled_marks shown) mid
       → IsFirstByte (is_byte (byte (over.kept x))) shown None → 0 < length shown
       → over.held y ≡ over.held x ++ shown → reads mid (bytes shown) (over.reader y)
       → TakesPieceIn over (λ k. pieces (byte k) (λ held. ⊤) (Itemised whole final)) reads x y

@@ -52,13 +52,13 @@ module _ (byte : ℕ) where
       omega (arith, far)
 
 -- a buffer that had no room for k more bytes, as they stood before the first that passes the test
-pub lacks_before : {S : Type 0} (test : ℕ → Bool) (lent : S → List ℕ) {r mid : S} {ys xs : List ℕ} {room k : ℕ}
-    → r ≡ mid → ys ≡ xs → length (before_first test (lent mid)) ≡ k → room < length xs + k
-    → room < length ys + length (before_first test (lent r))
-lacks_before test lent unread held long full = rw (unread, held, long) full
+pub lacks_before : {S : Type 0} (test : ℕ → Bool) (buffer_of : S → List ℕ) {r mid : S} {ys xs : List ℕ} {room k : ℕ}
+    → r ≡ mid → ys ≡ xs → length (before_first test (buffer_of mid)) ≡ k → room < length xs + k
+    → room < length ys + length (before_first test (buffer_of r))
+lacks_before test buffer_of unread held long full = rw (unread, held, long) full
 
 -- or up to and with the first `byte`
-pub lacks_through : {S : Type 0} (byte : ℕ) (lent : S → List ℕ) {r mid : S} {ys xs : List ℕ} {room k : ℕ}
-    → r ≡ mid → ys ≡ xs → k ≤ length (through_first byte (lent mid)) → room < length xs + k
-    → room < length ys + length (through_first byte (lent r))
-lacks_through byte lent unread held long full = rw (unread, held) (omega (arith, long, full))
+pub lacks_through : {S : Type 0} (byte : ℕ) (buffer_of : S → List ℕ) {r mid : S} {ys xs : List ℕ} {room k : ℕ}
+    → r ≡ mid → ys ≡ xs → k ≤ length (through_first byte (buffer_of mid)) → room < length xs + k
+    → room < length ys + length (through_first byte (buffer_of r))
+lacks_through byte buffer_of unread held long full = rw (unread, held) (omega (arith, long, full))

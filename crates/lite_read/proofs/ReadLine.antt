@@ -1,7 +1,7 @@
 -- The steps of `read_line`.
 use Rattle.std.specs.Prelude.{◌≡◌, ◌<◌, ◌+◌, ℕ, List, [], ◌++◌, Some, None, Result, Ok, Err, length, take, IfErr, IfOk, IsUtf8, string_bytes, true}
 use Rattle.lite_read.specs.Uses.{◌∙◌, inl, refl, sym, subst, arith, append-nil, length-take-le, error_kind, FoldsTo, Error, OutOfMemory, IsFirstByte, is_byte}
-use Rattle.lite_read.specs.Uses.{Ready, ReadMark, bytes, filled, MarkLaws, Runs}
+use Rattle.lite_read.specs.Uses.{Ready, ReadMark, bytes, filled_marks, MarkLaws, Runs}
 use Rattle.lite_read.specs.ReadFold.{AnswerMarks}
 use Rattle.lite_read.proofs.Cutting.{fill_then, found_at, found_none, takes_all}
 use Rattle.lite_read.specs.ReadUntil.{CountsPiece}
@@ -31,7 +31,7 @@ module _ {R A : Type 0} (m : List ℕ → Type 0) {reads : Runs ReadMark R} (law
 
   module _ (w : ReadLineFuture R A) (shown : List ℕ) (stays : TextStays line_over (after_fill x mid) w)
       (text : string_bytes w.text.now ≡ string_bytes x.text.now)
-      (fills : reads x.reader.now (filled shown) mid) where
+      (fills : reads x.reader.now (filled_marks shown) mid) where
     from : TextStays line_over x w
     from = record { reader = stays.reader; text = stays.text }
 
@@ -74,23 +74,23 @@ module _ {R A : Type 0} (m : List ℕ → Type 0) {reads : Runs ReadMark R} (law
         }
 
 -- a line that is whole in the buffer goes into the text at once
-module _ {R A : Type 0} (lent : R → List ℕ) {reads : Runs ReadMark R} (laws : MarkLaws reads) (x y : ReadLineFuture R A)
-    (mid : R) (stays : TextStays line_over (after_fill x mid) y) (fills : reads x.reader.now (filled (lent mid)) mid)
+module _ {R A : Type 0} (buffer_of : R → List ℕ) {reads : Runs ReadMark R} (laws : MarkLaws reads) (x y : ReadLineFuture R A)
+    (mid : R) (stays : TextStays line_over (after_fill x mid) y) (fills : reads x.reader.now (filled_marks (buffer_of mid)) mid)
     (none : x.bytes.items ≡ []) (left : y.bytes.items ≡ []) (holds : LineHolds y) (k : ℕ)
-    (first : IsFirstByte (is_byte 10) (lent mid) (Some k)) where
+    (first : IsFirstByte (is_byte 10) (buffer_of mid) (Some k)) where
   abbrev line : List ℕ
-  line = take (k + 1) (lent mid)
+  line = take (k + 1) (buffer_of mid)
 
   given : (marks : List ReadMark) (v r : Result ℕ Error) (all : List ℕ)
-      → AnswerMarks (read_line_fold (LineLacksMemory lent x y)) x.bytes.items marks (Ready v) all → ValueOf all v r
+      → AnswerMarks (read_line_fold (LineLacksMemory buffer_of x y)) x.bytes.items marks (Ready v) all → ValueOf all v r
       → AppendsText all (string_bytes x.text.now) (string_bytes y.text.now) → reads mid marks y.reader.now
-      → AnswersTextByRoom line_over read_line_fold (LineLacksMemory lent) reads x (Ready r) y
+      → AnswersTextByRoom line_over read_line_fold (LineLacksMemory buffer_of) reads x (Ready r) y
   given marks v r all h value gains took =
-      let some : 0 < length (lent mid) = omega (arith, (found_at 10 (lent mid) k first).0) in
-      text_value line_over read_line_fold (LineLacksMemory lent) x y r (
-        text_given line_over (read_line_fold (LineLacksMemory lent x y)) reads x y
+      let some : 0 < length (buffer_of mid) = omega (arith, (found_at 10 (buffer_of mid) k first).0) in
+      text_value line_over read_line_fold (LineLacksMemory buffer_of) x y r (
+        text_given line_over (read_line_fold (LineLacksMemory buffer_of x y)) reads x y
             (record { reader = stays.reader; text = stays.text }) marks v r all h value gains left
-            (fill_then laws (lent mid) some fills took),
+            (fill_then laws (buffer_of mid) some fills took),
         holds,
       )
 
@@ -99,14 +99,14 @@ module _ {R A : Type 0} (lent : R → List ℕ) {reads : Runs ReadMark R} (laws 
       → IfOk r (λ n. reads mid (bytes line) y.reader.now)
       → IfErr r (λ e. error_kind e ≡ OutOfMemory) → IfErr r (λ e. room_for x.text.now x.bytes < k + 1)
       → IfErr r (λ e. y.reader.now ≡ mid) → IfErr r (λ e. string_bytes y.text.now ≡ string_bytes x.text.now)
-      → AnswersTextByRoom line_over read_line_fold (LineLacksMemory lent) reads x (Ready r) y
+      → AnswersTextByRoom line_over read_line_fold (LineLacksMemory buffer_of) reads x (Ready r) y
   line_direct (Ok n) utf8 count grown took refusal full unread same =
       let long : n ≡ length line =
-      omega (arith, count, (found_at 10 (lent mid) k first).0, length-take-le (k + 1) (lent mid)) in
-      let h = cut_off 10 x.bytes.items (lent mid) line k n first (rw none refl) long in
+      omega (arith, count, (found_at 10 (buffer_of mid) k first).0, length-take-le (k + 1) (buffer_of mid)) in
+      let h = cut_off 10 x.bytes.items (buffer_of mid) line k n first (rw none refl) long in
       given (bytes line) (Ok n) (Ok n) line h (utf8, refl) (inl (utf8, grown)) took
   line_direct (Err e) utf8 count grown took refusal full unread same =
-      let lacks = lacks_through 10 lent unread none (through_found 10 (lent mid) k first) (omega (arith, full)) in
+      let lacks = lacks_through 10 buffer_of unread none (through_found 10 (buffer_of mid) k first) (omega (arith, full)) in
       let h = refused 10 x.bytes.items [] e refusal lacks (sym none) in
       given [] (Err e) (Err e) [] h refl (inl (all_utf8 [] true refl refl, same ∙ sym (append-nil _)))
       (rw unread (laws.rests mid))

@@ -1,7 +1,7 @@
 -- The steps of `read_to_string`.
 use Rattle.std.specs.Prelude.{◌≡◌, ◌≤◌, ◌<◌, ◌+◌, ◌-◌, ℕ, List, [], ◌∷◌, length, take, Result, Ok, Err, ⊤, ◌*◌, max, string_bytes}
 use Rattle.lite_read.specs.Uses.{◌∙◌, refl, ap, sym, subst, arith, length-take-le, error_kind, with_items, Error, OutOfMemory, Ready, Pending, ReadMark, bytes}
-use Rattle.lite_read.specs.Uses.{moved, segment_alone, Runs}
+use Rattle.lite_read.specs.Uses.{moved_marks, segment_alone, Runs}
 use denote.MutBor.{MutBor}
 use borrow.Rule.Slice.PartMut.{put_mid}
 use Rattle.lite_read.proofs.Filling.{Behind, bytes_came, how_long, put_front, put_kept, put_len}
@@ -47,7 +47,7 @@ module _ {R A : Type 0} (m : List ℕ → Type 0) (reads : Runs ReadMark R) wher
       → TextStays all_over x w
       → string_bytes w.text.now ≡ string_bytes x.text.now → text_front w ≡ text_front x → StringHolds w
       → old ≡ w.bytes.items
-      → Behind w.filled old new → n ≤ length new → 0 < n → reads w.reader.now (moved new (take n new)) r
+      → Behind w.filled old new → n ≤ length new → 0 < n → reads w.reader.now (moved_marks new (take n new)) r
       → TakesTextIn all_over (read_to_string_fold m) reads x
       (after_read w r (put_mid w.filled (length old - w.filled) old new) n room)
   read_some x w r old new n room reader filled memory asked stays text front_is holds is long most some came =

@@ -1,7 +1,7 @@
 -- The steps of `read_until`.
 use Rattle.std.specs.Prelude.{◌≡◌, ◌<◌, ◌≤◌, ◌+◌, ◌-◌, ℕ, List, [], ◌∷◌, ◌++◌, Some, None, Result, Ok, Err, length, take, drop, ⊤, vec_capacity}
 use Rattle.lite_read.specs.Uses.{◌∙◌, inl, inr, refl, ap, sym, subst, arith, append-nil, append_assoc, length-append, length-drop, take-append-le}
-use Rattle.lite_read.specs.Uses.{error_kind, Error, OutOfMemory, Poll, Ready, Pending, IsFirstByte, is_byte, ReadMark, bytes, filled, MarkLaws}
+use Rattle.lite_read.specs.Uses.{error_kind, Error, OutOfMemory, Poll, Ready, Pending, IsFirstByte, is_byte, ReadMark, bytes, filled_marks, MarkLaws}
 use Rattle.lite_read.specs.Uses.{Reaches, up_to_one, segments_one, Runs}
 use Rattle.std.proofs.lemmas.List.{drop-append-le}
 use Rattle.lite_read.specs.ReadFold.{AnswerMarks}
@@ -109,7 +109,7 @@ module _ {R : Type 0} {reads : Runs ReadMark R} (laws : MarkLaws reads) (x y : R
     until_fails e came =
         cut_here _ (Err e) came (λ after is. failed x.byte _ after e is)
 
-    pub until_refused : {m : Type 0} (e : Error) (mid : R) (shown : List ℕ) → reads x.reader.now (filled shown) mid
+    pub until_refused : {m : Type 0} (e : Error) (mid : R) (shown : List ℕ) → reads x.reader.now (filled_marks shown) mid
         → 0 < length shown → error_kind e ≡ OutOfMemory → y.reader.now ≡ mid → m
         → ReadsUntil reads m x (Ready (Err e) ∷ []) y
     until_refused e mid shown fills some is unread full =
@@ -121,7 +121,7 @@ module _ {R : Type 0} {reads : Runs ReadMark R} (laws : MarkLaws reads) (x y : R
     until_ends n count came =
         cut_here _ _ came (λ after is. ended x.byte _ after n is (count ∙ sym (length-drop x.start x.buf.now.items)))
 
-  module _ (mid : R) (shown : List ℕ) (fills : reads x.reader.now (filled shown) mid) where
+  module _ (mid : R) (shown : List ℕ) (fills : reads x.reader.now (filled_marks shown) mid) where
     pub until_found : {m : Type 0} (k n : ℕ) → IsFirstByte (is_byte x.byte) shown (Some k)
         → y.buf.now.items ≡ x.buf.now.items ++ take (k + 1) shown
         → reads mid (bytes (take (k + 1) shown)) y.reader.now → n ≡ length y.buf.now.items - x.start
@@ -156,15 +156,15 @@ module _ {R : Type 0} {reads : Runs ReadMark R} (laws : MarkLaws reads) (x y : R
         }
 
 -- an answer after some steps
-pub until_full : {R : Type 0} {reads : Runs ReadMark R} (lent : R → List ℕ) → MarkLaws reads
+pub until_full : {R : Type 0} {reads : Runs ReadMark R} (buffer_of : R → List ℕ) → MarkLaws reads
     → {x z : ReadUntilFuture R} {a : Poll (Result ℕ Error)}
     → (y : ReadUntilFuture R) × Reaches (AppendsMore reads ⊤) x y
-    × ReadsUntil reads (UntilLacksRoom lent y z) y (a ∷ []) z → ReadsUntilByRoom reads lent x (a ∷ []) z
-until_full {reads} lent laws steps =
-    let ran = steps_answer {answers = λ x a z. ReadsUntil reads (UntilLacksRoom lent x z) x (a ∷ []) z} (λ x y z a t h.
-    let m = UntilLacksRoom lent y z in
-    let n = UntilLacksRoom lent x z in
+    × ReadsUntil reads (UntilLacksRoom buffer_of y z) y (a ∷ []) z → ReadsUntilByRoom reads buffer_of x (a ∷ []) z
+until_full {reads} buffer_of laws steps =
+    let ran = steps_answer {answers = λ x a z. ReadsUntil reads (UntilLacksRoom buffer_of x z) x (a ∷ []) z} (λ x y z a t h.
+    let m = UntilLacksRoom buffer_of y z in
+    let n = UntilLacksRoom buffer_of x z in
     step_before laws x y z a (takes_alike (λ v p q b h. h) x y t)
     (gathers_weaker (λ v. pieces_weaker v.byte (λ held. m) (λ held. n) (CountsPiece v.byte)
-    (λ held. lacks_sooner lent x y z t.stays)) y z (a ∷ []) h)) steps in
+    (λ held. lacks_sooner buffer_of x y z t.stays)) y z (a ∷ []) h)) steps in
     record { gathered = ran; grows = λ w. ran.stays.room }

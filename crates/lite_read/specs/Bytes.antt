@@ -7,27 +7,27 @@ use Rattle.lite_read.specs.declared.bytes.Bytes.{Bytes}
 
 -- The poll result that one mark of the reader becomes. A byte is an item, end of file is the end of the stream, and
 -- `Pending` is `Pending`. An error is an item, except that an `Interrupted` one is `Pending`.
-abbrev pub TellsMark : ReadMark → Answer (Result ℕ Error) → Type 0
-TellsMark (ReadMark.byte b) (Ready (Some (Ok x))) = x ≡ b
-TellsMark (ReadMark.fault kind) (Ready (Some (Err e))) = (error_kind e ≡ kind) × (kind ≡ Interrupted → ⊥)
-TellsMark (ReadMark.fault kind) Pending = kind ≡ Interrupted
-TellsMark ReadMark.pending Pending = ⊤
-TellsMark ReadMark.end (Ready None) = ⊤
-TellsMark m a = ⊥
+abbrev pub GivesMark : ReadMark → Answer (Result ℕ Error) → Type 0
+GivesMark (ReadMark.byte b) (Ready (Some (Ok x))) = x ≡ b
+GivesMark (ReadMark.fault kind) (Ready (Some (Err e))) = (error_kind e ≡ kind) × (kind ≡ Interrupted → ⊥)
+GivesMark (ReadMark.fault kind) Pending = kind ≡ Interrupted
+GivesMark ReadMark.pending Pending = ⊤
+GivesMark ReadMark.end (Ready None) = ⊤
+GivesMark m a = ⊥
 
 -- Two lists have one length, and each mark becomes the poll result at its place.
-abbrev pub TellsEach : List ReadMark → List (Answer (Result ℕ Error)) → Type 0
-TellsEach [] [] = ⊤
-TellsEach (m ∷ ms) (a ∷ l) = TellsMark m a × TellsEach ms l
-TellsEach ms l = ⊥
+abbrev pub GivesEach : List ReadMark → List (Answer (Result ℕ Error)) → Type 0
+GivesEach [] [] = ⊤
+GivesEach (m ∷ ms) (a ∷ l) = GivesMark m a × GivesEach ms l
+GivesEach ms l = ⊥
 
 -- The run of `bytes`: its reader produced some marks, and each became one poll result. Without a poll the stream is
 -- unchanged.
-pub record TellsBytes {R : Type 0} (reads : Runs ReadMark R) (x : Bytes R) (out : List (Answer (Result ℕ Error)))
+pub record GivesBytes {R : Type 0} (reads : Runs ReadMark R) (x : Bytes R) (out : List (Answer (Result ℕ Error)))
     (y : Bytes R) : Type 0 where
   pub marks : List ReadMark
   pub came : reads x.inner marks y.inner
-  pub told : TellsEach marks out
+  pub told : GivesEach marks out
   pub idle : out ≡ [] → y ≡ x
 
 -- Why a poll returned `Pending`, and what the context `cx` holds then. The reader returned `Pending`, and what it

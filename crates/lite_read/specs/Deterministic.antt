@@ -32,8 +32,8 @@ pub record IsDeterministic {M R : Type 0} (same : R → R → Type 0) (fold : Re
 
 -- The values that `fold` produces from a tale without `Pending`s. Bytes are consumed, and then some marks produce a
 -- value, and so on. Behind the last value more bytes may be consumed.
-pub data TaleValues {M R : Type 0} (fold : ReadFold M R) : M → List ReadMark → List R → Type 0 where
-  held : (p q : M) (xs : List ℕ) → FoldsTo fold.takes p xs q → TaleValues fold p (bytes xs) []
+pub data MarkValues {M R : Type 0} (fold : ReadFold M R) : M → List ReadMark → List R → Type 0 where
+  held : (p q : M) (xs : List ℕ) → FoldsTo fold.takes p xs q → MarkValues fold p (bytes xs) []
   next : (p m q : M) (xs : List ℕ) (last rest : List ReadMark) (v : R) (vs : List R) → FoldsTo fold.takes p xs m
       → fold.gives m last v q
-      → TaleValues fold q rest vs → TaleValues fold p (bytes xs ++ (last ++ rest)) (v ∷ vs)
+      → MarkValues fold q rest vs → MarkValues fold p (bytes xs ++ (last ++ rest)) (v ∷ vs)

@@ -12,11 +12,11 @@ held_after (Ready (Ok a)) r = None
 
 -- One poll of `fill_buf`. The reader ran by the marks of a fill with this result, and an `Ok` result is what the reader
 -- has buffered then. The future keeps its reader as `held_after` says.
-pub record FillsOnce {R : Type 0} (reads : Runs ReadMark R) (lent : R → List ℕ) (x : FillBuf R)
+pub record FillsOnce {R : Type 0} (reads : Runs ReadMark R) (buffer_of : R → List ℕ) (x : FillBuf R)
     (c : Poll (Result (Bor (List ℕ)) Error)) (y : FillBuf R) : Type 0 where
   pub reader : MutBor R
   pub filled : R
   pub held : x.reader ≡ Some reader
-  pub came : reads reader.now (fill_marks c (lent filled)) filled
-  pub lends : LendsFront c (lent filled)
+  pub came : reads reader.now (fill_marks c (buffer_of filled)) filled
+  pub lends : LendsFront c (buffer_of filled)
   pub after : y.reader ≡ held_after c (record reader { now = filled })

@@ -15,8 +15,8 @@ read_line_fold = until_where 10
 
 -- The memory of `x` is too small for the bytes `read` and those that `y`'s reader has buffered through a newline.
 abbrev pub LineLacksMemory : {R A : Type 0} → (R → List ℕ) → ReadLineFuture R A → ReadLineFuture R A → List ℕ → Type 0
-LineLacksMemory lent x y read =
-    room_for x.text.now x.bytes < length read + length (through_first 10 (lent y.reader.now))
+LineLacksMemory buffer_of x y read =
+    room_for x.text.now x.bytes < length read + length (through_first 10 (buffer_of y.reader.now))
 
 -- What is true before each poll of `read_line`: the bytes read so far fit into the text, and `ascii` says whether all
 -- of them are ASCII.
@@ -41,7 +41,7 @@ module _ {R A : Type 0} (may_refuse : List ℕ → Type 0) (reads : Runs ReadMar
   abbrev pub ReadsLine : Runs (Poll (Result ℕ Error)) (ReadLineFuture R A)
   ReadsLine = ReadsText line_over (read_line_fold may_refuse) reads
 
-module _ {R A : Type 0} (lent : R → List ℕ) (reads : Runs ReadMark R) where
+module _ {R A : Type 0} (buffer_of : R → List ℕ) (reads : Runs ReadMark R) where
   -- The run of `read_line`, in which an allocation fails only if the memory was too small (`LineLacksMemory`).
   abbrev pub ReadsLineByRoom : Runs (Poll (Result ℕ Error)) (ReadLineFuture R A)
-  ReadsLineByRoom = ReadsTextByRoom line_over read_line_fold (LineLacksMemory lent) reads
+  ReadsLineByRoom = ReadsTextByRoom line_over read_line_fold (LineLacksMemory buffer_of) reads

@@ -27,8 +27,8 @@ until byte may_refuse = until_where byte (λ held. may_refuse)
 -- The vector of `x` is too small for the bytes in `y`'s vector and those that `y`'s reader has buffered through the
 -- delimiter.
 abbrev pub UntilLacksRoom : {R : Type 0} → (R → List ℕ) → ReadUntilFuture R → ReadUntilFuture R → Type 0
-UntilLacksRoom lent x y =
-    vec_capacity x.buf.now < length y.buf.now.items + length (through_first x.byte (lent y.reader.now))
+UntilLacksRoom buffer_of x y =
+    vec_capacity x.buf.now < length y.buf.now.items + length (through_first x.byte (buffer_of y.reader.now))
 
 -- The run of `read_until`: the reader's marks are gathered into its vector through the delimiter. An allocation may
 -- fail if `may_refuse` is true.
@@ -39,6 +39,6 @@ ReadsUntil reads may_refuse = Gathers (λ x. x.reader.now) read_of (λ x. until 
 -- pending, the vector's capacity does not shrink.
 abbrev pub ReadsUntilByRoom : {R : Type 0} → Runs ReadMark R → (R → List ℕ)
     → Runs (Poll (Result ℕ Error)) (ReadUntilFuture R)
-ReadsUntilByRoom reads lent =
-    GathersByRoom (λ x. x.reader.now) read_of (λ x y v. until v.byte (UntilLacksRoom lent x y)) UntilStays
+ReadsUntilByRoom reads buffer_of =
+    GathersByRoom (λ x. x.reader.now) read_of (λ x y v. until v.byte (UntilLacksRoom buffer_of x y)) UntilStays
     (λ x y. vec_capacity x.buf.now ≤ vec_capacity y.buf.now) reads

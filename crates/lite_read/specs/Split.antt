@@ -30,8 +30,8 @@ split_over =
 -- The buffer of `x` is too small for the bytes that `y` holds and those that `y`'s reader has buffered before a
 -- delimiter.
 abbrev pub PieceLacksRoom : {R : Type 0} → (R → List ℕ) → Split R → Split R → Type 0
-PieceLacksRoom lent x y =
-    vec_capacity x.held < length y.held.items + length (before_first (is_byte x.byte) (lent y.reader))
+PieceLacksRoom buffer_of x y =
+    vec_capacity x.held < length y.held.items + length (before_first (is_byte x.byte) (buffer_of y.reader))
 
 module _ {R : Type 0} (reads : Runs ReadMark R) (may_refuse : Type 0) where
   -- The run of `split`: the reader's marks are cut into pieces, errors and ends, one for each poll result. An

@@ -25,7 +25,7 @@ pub use Rattle.lite_io_base.specs.Counting.{ReadCounting}
 pub use Rattle.lite_io_base.specs.Falls.{Falls}
 pub use Rattle.lite_io_base.specs.Laws.Falls.{GivenRun}
 pub use Rattle.lite_io_base.specs.Laws.Lent.{lent_still}
-pub use Rattle.lite_io_base.specs.Marks.{ReadMark, bytes, fill_marks, filled, given, moved}
+pub use Rattle.lite_io_base.specs.Marks.{ReadMark, bytes, fill_marks, filled_marks, given_count, moved_marks}
 pub use Rattle.lite_io_base.specs.Runs.{LendsFront, MarkLaws}
 pub use Rattle.lite_io_base.specs.Steady.{CalmReadLaws, NoPendingRead, SteadyReadLaws, strip_marks}
 pub use Rattle.memchr.specs.Find.{IsFirstByte, is_byte}

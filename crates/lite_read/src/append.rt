@@ -13,9 +13,9 @@ pub(crate) fn append<R: AsyncBufRead>(
     amount: usize,
     buf: &mut Vec<u8>,
 ) -> io::Result<()>
-    requires { amount ≤ length (R.lent reader.old) }
-    ensures ok { IfOk result (λ u. buf.new.items ≡ buf.old.items ++ take amount (R.lent reader.old)) }
-    ensures taken { IfOk result (λ u. R.reads reader.old (bytes (take amount (R.lent reader.old))) reader.new) }
+    requires { amount ≤ length (R.buffer_of reader.old) }
+    ensures ok { IfOk result (λ u. buf.new.items ≡ buf.old.items ++ take amount (R.buffer_of reader.old)) }
+    ensures taken { IfOk result (λ u. R.reads reader.old (bytes (take amount (R.buffer_of reader.old))) reader.new) }
     ensures refused { IfErr result (λ e. error_kind e ≡ OutOfMemory) }
     ensures full { IfErr result (λ e. vec_capacity buf.old < length buf.old.items + amount) }
     ensures room { vec_capacity buf.old ≤ vec_capacity buf.new }

@@ -2,13 +2,13 @@ ghost use Rattle.std.specs.Prelude.{None, ◌∷◌, [], ⊤};
 ghost use Rattle.lite_read.specs.Uses.{ranks_of, NoHint, HoldsWoken, Keeps, OnPending, Registered, Sameness};
 ghost use Rattle.lite_io_base.specs.Laws.Runs.{idle_laws};
 ghost use Rattle.lite_io_base.specs.Runs.{Idle};
-ghost use Rattle.lite_read.specs.Bytes.{BytesPend, TellsBytes};
+ghost use Rattle.lite_read.specs.Bytes.{BytesPend, GivesBytes};
 ghost use Rattle.lite_read.specs.Deterministic.{SameByKind};
 ghost use Rattle.lite_read.specs.Laws.Bytes.{bytes_counting, bytes_laws, inner_calm, inner_counting, inner_laws, inner_steady};
 ghost use Rattle.lite_read.specs.Laws.SteadyBytes.{bytes_steady};
 
 use lite_base::{Context, Counted, OkCounted, Poll, SteadyStream, Stream};
-use lite_io_base::{AsyncRead, CalmRead, CountedRead, SteadyRead, Takings, Tale};
+use lite_io_base::{AsyncRead, CalmRead, CountedRead, ReadSpec, SteadyRead, WriteSpec};
 use std::io;
 use std::io::{ErrorKind, IoSliceMut};
 
@@ -26,7 +26,7 @@ pub struct Bytes<R> {
 impl<R: AsyncRead> Stream for Bytes<R> {
     type Item = io::Result<u8>;
 
-    ghost run = { TellsBytes R.reads };
+    ghost run = { GivesBytes R.reads };
 
     ghost registers = { λ x fact. R.registers x.inner fact × HoldsWoken fact };
 
@@ -35,7 +35,7 @@ impl<R: AsyncRead> Stream for Bytes<R> {
     ghost laws = { bytes_laws R.read_laws };
 
     fn poll_next(&mut self, cx: &mut Context<'_>) -> Poll<Option<io::Result<u8>>>
-        ensures ran { TellsBytes R.reads self.old (result ∷ []) self.new }
+        ensures ran { GivesBytes R.reads self.old (result ∷ []) self.new }
         ensures again { ⊤ }
         ensures registered { Registered result (λ fact. R.registers self.new.inner fact × HoldsWoken fact) cx.new }
         ensures context { Keeps cx.old cx.new }
@@ -79,7 +79,7 @@ impl<R: CountedRead> OkCounted for Bytes<R> {
 }
 
 impl<R: SteadyRead> SteadyStream for Bytes<R> {
-    ghost ample = { TellsBytes R.ample };
+    ghost ample = { GivesBytes R.ample };
 
     ghost needs_none = { R.needs_none };
 
@@ -90,14 +90,14 @@ impl<R: SteadyRead> SteadyStream for Bytes<R> {
     ghost steady = { bytes_steady R.steady };
 }
 
-impl<R: Tale> Tale for Bytes<R> {
+impl<R: ReadSpec> ReadSpec for Bytes<R> {
     ghost reads = { λ x l y. R.reads x.inner l y.inner };
 
     ghost read_laws = { inner_laws R.read_laws };
 }
 
 // It is not written to.
-impl<R> Takings for Bytes<R> {
+impl<R> WriteSpec for Bytes<R> {
     ghost writes = { Idle };
 
     ghost write_laws = { idle_laws };

@@ -25,11 +25,11 @@ impl<'a, R: AsyncBufRead> Future for FillBuf<'a, R> {
 
     ghost can_poll = { λ x. IsSome x.reader };
 
-    ghost run = { PolledByCalls (FillsOnce R.reads R.lent) };
+    ghost run = { PolledByCalls (FillsOnce R.reads R.buffer_of) };
 
     ghost registers = { λ x fact. IfSome x.reader (λ r. R.registers r.now fact) };
 
-    ghost laws = { polled_laws (FillsOnce R.reads R.lent) (λ x y c h. rw h.after refl) };
+    ghost laws = { polled_laws (FillsOnce R.reads R.buffer_of) (λ x y c h. rw h.after refl) };
 
     fn poll(&mut self, cx: &mut Context<'_>) -> Poll<io::Result<&'a [u8]>> {
         let Some(reader) = self.reader.take() else {
@@ -57,7 +57,7 @@ impl<R: AsyncBufRead + CalmRead> CalmFuture for FillBuf<'_, R> {
 
 // Returns a slice of the buffer that lives as long as the borrow of the reader.
 fn shown<'a, R: AsyncBufRead>(reader: &'a R) -> &'a [u8]
-    ensures { result.now ≡ R.lent reader.now }
+    ensures { result.now ≡ R.buffer_of reader.now }
 {
     reader.buffer()
 }

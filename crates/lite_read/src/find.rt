@@ -17,8 +17,8 @@ pub(crate) fn find_byte<R: AsyncBufRead>(
     cx: &mut Context<'_>,
     byte: u8,
 ) -> Poll<io::Result<Option<usize>>>
-    ensures ran { R.reads reader.old (fill_marks result (R.lent reader.new)) reader.new }
-    ensures found { IfReady result (λ r. IfOk r (λ at. IsFirstByte (is_byte byte) (R.lent reader.new) at)) }
+    ensures ran { R.reads reader.old (fill_marks result (R.buffer_of reader.new)) reader.new }
+    ensures found { IfReady result (λ r. IfOk r (λ at. IsFirstByte (is_byte byte) (R.buffer_of reader.new) at)) }
     ensures small { IfReady result (λ r. IfOk r (λ at. IfSome at (λ k. k + 1 < 2 ^ 64))) }
     ensures registered { Registered result (R.registers reader.new) cx.new }
     ensures context { Keeps cx.old cx.new }
@@ -37,10 +37,10 @@ pub fn find_line<R: AsyncBufRead>(
     reader: &mut R,
     cx: &mut Context<'_>,
 ) -> Poll<io::Result<(Option<usize>, bool)>>
-    ensures ran { R.reads reader.old (fill_marks result (R.lent reader.new)) reader.new }
-    ensures found { IfReady result (λ r. IfOk r (λ line. IsFirstByte (is_byte 10) (R.lent reader.new) line.0)) }
+    ensures ran { R.reads reader.old (fill_marks result (R.buffer_of reader.new)) reader.new }
+    ensures found { IfReady result (λ r. IfOk r (λ line. IsFirstByte (is_byte 10) (R.buffer_of reader.new) line.0)) }
     ensures small { IfReady result (λ r. IfOk r (λ line. IfSome line.0 (λ k. k + 1 < 2 ^ 64))) }
-    ensures ascii { IfReady result (λ r. IfOk r (λ line. line.1 ≡ list_all is_ascii (up_to line.0 (R.lent reader.new)))) }
+    ensures ascii { IfReady result (λ r. IfOk r (λ line. line.1 ≡ list_all is_ascii (up_to line.0 (R.buffer_of reader.new)))) }
     ensures registered { Registered result (R.registers reader.new) cx.new }
     ensures context { Keeps cx.old cx.new }
 {

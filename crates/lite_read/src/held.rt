@@ -23,11 +23,11 @@ pub(crate) fn take_in<R: AsyncBufRead, A: Allocator + Copy>(
     bytes: &mut Vec<u8, A>,
 ) -> io::Result<()>
     requires has_room { HasRoomFor text.old bytes.old }
-    requires within { amount ≤ length (R.lent reader.old) }
+    requires within { amount ≤ length (R.buffer_of reader.old) }
     ensures has_room { HasRoomFor text.new bytes.new }
     ensures text { string_bytes text.new ≡ string_bytes text.old }
-    ensures ok { IfOk result (λ u. bytes.new.items ≡ bytes.old.items ++ take amount (R.lent reader.old)) }
-    ensures taken { IfOk result (λ u. R.reads reader.old (read_bytes (take amount (R.lent reader.old))) reader.new) }
+    ensures ok { IfOk result (λ u. bytes.new.items ≡ bytes.old.items ++ take amount (R.buffer_of reader.old)) }
+    ensures taken { IfOk result (λ u. R.reads reader.old (read_bytes (take amount (R.buffer_of reader.old))) reader.new) }
     ensures refused { IfErr result (λ e. error_kind e ≡ OutOfMemory) }
     ensures full { IfErr result (λ e. room_for text.old bytes.old < length bytes.old.items + amount) }
     ensures room { room_for text.old bytes.old ≤ room_for text.new bytes.new }
@@ -46,10 +46,10 @@ pub(crate) fn take_text<R: AsyncBufRead, A: Allocator>(
     amount: usize,
     text: &mut String<A>,
 ) -> io::Result<()>
-    requires within { amount ≤ length (R.lent reader.old) }
-    requires utf8 { IsUtf8 (take amount (R.lent reader.old)) }
-    ensures ok { IfOk result (λ u. string_bytes text.new ≡ string_bytes text.old ++ take amount (R.lent reader.old)) }
-    ensures taken { IfOk result (λ u. R.reads reader.old (read_bytes (take amount (R.lent reader.old))) reader.new) }
+    requires within { amount ≤ length (R.buffer_of reader.old) }
+    requires utf8 { IsUtf8 (take amount (R.buffer_of reader.old)) }
+    ensures ok { IfOk result (λ u. string_bytes text.new ≡ string_bytes text.old ++ take amount (R.buffer_of reader.old)) }
+    ensures taken { IfOk result (λ u. R.reads reader.old (read_bytes (take amount (R.buffer_of reader.old))) reader.new) }
     ensures refused { IfErr result (λ e. error_kind e ≡ OutOfMemory) }
     ensures full { IfErr result (λ e. string_capacity text.old < string_len text.old + amount) }
     ensures unread { IfErr result (λ e. reader.new ≡ reader.old) }
@@ -63,9 +63,9 @@ pub(crate) fn take_text<R: AsyncBufRead, A: Allocator>(
 /// Returns whether the first `amount` bytes of the buffer of `reader` are UTF-8. If `known` says that they
 /// are, it does not check them.
 pub(crate) fn lends_text<R: AsyncBufRead>(reader: &R, amount: usize, known: bool) -> bool
-    requires within { amount ≤ length (R.lent reader.now) }
-    requires known { known ≡ true → IsUtf8 (take amount (R.lent reader.now)) }
-    ensures { result ≡ true → IsUtf8 (take amount (R.lent reader.now)) }
+    requires within { amount ≤ length (R.buffer_of reader.now) }
+    requires known { known ≡ true → IsUtf8 (take amount (R.buffer_of reader.now)) }
+    ensures { result ≡ true → IsUtf8 (take amount (R.buffer_of reader.now)) }
 {
     known || is_utf8(&reader.buffer()[..amount])
 }

@@ -7,7 +7,7 @@ ghost use Rattle.lite_read.specs.Laws.Marks.{SameText, line_one, text_one};
 ghost use Rattle.lite_read.specs.Laws.PollSteps.{takes_given};
 ghost use Rattle.lite_read.specs.Laws.Segments.{flow_counting_laws};
 ghost use Rattle.lite_read.specs.LineText.{IsText, without_return};
-ghost use Rattle.lite_read.specs.Lines.{GivesLines, LineLacksRoom, lines_over, lining};
+ghost use Rattle.lite_read.specs.Lines.{GivesLines, LineLacksRoom, lines_over, line_fold};
 ghost use Rattle.lite_read.specs.PieceSteps.{TakesPieceIn};
 
 use crate::find::find_line;
@@ -37,12 +37,12 @@ pub struct Lines<R> {
 impl<R: AsyncBufRead> Lines<R> {
     // Takes in the bytes before the newline at `at`, and takes the newline.
     fn take_line(&mut self, at: usize, ascii: bool) -> io::Result<()>
-        requires within { at < length (R.lent self.old.reader) }
-        requires ascii { ascii ≡ list_all is_ascii (take at (R.lent self.old.reader)) }
+        requires within { at < length (R.buffer_of self.old.reader) }
+        requires ascii { ascii ≡ list_all is_ascii (take at (R.buffer_of self.old.reader)) }
         ensures ok { IfOk result
-            (λ u. self.new.held.bytes.items ≡ self.old.held.bytes.items ++ take at (R.lent self.old.reader)) }
+            (λ u. self.new.held.bytes.items ≡ self.old.held.bytes.items ++ take at (R.buffer_of self.old.reader)) }
         ensures taken { IfOk result
-            (λ u. R.reads self.old.reader (bytes (take (at + 1) (R.lent self.old.reader))) self.new.reader) }
+            (λ u. R.reads self.old.reader (bytes (take (at + 1) (R.buffer_of self.old.reader))) self.new.reader) }
         ensures refused { IfErr result (λ e. error_kind e ≡ OutOfMemory) }
         ensures full { IfErr result (λ e. vec_capacity self.old.held.bytes < length self.old.held.bytes.items + at) }
         ensures unread { IfErr result (λ e. self.new.reader ≡ self.old.reader) }
@@ -56,13 +56,13 @@ impl<R: AsyncBufRead> Lines<R> {
 
     // Takes in all bytes that are there.
     fn take_in(&mut self, ascii: bool) -> io::Result<()>
-        requires { ascii ≡ list_all is_ascii (R.lent self.old.reader) }
+        requires { ascii ≡ list_all is_ascii (R.buffer_of self.old.reader) }
         ensures ok { IfOk result
-            (λ u. self.new.held.bytes.items ≡ self.old.held.bytes.items ++ R.lent self.old.reader) }
-        ensures taken { IfOk result (λ u. R.reads self.old.reader (bytes (R.lent self.old.reader)) self.new.reader) }
+            (λ u. self.new.held.bytes.items ≡ self.old.held.bytes.items ++ R.buffer_of self.old.reader) }
+        ensures taken { IfOk result (λ u. R.reads self.old.reader (bytes (R.buffer_of self.old.reader)) self.new.reader) }
         ensures refused { IfErr result (λ e. error_kind e ≡ OutOfMemory) }
         ensures full { IfErr result (λ e. vec_capacity self.old.held.bytes
-            < length self.old.held.bytes.items + length (R.lent self.old.reader)) }
+            < length self.old.held.bytes.items + length (R.buffer_of self.old.reader)) }
         ensures room { vec_capacity self.old.held.bytes ≤ vec_capacity self.new.held.bytes }
         ensures unread { IfErr result (λ e. self.new.reader ≡ self.old.reader) }
         ensures held { IfErr result (λ e. self.new.held.bytes.items ≡ self.old.held.bytes.items) }
@@ -80,8 +80,8 @@ impl<R: AsyncBufRead + CountedRead> PollSteps for Lines<R> {
 
     ghost can_step = { λ x. R.ranks.counts x.reader };
 
-    ghost step = { OneStep (TakesPieceIn lines_over (lining ⊤) R.reads)
-        (λ x a y. GivesLines R.reads (LineLacksRoom R.lent x y) x (a ∷ []) y) };
+    ghost step = { OneStep (TakesPieceIn lines_over (line_fold ⊤) R.reads)
+        (λ x a y. GivesLines R.reads (LineLacksRoom R.buffer_of x y) x (a ∷ []) y) };
 
     ghost step_registers = { λ x. R.registers x.reader };
 
@@ -121,7 +121,7 @@ impl<R: AsyncBufRead + CountedRead> Stream for Lines<R> {
 
     ghost hints = { NoHint };
 
-    ghost laws = { flow_counting_laws lines_over (lining ⊤) R.read_laws R.counting };
+    ghost laws = { flow_counting_laws lines_over (line_fold ⊤) R.read_laws R.counting };
 
     fn poll_next(&mut self, cx: &mut Context<'_>) -> Poll<Option<io::Result<String>>>
         requires { R.ranks.counts self.old.reader }
@@ -131,7 +131,7 @@ impl<R: AsyncBufRead + CountedRead> Stream for Lines<R> {
         ensures context { Keeps cx.old cx.new }
 
         // Memory is refused only if the buffer had no room for the bytes of the line that are there.
-        ensures full { GivesLines R.reads (LineLacksRoom R.lent self.old self.new) self.old (result ∷ []) self.new }
+        ensures full { GivesLines R.reads (LineLacksRoom R.buffer_of self.old self.new) self.old (result ∷ []) self.new }
     {
         drive(self, cx)
     }
@@ -161,11 +161,11 @@ impl<R: AsyncBufRead + CountedRead + SteadyRead> SteadyStream for Lines<R> {
 
     ghost alike = { FlowAlike lines_over R.alike };
 
-    ghost steady = { flow_steady lines_over (lining ⊤) (lining ⊥) (λ k. items_deterministic line_one text_one 10) R.steady };
+    ghost steady = { flow_steady lines_over (line_fold ⊤) (line_fold ⊥) (λ k. items_deterministic line_one text_one 10) R.steady };
 }
 
 impl<R: AsyncBufRead + CountedRead + CalmRead> CalmStream for Lines<R> {
     ghost is_calm = { λ x. R.is_calm x.reader };
 
-    ghost calm = { flow_calm lines_over (lining ⊤) R.calm };
+    ghost calm = { flow_calm lines_over (line_fold ⊤) R.calm };
 }

@@ -48,16 +48,16 @@ impl<R: AsyncBufRead, A: Allocator + Copy> ReadLineFuture<'_, R, A> {
     #[tactic(auto, using(crate::proofs::Texts::ascii_more))]
     fn take_in(&mut self, amount: usize, ascii: bool) -> io::Result<()>
         requires held { LineHolds self.old }
-        requires within { amount ≤ length (R.lent self.old.reader.now) }
-        requires ascii { ascii ≡ list_all is_ascii (take amount (R.lent self.old.reader.now)) }
+        requires within { amount ≤ length (R.buffer_of self.old.reader.now) }
+        requires ascii { ascii ≡ list_all is_ascii (take amount (R.buffer_of self.old.reader.now)) }
         ensures held { LineHolds self.new }
         ensures stays { TextStays line_over self.old self.new }
         ensures text { string_bytes self.new.text.now ≡ string_bytes self.old.text.now }
         ensures ok { IfOk result
-            (λ u. self.new.bytes.items ≡ self.old.bytes.items ++ take amount (R.lent self.old.reader.now)) }
+            (λ u. self.new.bytes.items ≡ self.old.bytes.items ++ take amount (R.buffer_of self.old.reader.now)) }
         ensures taken { IfOk result
             (λ u. R.reads self.old.reader.now
-            (bytes (take amount (R.lent self.old.reader.now))) self.new.reader.now) }
+            (bytes (take amount (R.buffer_of self.old.reader.now))) self.new.reader.now) }
         ensures refused { IfErr result (λ e. error_kind e ≡ OutOfMemory) }
         ensures full { IfErr result (λ e. room_for self.old.text.now self.old.bytes
             < length self.old.bytes.items + amount) }
@@ -73,10 +73,10 @@ impl<R: AsyncBufRead, A: Allocator + Copy> ReadLineFuture<'_, R, A> {
     // Returns whether a line in the first `amount` bytes of the buffer can be appended to the text at once: no
     // part of it was read before, and it is UTF-8.
     fn is_direct(&self, amount: usize, ascii: bool) -> bool
-        requires within { amount ≤ length (R.lent self.now.reader.now) }
-        requires ascii { ascii ≡ list_all is_ascii (take amount (R.lent self.now.reader.now)) }
+        requires within { amount ≤ length (R.buffer_of self.now.reader.now) }
+        requires ascii { ascii ≡ list_all is_ascii (take amount (R.buffer_of self.now.reader.now)) }
         ensures none { result ≡ true → vec_capacity self.now.bytes ≡ 0 }
-        ensures utf8 { result ≡ true → IsUtf8 (take amount (R.lent self.now.reader.now)) }
+        ensures utf8 { result ≡ true → IsUtf8 (take amount (R.buffer_of self.now.reader.now)) }
     {
         self.bytes.capacity() == 0 && lends_text(self.reader, amount, ascii)
     }
@@ -85,16 +85,16 @@ impl<R: AsyncBufRead, A: Allocator + Copy> ReadLineFuture<'_, R, A> {
     fn append_line(&mut self, amount: usize) -> io::Result<usize>
         requires held { LineHolds self.old }
         requires none { vec_capacity self.old.bytes ≡ 0 }
-        requires within { amount ≤ length (R.lent self.old.reader.now) }
-        requires utf8 { IsUtf8 (take amount (R.lent self.old.reader.now)) }
+        requires within { amount ≤ length (R.buffer_of self.old.reader.now) }
+        requires utf8 { IsUtf8 (take amount (R.buffer_of self.old.reader.now)) }
         ensures held { LineHolds self.new }
         ensures stays { TextStays line_over self.old self.new }
         ensures none { (self.old.bytes.items ≡ []) × (self.new.bytes.items ≡ []) }
         ensures value { IfOk result (λ n. n ≡ amount) }
         ensures ok { IfOk result (λ n. string_bytes self.new.text.now
-            ≡ string_bytes self.old.text.now ++ take amount (R.lent self.old.reader.now)) }
+            ≡ string_bytes self.old.text.now ++ take amount (R.buffer_of self.old.reader.now)) }
         ensures taken { IfOk result (λ n. R.reads self.old.reader.now
-            (bytes (take amount (R.lent self.old.reader.now))) self.new.reader.now) }
+            (bytes (take amount (R.buffer_of self.old.reader.now))) self.new.reader.now) }
         ensures refused { IfErr result (λ e. error_kind e ≡ OutOfMemory) }
         ensures full { IfErr result (λ e. room_for self.old.text.now self.old.bytes < amount) }
         ensures unread { IfErr result (λ e. self.new.reader.now ≡ self.old.reader.now) }
@@ -127,7 +127,7 @@ impl<R: AsyncBufRead, A: Allocator + Copy> ReadLineFuture<'_, R, A> {
 
 // Returns how many bytes are in the buffer of a reader.
 fn lent_by<R: AsyncBufRead>(reader: &R) -> usize
-    ensures { result ≡ length (R.lent reader.now) }
+    ensures { result ≡ length (R.buffer_of reader.now) }
 {
     reader.buffer().len()
 }
@@ -138,7 +138,7 @@ impl<R: AsyncBufRead + CountedRead, A: Allocator + Copy> PollSteps for ReadLineF
     ghost can_step = { λ x. R.ranks.counts x.reader.now × LineHolds x };
 
     ghost step = { OneStep (TakesTextIn line_over (read_line_fold (λ _. ⊤)) R.reads)
-        (AnswersTextByRoom line_over read_line_fold (LineLacksMemory R.lent) R.reads) };
+        (AnswersTextByRoom line_over read_line_fold (LineLacksMemory R.buffer_of) R.reads) };
 
     ghost step_registers = { λ x. R.registers x.reader.now };
 
@@ -178,11 +178,11 @@ impl<R: AsyncBufRead + CountedRead, A: Allocator + Copy> Future for ReadLineFutu
 
     ghost can_poll = { λ x. R.ranks.counts x.reader.now × LineHolds x };
 
-    ghost run = { ReadsLineByRoom R.lent R.reads };
+    ghost run = { ReadsLineByRoom R.buffer_of R.reads };
 
     ghost registers = { λ x. R.registers x.reader.now };
 
-    ghost laws = { text_room_laws (line_room R.lent) R.read_laws R.counting };
+    ghost laws = { text_room_laws (line_room R.buffer_of) R.read_laws R.counting };
 
     fn poll(&mut self, cx: &mut Context<'_>) -> Poll<io::Result<usize>> {
         drive(self, cx)

@@ -34,7 +34,7 @@ impl<R: AsyncBufRead + CountedRead> PollSteps for ReadUntilFuture<'_, R> {
 
     ghost can_step = { λ x. R.ranks.counts x.reader.now × (x.start ≤ length x.buf.now.items) };
 
-    ghost step = { OneStep (AppendsMore R.reads ⊤) (λ x a y. ReadsUntil R.reads (UntilLacksRoom R.lent x y) x (a ∷ []) y) };
+    ghost step = { OneStep (AppendsMore R.reads ⊤) (λ x a y. ReadsUntil R.reads (UntilLacksRoom R.buffer_of x y) x (a ∷ []) y) };
 
     ghost step_registers = { λ x. R.registers x.reader.now };
 
@@ -70,11 +70,11 @@ impl<R: AsyncBufRead + CountedRead> Future for ReadUntilFuture<'_, R> {
 
     ghost can_poll = { λ x. R.ranks.counts x.reader.now × (x.start ≤ length x.buf.now.items) };
 
-    ghost run = { ReadsUntilByRoom R.reads R.lent };
+    ghost run = { ReadsUntilByRoom R.reads R.buffer_of };
 
     ghost registers = { λ x. R.registers x.reader.now };
 
-    ghost laws = { until_room_laws R.lent R.read_laws R.counting };
+    ghost laws = { until_room_laws R.buffer_of R.read_laws R.counting };
 
     fn poll(&mut self, cx: &mut Context<'_>) -> Poll<io::Result<usize>> {
         drive(self, cx)
@@ -90,7 +90,7 @@ impl<R: AsyncBufRead + CountedRead + SteadyRead> SteadyFuture for ReadUntilFutur
 
     ghost alike = { UntilAlike R.alike };
 
-    ghost steady = { until_steady R.lent R.steady };
+    ghost steady = { until_steady R.buffer_of R.steady };
 }
 
 impl<R: AsyncBufRead + CountedRead + CalmRead> CalmFuture for ReadUntilFuture<'_, R> {

@@ -35,9 +35,9 @@ pub struct Split<R> {
 impl<R: AsyncBufRead> Split<R> {
     // Returns the piece before the delimiter at `at`, and consumes both.
     fn cut(&mut self, at: usize) -> io::Result<Vec<u8>>
-        requires { at < length (R.lent self.old.reader) }
-        ensures ok { IfOk result (λ v. IsVec (self.old.held.items ++ take at (R.lent self.old.reader)) result
-            × R.reads self.old.reader (bytes (take (at + 1) (R.lent self.old.reader))) self.new.reader
+        requires { at < length (R.buffer_of self.old.reader) }
+        ensures ok { IfOk result (λ v. IsVec (self.old.held.items ++ take at (R.buffer_of self.old.reader)) result
+            × R.reads self.old.reader (bytes (take (at + 1) (R.buffer_of self.old.reader))) self.new.reader
             × (self.new.held.items ≡ [])) }
         ensures err { IfErr result
             (λ e. (error_kind e ≡ OutOfMemory) × (self.new.reader ≡ self.old.reader)
@@ -53,11 +53,11 @@ impl<R: AsyncBufRead> Split<R> {
 
     // Takes in all bytes that are there.
     fn take_in(&mut self) -> io::Result<()>
-        ensures ok { IfOk result (λ u. self.new.held.items ≡ self.old.held.items ++ R.lent self.old.reader) }
-        ensures taken { IfOk result (λ u. R.reads self.old.reader (bytes (R.lent self.old.reader)) self.new.reader) }
+        ensures ok { IfOk result (λ u. self.new.held.items ≡ self.old.held.items ++ R.buffer_of self.old.reader) }
+        ensures taken { IfOk result (λ u. R.reads self.old.reader (bytes (R.buffer_of self.old.reader)) self.new.reader) }
         ensures refused { IfErr result (λ e. error_kind e ≡ OutOfMemory) }
         ensures full { IfErr result (λ e. vec_capacity self.old.held
-            < length self.old.held.items + length (R.lent self.old.reader)) }
+            < length self.old.held.items + length (R.buffer_of self.old.reader)) }
         ensures room { vec_capacity self.old.held ≤ vec_capacity self.new.held }
         ensures unread { IfErr result (λ e. self.new.reader ≡ self.old.reader) }
         ensures held { IfErr result (λ e. self.new.held.items ≡ self.old.held.items) }
@@ -91,7 +91,7 @@ impl<R: AsyncBufRead + CountedRead> PollSteps for Split<R> {
     ghost can_step = { λ x. R.ranks.counts x.reader };
 
     ghost step = { OneStep (TakesPieceIn split_over (splitting ⊤) R.reads)
-        (λ x a y. Splits R.reads (PieceLacksRoom R.lent x y) x (a ∷ []) y) };
+        (λ x a y. Splits R.reads (PieceLacksRoom R.buffer_of x y) x (a ∷ []) y) };
 
     ghost step_registers = { λ x. R.registers x.reader };
 
@@ -138,7 +138,7 @@ impl<R: AsyncBufRead + CountedRead> Stream for Split<R> {
         ensures context { Keeps cx.old cx.new }
 
         // Memory is refused only if the buffer had no room for the bytes of the piece that are there.
-        ensures full { Splits R.reads (PieceLacksRoom R.lent self.old self.new) self.old (result ∷ []) self.new }
+        ensures full { Splits R.reads (PieceLacksRoom R.buffer_of self.old self.new) self.old (result ∷ []) self.new }
     {
         drive(self, cx)
     }

@@ -1,6 +1,6 @@
 -- What a `read_until` of the first bytes of a reader was told is told of the reader.
 use Rattle.std.specs.Prelude.{IfErr, IfOk, ◌≡◌, ◌<◌, ◌+◌, ◌-◌, ℕ, zero, suc, List, [], ◌∷◌, ◌++◌, length, Result, Ok, Err}
-use Rattle.lite_theorems.specs.Uses.{◌∙◌, ap, append-nil, arith, inl, inr, refl, subst, sym, take, Error, ErrorKind, Lent, LimitEnds, MutBor, ReadMark, Runs, Take, TakesMarks}
+use Rattle.lite_theorems.specs.Uses.{◌∙◌, ap, append-nil, arith, inl, inr, refl, subst, sym, take, Error, ErrorKind, Lent, LimitEnds, MutBor, ReadMark, Runs, Take, ReadsWithin}
 use Rattle.lite_theorems.specs.Uses.{WithinLimit, bytes, strip_marks, strip_marks-append}
 use Rattle.lite_theorems.specs.Told.{VectorLacksRoom, PieceTold, PieceWithin, ToldStripped}
 use Rattle.lite_theorems.proofs.Waited.{LacksBy, ToldByUntil}
@@ -102,14 +102,14 @@ module _ (lacks : ℕ → Type 0) (limit rest at : ℕ) (xs : List ℕ) (m : Lis
 
 -- What was told through a `Take` of a reader that is lent.
 module _ {S : Type 0} (reads : Runs ReadMark S) (x y : Take (MutBor S)) (at : ℕ) where
-  cut_of : (l : List ReadMark) (told : ToldStripped (TakesMarks (Lent reads)) x l y)
+  cut_of : (l : List ReadMark) (told : ToldStripped (ReadsWithin (Lent reads)) x l y)
       → l ≡ strip_marks told.1.front ++ told.1.ends
   cut_of l (told, ran, is) =
       sym is ∙ ap strip_marks ran.cut ∙ strip_marks-append ran.front ran.ends
       ∙ ap (λ k. strip_marks ran.front ++ k) (ends_stripped y.limit ran.ends ran.used_up)
 
   piece_of_taken : (lacks : ℕ → Type 0) (xs : List ℕ) (l : List ReadMark) (v : Result ℕ Error)
-      → ToldStripped (TakesMarks (Lent reads)) x l y → PieceTold (lacks y.limit) at xs l v
+      → ToldStripped (ReadsWithin (Lent reads)) x l y → PieceTold (lacks y.limit) at xs l v
       → (m : List ReadMark) × ToldStripped reads x.inner.now m y.inner.now
       × PieceWithin (lacks (x.limit - length xs)) x.limit at xs m v
   piece_of_taken lacks xs l v (told, ran, is) piece =
@@ -120,18 +120,18 @@ module _ {S : Type 0} (reads : Runs ReadMark S) (x y : Take (MutBor S)) (at : �
             (subst (λ k. PieceTold (lacks y.limit) at xs k v) (cut_of l (told, ran, is)) piece),
       )
 
-  pub taken_lent : (l : List ReadMark) → ToldStripped (TakesMarks (Lent reads)) x l y → y.inner.ghost_name ≡ x.inner.ghost_name
+  pub taken_lent : (l : List ReadMark) → ToldStripped (ReadsWithin (Lent reads)) x l y → y.inner.ghost_name ≡ x.inner.ghost_name
   taken_lent l (told, ran, is) = ap (λ r. r.ghost_name) ran.ran.1
 
   -- What a wait for a `read_until` of the `Take` was told.
-  module _ (lent : S → List ℕ) (capacity : ℕ) (before after : List ℕ) where
+  module _ (buffer_of : S → List ℕ) (capacity : ℕ) (before after : List ℕ) where
     -- what is lacking if so much is left of the limit
     abbrev pub LacksAt : ℕ → S → Type 0
-    LacksAt left t = VectorLacksRoom at capacity after (take left (lent t))
+    LacksAt left t = VectorLacksRoom at capacity after (take left (buffer_of t))
 
     pub told_of_taken : {E : Type 0} (r : Result (Result ℕ Error) E) (b : MutBor S) (limit : ℕ) (t : S)
         → x.inner ≡ b → x.limit ≡ limit → t ≡ y.inner.now
-        → ToldByUntil (TakesMarks (Lent reads)) at (LacksBy at capacity (λ u. take u.limit (lent u.inner.now))) x before r y after
+        → ToldByUntil (ReadsWithin (Lent reads)) at (LacksBy at capacity (λ u. take u.limit (buffer_of u.inner.now))) x before r y after
         → (m : List ReadMark) × (xs : List ℕ) × ToldStripped reads b.now m t × (after ≡ before ++ xs)
         × IfOk r (λ v. PieceWithin (LacksAt (limit - length xs) t) limit at xs m v) × IfErr r (λ _. (m ≡ []) × (xs ≡ []))
     told_of_taken (Ok v) b limit t inner is left (l, xs, told, appended, piece, none) =

@@ -1,7 +1,7 @@
 -- What the answers of `lines` say of the lines that are told.
 use Rattle.std.specs.Prelude.{⊤, string_bytes, ◌≡◌, ◌≢◌, ◌==◌, ℕ, List, [], ◌∷◌, ◌++◌, Some, None, Result, Ok, Err, Bool, true, false}
 use Rattle.lite_theorems.specs.Uses.{◌∙◌, inl, inr, Option, Global, arith, refl, ap, sym, subst, append_assoc, error_kind, FoldsTo, Error}
-use Rattle.lite_theorems.specs.Uses.{OutOfMemory, String, Ready, Pending, Answer, segment_front, ReadMark, bytes, lining, Cut, PieceSegments}
+use Rattle.lite_theorems.specs.Uses.{OutOfMemory, String, Ready, Pending, Answer, segment_front, ReadMark, bytes, line_fold, Cut, PieceSegments}
 use Rattle.lite_theorems.specs.Uses.{without_return}
 use Rattle.lite_read.specs.LineText.{IsText}
 use Rattle.std.proofs.Common.{eqb-true}
@@ -27,13 +27,13 @@ not_true false n = refl
 other_byte : (b : ℕ) → b ≢ 10 → (b == 10) ≡ false
 other_byte b n = not_true (b == 10) (λ e. n (eqb-true b 10 e))
 
-taken_in : (p q xs : List ℕ) (l : List ReadMark) → FoldsTo (lining ⊤ tt).takes p xs q
+taken_in : (p q xs : List ℕ) (l : List ReadMark) → FoldsTo (line_fold ⊤ tt).takes p xs q
     → lines_told p (bytes xs ++ l) ≡ lines_told q l
 taken_in p q [] l f = rw f refl
 taken_in p q (x ∷ xs) l f =
     let here : lines_told p (ReadMark.byte x ∷ (bytes xs ++ l)) ≡ lines_told (p ++ x ∷ []) (bytes xs ++ l) =
     (rw (other_byte x f.1.0) refl) in
-    here ∙ taken_in (p ++ x ∷ []) q xs l (subst (λ m. FoldsTo (lining ⊤ tt).takes m xs q) f.1.1 f.2)
+    here ∙ taken_in (p ++ x ∷ []) q xs l (subst (λ m. FoldsTo (line_fold ⊤ tt).takes m xs q) f.1.1 f.2)
 
 refused : (e : Error) (l : List Line) → error_kind e ≡ OutOfMemory → StandsFor e l
 refused e [] is = is
@@ -47,7 +47,7 @@ line_given xs (Ok text) ins l is g = (l, rw is refl, g)
 line_given xs (Err e) ins l is g = inr is
 
 cut_given : (p q : List ℕ) (last : List ReadMark) (r : Option Text) (ins : List (Answer Text)) (l : List ReadMark)
-    → (lining ⊤ tt).gives p last r q
+    → (line_fold ⊤ tt).gives p last r q
     → Given ins (lines_told q l)
     → Given (Ready r ∷ ins) (lines_told p (last ++ l))
 cut_given p q last (Some r) ins l (Cut.piece xs, is, becomes) g =
@@ -64,7 +64,7 @@ cut_given p q last (Some r) ins l (Cut.failed e, inr is, becomes) g =
     rw becomes.0 (refused e (lines_told p (last ++ l)) is.2)
 cut_given p q last r ins l (cut, is, becomes) g = absurd becomes
 
-pub given : (p q : List ℕ) (ms : List ReadMark) (ins : List (Answer Text)) → PieceSegments (lining ⊤ tt) p ms ins q
+pub given : (p q : List ℕ) (ms : List ReadMark) (ins : List (Answer Text)) → PieceSegments (line_fold ⊤ tt) p ms ins q
     → (l : List ReadMark)
     → Given ins (lines_told p (ms ++ l))
 given p q ms [] h l = tt

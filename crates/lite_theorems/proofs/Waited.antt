@@ -192,7 +192,7 @@ ToldByUntil reads at lacks s before r t ts =
 
 -- the vector had so much room, and what the reader has at hand is too much for it
 abbrev pub LacksBy : {S : Type 0} → ℕ → ℕ → (S → List ℕ) → List ℕ → S → Type 0
-LacksBy at capacity lent ts t = VectorLacksRoom at capacity ts (lent t)
+LacksBy at capacity buffer_of ts t = VectorLacksRoom at capacity ts (buffer_of t)
 
 module _ {S E : Type 0} {reads : Runs ReadMark S} (laws : MarkLaws reads) where
   -- `read`: what was told, and the references
@@ -218,14 +218,14 @@ module _ {S E : Type 0} {reads : Runs ReadMark S} (laws : MarkLaws reads) where
   exact_waited x y (Err e) begun w = rw w.1 ((([], told_none laws x.reader.now, tt, refl), refl), (refl, refl))
 
   -- `read_until` likewise
-  pub until_waited : (lent : S → List ℕ) (x y : ReadUntilFuture S) (r : Result (Result ℕ Error) E)
-      → x.start ≡ length x.buf.now.items → WaitedFor (ReadsUntilByRoom reads lent) x r y
-      → ToldByUntil reads x.byte (LacksBy x.byte (vec_capacity x.buf.now) lent) x.reader.now x.buf.now.items r
+  pub until_waited : (buffer_of : S → List ℕ) (x y : ReadUntilFuture S) (r : Result (Result ℕ Error) E)
+      → x.start ≡ length x.buf.now.items → WaitedFor (ReadsUntilByRoom reads buffer_of) x r y
+      → ToldByUntil reads x.byte (LacksBy x.byte (vec_capacity x.buf.now) buffer_of) x.reader.now x.buf.now.items r
       y.reader.now y.buf.now.items
       × SameTwo y.reader y.buf x.reader x.buf
-  until_waited lent x y (Ok v) begun w =
+  until_waited buffer_of x y (Ok v) begun w =
       let h = w.0.2.gathered in
-      let m = UntilLacksRoom lent x y in
+      let m = UntilLacksRoom buffer_of x y in
       let old = x.buf.now.items in
       let new = y.buf.now.items in
       let told = gathers_told h (λ p q l v h. no_wait_cut x.byte m p l h.0 h.1) w.0.1 in
@@ -239,7 +239,7 @@ module _ {S E : Type 0} {reads : Runs ReadMark S} (laws : MarkLaws reads) where
         (told.0, xs, told.1, whole, piece, tt),
         (ap (λ z. z.ghost_name) h.stays.reader, ap (λ z. z.ghost_name) h.stays.buf),
       )
-  until_waited lent x y (Err e) begun w =
+  until_waited buffer_of x y (Err e) begun w =
       rw w.1 (([], [], told_none laws x.reader.now, sym (append-nil x.buf.now.items), tt, (refl, refl)), (refl, refl))
 
 -- what is told of two values is told of values that equal them

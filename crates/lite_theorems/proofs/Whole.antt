@@ -9,13 +9,13 @@ use Rattle.lite_buffered.specs.Laws.BufWriter.{segments_done}
 use Rattle.lite_write.specs.Copy.{CopyValue}
 use Rattle.lite_write.specs.Laws.Copy.{ok_value}
 use Rattle.lite_write.specs.Parts.{held_of, met_in}
-use Rattle.lite_theorems.specs.Chained.{CopiesBoth, CopiesWhole, TakesWhole, TellsRest, TellsWhole}
+use Rattle.lite_theorems.specs.Chained.{CopiesBoth, CopiesWhole, WritesWhole, ReadsRest, ReadsWhole}
 use Rattle.lite_theorems.specs.Laws.Chained.{tells_both}
 
 -- a buffered writer that took some bytes and then was flushed
 buffered_whole : {W : Type 0} (writes : Runs WriteMark W) (x y : BufWriter W) (out : List WriteMark)
     → Buffers writes x (out ++ WriteMark.flushed ∷ []) y
-    → TakesWhole writes (writer_inner x) (unwritten x ++ bytes_taken out) (writer_inner y) × (unwritten y ≡ [])
+    → WritesWhole writes (writer_inner x) (unwritten x ++ bytes_taken out) (writer_inner y) × (unwritten y ≡ [])
 buffered_whole writes x y out h =
     let last = segments_done (unwritten x) (unwritten y) h.taken out WriteMark.flushed tt h.segments in
     let told : bytes_taken (out ++ WriteMark.flushed ∷ []) ≡ bytes_taken out = taken_both out (WriteMark.flushed ∷ [])
@@ -69,7 +69,7 @@ module _ {R W : Type 0} (reads : Runs ReadMark R) (writes : Runs WriteMark W) wh
         all = bytes_told read;
         told = record { told = read; goes_on = c.reading.goes_on; all = refl; came = came };
         took = subst
-            (λ l. TakesWhole writes (writer_inner f.writer.now) (unwritten f.writer.now ++ l)
+            (λ l. WritesWhole writes (writer_inner f.writer.now) (unwritten f.writer.now ++ l)
             (writer_inner y.writer.now)) (sym moved) took.0;
         empty = took.1;
         count = value.4 ∙ m.counted ∙ ap (λ k. k % 2 ^ 64) count;
@@ -96,14 +96,14 @@ module _ {R S W : Type 0} (first : Runs ReadMark R) (second : Runs ReadMark S) (
   copied_both c s t w y n one two fresh h =
       let both = tells_both first second fl c (source_of y) h.all h.told in
       let from = subst
-      (λ b. TellsRest b first (first_of c) both.firsts (first_of (source_of y))) fresh both.first_told in
+      (λ b. ReadsRest b first (first_of c) both.firsts (first_of (source_of y))) fresh both.first_told in
       record {
         firsts = both.firsts;
         seconds = both.seconds;
-        first_told = subst (λ v. TellsWhole first v both.firsts (first_of (source_of y))) one from;
-        second_told = subst (λ v. TellsWhole second v both.seconds (second_of (source_of y))) two both.second_told;
+        first_told = subst (λ v. ReadsWhole first v both.firsts (first_of (source_of y))) one from;
+        second_told = subst (λ v. ReadsWhole second v both.seconds (second_of (source_of y))) two both.second_told;
         took = subst
-            (λ l. TakesWhole writes (writer_inner w) (unwritten w ++ l) (writer_inner y.writer.now)) both.all h.took;
+            (λ l. WritesWhole writes (writer_inner w) (unwritten w ++ l) (writer_inner y.writer.now)) both.all h.took;
         empty = h.empty;
         count = h.count ∙ ap (λ (l : List ℕ). length l % 2 ^ 64) both.all;
       }

@@ -4,14 +4,14 @@ use Rattle.lite_theorems.specs.Uses.{Runs, unwritten, writer_inner, BufWriter, f
 use Rattle.lite_theorems.specs.Uses.{BytesAlone, bytes_told, source_of, CopyFuture, MutBor}
 
 -- The reader produced the bytes `xs`, with `Pending`s among them, and then its first end of file.
-pub record TellsWhole {R : Type 0} (reads : Runs ReadMark R) (x : R) (xs : List ℕ) (y : R) : Type 0 where
+pub record ReadsWhole {R : Type 0} (reads : Runs ReadMark R) (x : R) (xs : List ℕ) (y : R) : Type 0 where
   pub told : List ReadMark
   pub goes_on : BytesAlone told
   pub all : bytes_told told ≡ xs
   pub came : reads x (told ++ ReadMark.end ∷ []) y
 
 -- The writer took the bytes `xs`, and was flushed after them.
-pub record TakesWhole {W : Type 0} (writes : Runs WriteMark W) (x : W) (xs : List ℕ) (y : W) : Type 0 where
+pub record WritesWhole {W : Type 0} (writes : Runs WriteMark W) (x : W) (xs : List ℕ) (y : W) : Type 0 where
   pub taken : List WriteMark
   pub all : bytes_taken taken ≡ xs
   pub went : writes x (taken ++ WriteMark.flushed ∷ []) y
@@ -22,23 +22,23 @@ pub record CopiesWhole {R W : Type 0} (reads : Runs ReadMark R) (writes : Runs W
     (y : CopyFuture R (MutBor (BufWriter W)))
     (n : ℕ) : Type 0 where
   pub all : List ℕ
-  pub told : TellsWhole reads r all (source_of y)
-  pub took : TakesWhole writes (writer_inner w) (unwritten w ++ all) (writer_inner y.writer.now)
+  pub told : ReadsWhole reads r all (source_of y)
+  pub took : WritesWhole writes (writer_inner w) (unwritten w ++ all) (writer_inner y.writer.now)
   pub empty : unwritten y.writer.now ≡ []
   pub count : n ≡ length all % 2 ^ 64
 
 -- If the reader had ended before, it is not read and produces nothing. Otherwise it produces the bytes `xs` whole.
-abbrev pub TellsRest : {R : Type 0} → Bool → Runs ReadMark R → Runs ℕ R
-TellsRest true reads x xs y = (xs ≡ []) × (y ≡ x)
-TellsRest false reads x xs y = TellsWhole reads x xs y
+abbrev pub ReadsRest : {R : Type 0} → Bool → Runs ReadMark R → Runs ℕ R
+ReadsRest true reads x xs y = (xs ≡ []) × (y ≡ x)
+ReadsRest false reads x xs y = ReadsWhole reads x xs y
 
 -- A chain produced the bytes `xs`: all that was left of its first reader, and then all of its second reader.
-pub record TellsBoth {R S : Type 0} (first : Runs ReadMark R) (second : Runs ReadMark S) (x : Chain R S) (xs : List ℕ)
+pub record ReadsBoth {R S : Type 0} (first : Runs ReadMark R) (second : Runs ReadMark S) (x : Chain R S) (xs : List ℕ)
     (y : Chain R S) : Type 0 where
   pub firsts : List ℕ
   pub seconds : List ℕ
-  pub first_told : TellsRest (has_ended x) first (first_of x) firsts (first_of y)
-  pub second_told : TellsWhole second (second_of x) seconds (second_of y)
+  pub first_told : ReadsRest (has_ended x) first (first_of x) firsts (first_of y)
+  pub second_told : ReadsWhole second (second_of x) seconds (second_of y)
   pub all : xs ≡ firsts ++ seconds
 
 -- As `CopiesWhole`, from two readers, one after the other.
@@ -47,8 +47,8 @@ pub record CopiesBoth {R S W : Type 0} (first : Runs ReadMark R) (second : Runs 
     (y : CopyFuture (Chain R S) (MutBor (BufWriter W))) (n : ℕ) : Type 0 where
   pub firsts : List ℕ
   pub seconds : List ℕ
-  pub first_told : TellsWhole first r firsts (first_of (source_of y))
-  pub second_told : TellsWhole second s seconds (second_of (source_of y))
-  pub took : TakesWhole writes (writer_inner w) (unwritten w ++ (firsts ++ seconds)) (writer_inner y.writer.now)
+  pub first_told : ReadsWhole first r firsts (first_of (source_of y))
+  pub second_told : ReadsWhole second s seconds (second_of (source_of y))
+  pub took : WritesWhole writes (writer_inner w) (unwritten w ++ (firsts ++ seconds)) (writer_inner y.writer.now)
   pub empty : unwritten y.writer.now ≡ []
   pub count : n ≡ length (firsts ++ seconds) % 2 ^ 64

@@ -39,9 +39,9 @@ pub record EndsAtFirst (at : ℕ) (xs : List ℕ) : Type 0 where
   pub without : Without at before
   pub whole : xs ≡ before ++ at ∷ []
 
--- A vector of the capacity `capacity` is too small for `items` and then the bytes `lent` through the byte `at`.
+-- A vector of the capacity `capacity` is too small for `items` and then the bytes `buffer_of` through the byte `at`.
 abbrev pub VectorLacksRoom : ℕ → ℕ → List ℕ → List ℕ → Type 0
-VectorLacksRoom at capacity items lent = capacity < length items + length (through_first at lent)
+VectorLacksRoom at capacity items buffer_of = capacity < length items + length (through_first at buffer_of)
 
 -- What `read_until` read when it appended the bytes `xs`: a piece with its delimiter, or bytes without it before the
 -- end of file. The value is their number. If it is an error, the bytes have no delimiter, and the error came after

@@ -12,10 +12,10 @@ pub use Rattle.lite_base.specs.Rank.{Lowers}
 pub use Rattle.lite_base.specs.Ranks.{Ranks, number_ranks}
 pub use Rattle.lite_base.specs.Runs.{NoHint, Runs}
 pub use Rattle.lite_base.specs.StreamLaws.{StreamLaws}
-pub use Rattle.lite_buffered.specs.BufReader.{ahead, reader_capacity}
+pub use Rattle.lite_buffered.specs.BufReader.{bytes_ahead, reader_capacity}
 pub use Rattle.lite_buffered.specs.BufWriter.{Buffers, unwritten, writer_inner}
 pub use Rattle.lite_buffered.specs.Chain.{ChainsReaders, first_of, has_ended, second_of}
-pub use Rattle.lite_buffered.specs.Take.{LimitEnds, TakesMarks, WithinLimit, take_inner}
+pub use Rattle.lite_buffered.specs.Take.{LimitEnds, ReadsWithin, WithinLimit, take_inner}
 pub use Rattle.lite_buffered.specs.declared.buf_writer.BufWriter.{BufWriter}
 pub use Rattle.lite_buffered.specs.declared.chain.Chain.{Chain}
 pub use Rattle.lite_buffered.specs.declared.take.Take.{Take}
@@ -34,17 +34,17 @@ pub use Rattle.lite_io_base.specs.Counting.{ReadCounting}
 pub use Rattle.lite_io_base.specs.Falls.{Falls}
 pub use Rattle.lite_io_base.specs.Laws.Steady.{strip_marks-append}
 pub use Rattle.lite_io_base.specs.Laws.Steps.{steps_laws}
-pub use Rattle.lite_io_base.specs.Laws.Takings.{taken_both}
-pub use Rattle.lite_io_base.specs.Marks.{ReadMark, bytes, given, moved, read_marks}
+pub use Rattle.lite_io_base.specs.Laws.WriteMarks.{taken_both}
+pub use Rattle.lite_io_base.specs.Marks.{ReadMark, bytes, given_count, moved_marks, read_marks}
 pub use Rattle.lite_io_base.specs.Runs.{MarkLaws, StandsFirst}
 pub use Rattle.lite_io_base.specs.Steady.{NoPendingRead, strip_marks}
 pub use Rattle.lite_io_base.specs.Steps.{Steps}
-pub use Rattle.lite_io_base.specs.Takings.{WriteMark, bytes_taken}
+pub use Rattle.lite_io_base.specs.WriteMarks.{WriteMark, bytes_taken}
 pub use Rattle.lite_merge.specs.declared.or.Or.{Or}
 pub use Rattle.lite_merge.specs.declared.race.Race.{Race}
 pub use Rattle.lite_read.specs.Deterministic.{SameByKind}
 pub use Rattle.lite_read.specs.LineText.{without_return}
-pub use Rattle.lite_read.specs.Lines.{lining}
+pub use Rattle.lite_read.specs.Lines.{line_fold}
 pub use Rattle.lite_read.specs.Pieces.{Cut}
 pub use Rattle.lite_read.specs.Polled.{PolledByCalls}
 pub use Rattle.lite_read.specs.ReadToEnd.{Appended, next_read}

@@ -1,5 +1,5 @@
 ghost use Rattle.std.specs.Prelude.{◌≡◌, ◌<◌, [], IfErr, IfOk};
-ghost use Rattle.lite_theorems.specs.Uses.{ahead, reader_capacity, take_inner};
+ghost use Rattle.lite_theorems.specs.Uses.{bytes_ahead, reader_capacity, take_inner};
 ghost use Rattle.lite_buffered.specs.BufReader.{reader_inner};
 ghost use Rattle.lite_theorems.specs.Lines.{AtEachValue, CollectsLines};
 
@@ -104,7 +104,7 @@ where
     C: Gather<String, Alloc: Drop>,
     ensures lines { 0 < reader_capacity reader
         → AtEachValue ⟦<CollectLinesFuture<R, C> as Future>⟧.run result
-        (CollectsLines R.reads C.holds (ahead reader) (reader_inner reader) limit) }
+        (CollectsLines R.reads C.holds (bytes_ahead reader) (reader_inner reader) limit) }
     ensures pollable { R.ranks.counts (reader_inner reader) → R.ranks.firm (reader_inner reader)
         → ⟦<CollectLinesFuture<R, C> as Future>⟧.can_poll result }
     ensures reader { take_inner result.stream.reader ≡ reader }

@@ -120,7 +120,7 @@ pub fn wait_read_until<R: Wait, T: AsyncBufRead + CountedRead>(
     requires { T.ranks.counts reader.old }
     ensures told { (l : List ReadMark) × (xs : List ℕ) × ToldStripped T.reads reader.old l reader.new
         × (buf.new.items ≡ buf.old.items ++ xs)
-        × IfOk result (λ v. PieceTold (VectorLacksRoom byte (vec_capacity buf.old) buf.new.items (T.lent reader.new)) byte xs l v)
+        × IfOk result (λ v. PieceTold (VectorLacksRoom byte (vec_capacity buf.old) buf.new.items (T.buffer_of reader.new)) byte xs l v)
         × IfErr result (λ _. (l ≡ []) × (xs ≡ [])) }
     ensures again { T.ranks.counts reader.new }
     ensures waited { IsOk result }
@@ -139,7 +139,7 @@ pub(crate) fn read_until_by<R: Wait, T: AsyncBufRead + CountedRead>(
     requires { T.ranks.counts reader.old }
     ensures told { (l : List ReadMark) × (xs : List ℕ) × ToldStripped T.reads reader.old l reader.new
         × (buf.new.items ≡ buf.old.items ++ xs)
-        × PieceTold (VectorLacksRoom byte (vec_capacity buf.old) buf.new.items (T.lent reader.new)) byte xs l result }
+        × PieceTold (VectorLacksRoom byte (vec_capacity buf.old) buf.new.items (T.buffer_of reader.new)) byte xs l result }
     ensures again { T.ranks.counts reader.new }
 {
     waits.wait_for(rt, &mut read_until(reader, byte, buf))
@@ -182,7 +182,7 @@ pub fn wait_read_until_limited<R: Wait, T: AsyncBufRead + CountedRead>(
     ensures told { (l : List ReadMark) × (xs : List ℕ) × ToldStripped T.reads reader.old l reader.new
         × (buf.new.items ≡ buf.old.items ++ xs)
         × IfOk result (λ v. PieceWithin (VectorLacksRoom byte (vec_capacity buf.old) buf.new.items
-        (take (limit - length xs) (T.lent reader.new))) limit byte xs l v)
+        (take (limit - length xs) (T.buffer_of reader.new))) limit byte xs l v)
         × IfErr result (λ _. (l ≡ []) × (xs ≡ [])) }
     ensures again { T.ranks.counts reader.new }
     ensures waited { IsOk result }

@@ -1,7 +1,7 @@
 -- The value of `any`, by the items of the stream.
 use Rattle.std.specs.Prelude.{◌≡◌, List, Bool, true, false}
 use Rattle.lite_views.specs.Uses.{Question, fold_of}
-use Rattle.lite_consume.specs.Any.{anys}
+use Rattle.lite_consume.specs.Any.{any_fold}
 use Rattle.lite_consume.specs.declared.any.Any.{Any}
 use Rattle.std.specs.List.{list_any}
 use Rattle.lite_views.proofs.Views.{AnswersAs}
@@ -9,8 +9,8 @@ use Rattle.lite_views.proofs.Consume.{MakesOnly, asked_made}
 
 module _ {F A : Type 0} (asked : Question F A Bool) (f : F) (test : A → Bool)
     (acts : AnswersAs asked f test) where
-  pub any_made : (p : Any F) (xs : List A) → p.predicate ≡ f → MakesOnly (fold_of (λ m. m.predicate) (anys asked)) p xs
+  pub any_made : (p : Any F) (xs : List A) → p.predicate ≡ f → MakesOnly (fold_of (λ m. m.predicate) (any_fold asked)) p xs
       (list_any test xs)
   any_made =
-      asked_made (fold_of (λ m. m.predicate) (anys asked)) (λ m. m.predicate) asked f test acts _ (λ p q r s. s.0)
+      asked_made (fold_of (λ m. m.predicate) (any_fold asked)) (λ m. m.predicate) asked f test acts _ (λ p q r s. s.0)
       (λ p q x xs s. (false, s, λ e. rw e)) (λ p q x r xs s. (true, s.1, λ e. rw (e, s.0)))

@@ -1,7 +1,7 @@
 -- `copy` from a reader of which it is known what bytes are to come, to a writer of which it is known what it keeps.
 use Rattle.std.specs.Prelude.{◌≡◌, ◌%◌, ℕ, List, [], ◌∷◌, ◌++◌, refl, ⊤, Result, Ok, Err, IfOk}
 use Rattle.std.proofs.Common.{◌+◌, ◌^◌}
-use Rattle.lite_views.specs.Uses.{◌∙◌, length, ap, sym, arith, append-nil, Error, Poll, Ready, Pending, Gives, Runs, Known, Knows, TellsKnown}
+use Rattle.lite_views.specs.Uses.{◌∙◌, length, ap, sym, arith, append-nil, Error, Poll, Ready, Pending, Gives, Runs, Known, Knows, ReadsKnown}
 use Rattle.lite_views.specs.Uses.{knows_spends, Stored, Stores, stores_kept, ReadMark, WriteMark, bytes_taken}
 use Rattle.lite_base.specs.Answers.{strip}
 use Rattle.lite_write.specs.Copy.{CopyRuns, CopyValue, Moves}
@@ -23,7 +23,7 @@ values_ok : (n total : ℕ) (failed : List ReadMark) (last : List WriteMark) (af
 values_ok n total [] (WriteMark.flushed ∷ []) after met h = (refl, h.0, h.1, h.2)
 values_ok n total failed last after met h = absurd h
 
-told_all : (read : List ReadMark) (bs ys : List ℕ) → BytesAlone read → TellsKnown bs (read ++ ReadMark.end ∷ []) ys
+told_all : (read : List ReadMark) (bs ys : List ℕ) → BytesAlone read → ReadsKnown bs (read ++ ReadMark.end ∷ []) ys
     → bytes_told (read ++ ReadMark.end ∷ []) ≡ bs
 told_all [] bs ys o h = cc
 told_all (ReadMark.byte b ∷ l) bs ys o h = rw h.1 (rw (told_all l h.0 ys o h.2))
@@ -39,7 +39,7 @@ on_each (Err e) p q s to = tt
 module _ {R W : Type 0} (reads : Runs ReadMark R) (writes : Runs WriteMark W) where
   -- all that is to come was taken, where the value is Ok
   all_moved : (x y : CopyFuture R W) (v : Result ℕ Error) (out : List (Poll (Result ℕ Error))) (bs ys held : List ℕ)
-      → NothingCopied x → (m : Moves reads writes x out y) → TellsKnown bs m.told ys → Gives out v
+      → NothingCopied x → (m : Moves reads writes x out y) → ReadsKnown bs m.told ys → Gives out v
       → IfOk v (λ n. (held ++ bytes_taken m.took ≡ held ++ bs) × (n ≡ length bs % 2 ^ 64))
   all_moved x y (Err e) out bs ys held b m s g = tt
   all_moved x y (Ok n) out bs ys held b m s g =

@@ -3,7 +3,7 @@
 use Rattle.std.specs.Prelude.{◌≡◌, ℕ, List, [], ◌∷◌, ◌++◌, ⊤, Result, Ok, Err, IfOk}
 use Rattle.std.proofs.Common.{◌+◌, length-append}
 use Rattle.lite_views.specs.Uses.{length, ap, sym, subst, arith, append_assoc, append-nil, FoldsTo, Error, Poll, Ready, Pending, Gives, to_value_last}
-use Rattle.lite_views.specs.Uses.{Runs, TellsKnown, Known, Knows, spends_bytes, spends_split, knows_spends, ReadMark, bytes, AnswerMarks, ReadFold}
+use Rattle.lite_views.specs.Uses.{Runs, ReadsKnown, Known, Knows, spends_bytes, spends_split, knows_spends, ReadMark, bytes, AnswerMarks, ReadFold}
 use Rattle.lite_views.specs.Uses.{appends}
 use Rattle.lite_base.specs.Laws.Calls.{folds_follow}
 use Rattle.lite_read.specs.ReadFold.{Gathers, ReadFolds}
@@ -35,11 +35,11 @@ pub record TakenUp {M R : Type 0} (fold : ReadFold M R) (p : M) (bs ys : List �
   pub between : M
   pub came : bs ≡ taken ++ rest
   pub folds : FoldsTo fold.takes p taken between
-  pub told : TellsKnown rest last ys
+  pub told : ReadsKnown rest last ys
   pub given : fold.gives between last v q
 
 pub taken_up : {M R : Type 0} (fold : ReadFold M R) (out : List (Poll R)) (v : R) (p q : M) (bs ys : List ℕ)
-    (marks : List ReadMark) → ReadFolds fold p marks out q → TellsKnown bs marks ys → Gives out v
+    (marks : List ReadMark) → ReadFolds fold p marks out q → ReadsKnown bs marks ys → Gives out v
     → TakenUp fold p bs ys v q
 taken_up fold [] v p q bs ys marks g s e = absurd e
 taken_up fold (Pending ∷ out) v p q bs ys marks ((first, rest, m, cut, w, more), up) s e =
@@ -55,7 +55,7 @@ taken_up fold (Pending ∷ out) v p q bs ys marks ((first, rest, m, cut, w, more
           rw (
             append_assoc w.taken next.taken next.rest,
             ← next.came,
-            subst (λ l. TellsKnown one.0 l parts.0) w.given.0 one.2,
+            subst (λ l. ReadsKnown one.0 l parts.0) w.given.0 one.2,
           ) (spends_bytes w.taken bs one.0 one.1);
       folds = folds_follow fold.takes p m next.between w.taken next.taken (rw w.given.2 w.folds) next.folds;
       told = next.told;
@@ -95,7 +95,7 @@ taken_all start [] p q h = rw append-nil (sym h)
 taken_all start (x ∷ xs) p q h = rw (← append_assoc p (x ∷ []) xs, ← h.1) (taken_all start xs h.0 q h.2)
 
 module _ (start n : ℕ) (g bs ys : List ℕ) where
-  at_end : (last : List ReadMark) → Appended ⊤ start g last (Ok n) → TellsKnown bs last ys → (bs ≡ [])
+  at_end : (last : List ReadMark) → Appended ⊤ start g last (Ok n) → ReadsKnown bs last ys → (bs ≡ [])
       × (length g ≡ start + n)
   at_end (ReadMark.end ∷ []) a s = (s.0, a)
   at_end (ReadMark.fault kind ∷ l) a s = absurd s

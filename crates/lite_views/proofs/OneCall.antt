@@ -1,12 +1,12 @@
 -- `read`, `write`, `flush` and `close`, which are polled by calls: what the whole wait did to the reader or the writer.
 use Rattle.std.specs.Prelude.{◌≡◌, ◌≤◌, ◌⊎◌, ℕ, zero, suc, List, [], ◌∷◌, ◌++◌, refl, drop, length, take, Result, Ok, Err, IfOk, ⊤}
-use Rattle.lite_views.specs.Uses.{Error, Gives, Known, Knows, MutBor, Poll, ReadMark, Ready, Pending, Runs, Stored, Stores, TellsKnown, WriteMark}
+use Rattle.lite_views.specs.Uses.{Error, Gives, Known, Knows, MutBor, Poll, ReadMark, Ready, Pending, Runs, Stored, Stores, ReadsKnown, WriteMark}
 use Rattle.lite_views.specs.Uses.{bytes_taken, replicate, knows_spends, spends_bytes, stores_kept, taken_both, ap, append-nil, arith, inl, inr, sym}
 use Rattle.lite_views.specs.Uses.{◌∙◌, drop-append_seam, take-append_seam}
-use Rattle.lite_io_base.specs.Marks.{moved, read_marks}
+use Rattle.lite_io_base.specs.Marks.{moved_marks, read_marks}
 use Rattle.lite_io_base.specs.Runs.{MarkLaws}
 use Rattle.lite_io_base.specs.Stored.{Arrives}
-use Rattle.lite_io_base.specs.Takings.{done_marks, write_marks}
+use Rattle.lite_io_base.specs.WriteMarks.{done_marks, write_marks}
 use Rattle.lite_read.specs.Polled.{PolledByCalls}
 use Rattle.lite_read.specs.Read.{Reads}
 use Rattle.lite_read.specs.declared.read.ReadFuture.{ReadFuture}
@@ -178,23 +178,23 @@ module _ {W E : Type 0} {writes : Runs WriteMark W} (laws : MarkLaws writes) (st
       (λ x y c h. ap (λ f. f.writer.ghost_name) h.stays) x stores
 
 -- `read`
-spends_waits : (n : ℕ) (xs ys : List ℕ) (l : List ReadMark) → TellsKnown xs (replicate n ReadMark.pending ++ l) ys
-    → TellsKnown xs l ys
+spends_waits : (n : ℕ) (xs ys : List ℕ) (l : List ReadMark) → ReadsKnown xs (replicate n ReadMark.pending ++ l) ys
+    → ReadsKnown xs l ys
 spends_waits zero xs ys l h = h
 spends_waits (suc n) xs ys l h = spends_waits n xs ys l h
 
 -- the bytes that were moved into a buffer came first
-moved_first : (room got xs ys : List ℕ) → TellsKnown xs (moved room got) ys → xs ≡ got ++ ys
+moved_first : (room got xs ys : List ℕ) → ReadsKnown xs (moved_marks room got) ys → xs ≡ got ++ ys
 moved_first room (b ∷ got) xs ys h = spends_bytes (b ∷ got) xs ys h
 moved_first (r ∷ room) [] xs ys h = sym h.1
 moved_first [] [] xs ys h = sym h
 
 -- no byte was moved
-moved_none : (room xs ys : List ℕ) → TellsKnown xs (moved room []) ys → (length room ≡ 0) ⊎ (xs ≡ [])
+moved_none : (room xs ys : List ℕ) → ReadsKnown xs (moved_marks room []) ys → (length room ≡ 0) ⊎ (xs ≡ [])
 moved_none (r ∷ room) xs ys h = inr h.0
 moved_none [] xs ys h = inl refl
 
-read_first : (n : ℕ) (buf xs ys : List ℕ) → n ≤ length buf → TellsKnown xs (moved buf (take n buf)) ys
+read_first : (n : ℕ) (buf xs ys : List ℕ) → n ≤ length buf → ReadsKnown xs (moved_marks buf (take n buf)) ys
     → ReadsFront xs (length buf) n buf ys
 read_first n buf xs ys fits told =
     let all = moved_first buf (take n buf) xs ys told in

@@ -7,15 +7,15 @@ use Rattle.std.specs.Prelude.{◌≡◌, ◌+◌, ◌⊎◌, ⊤, List, [], ◌�
 use Rattle.lite_views.specs.Uses.{length, inl, inr, ap, sym, subst, arith, AllByRecursion, Stream, Poll, Ready, Pending, Gives, Waiting, Finishes}
 use Rattle.lite_views.specs.Uses.{Runs, is_first, TryZips, Called, Context, MutBor, Poller, rows_by, TryZip, CallAnswers, FoldsTo}
 use Rattle.lite_base.specs.Future.Calls.{Polled}
-use Rattle.lite_base.specs.Future.Half.{Stands}
+use Rattle.lite_base.specs.Future.Side.{Stands}
 use Rattle.lite_base.specs.Future.Or.{FutureOrs}
 use Rattle.lite_base.specs.Future.Picks.{PickRow, PickRows, Picks}
 use Rattle.lite_base.specs.Future.Race.{FutureRacesOn}
 use Rattle.lite_base.specs.Future.Together.{PairRows}
 use Rattle.lite_base.specs.Future.TryZip.{try_pair}
 use Rattle.lite_base.specs.Laws.Answers.{waiting_not_gives}
-use Rattle.lite_base.specs.declared.future.half.Half.{Half}
-use Rattle.lite_base.specs.declared.future.half.Half.TheVariants.{Asked, Gave, Taken}
+use Rattle.lite_base.specs.declared.future.side.Side.{Side}
+use Rattle.lite_base.specs.declared.future.side.Side.TheVariants.{Asked, Gave, Taken}
 use Rattle.lite_base.specs.declared.future.or.Or.{Or}
 use Rattle.lite_base.specs.declared.future.race.Race.{Race}
 use Rattle.lite_views.specs.Answering.{AtOnce, HasOk, HasValueAs, NeverReady, PickedValue, ReturnedBy}
@@ -199,7 +199,7 @@ pair_ready pair a b (r ∷ i) [] (c ∷ out) u h p q g = absurd h
 
 -- The results that a future with the value a has in the rows.
 module _ {F A R : Type 0} (answer : A → R) (run : Runs (Poll R) F) (f : F) (a : R) where
-  stands_ready : HasValue run f a → (i : List (Poll R)) (p : Half F A) → Stands answer run (Asked f) i p → AllReady a i
+  stands_ready : HasValue run f a → (i : List (Poll R)) (p : Side F A) → Stands answer run (Asked f) i p → AllReady a i
   unfolding HasValue
   stands_ready has i (Asked g) h = waiting_ready a i h.0
   stands_ready has i (Gave v) h =
@@ -210,7 +210,7 @@ module _ {F A R : Type 0} (answer : A → R) (run : Runs (Poll R) F) (f : F) (a 
 
 module _ {F A E : Type 0} (run : Runs (Poll (Result A E)) F) (f : F) (a : Result A E) where
   -- A value that came at once is not an error if there is a row.
-  stands_ok : AtOnce run f a → (i : List (Poll (Result A E))) (p : Half F A) → Stands Ok run (Asked f) i p
+  stands_ok : AtOnce run f a → (i : List (Poll (Result A E))) (p : Side F A) → Stands Ok run (Asked f) i p
       → (i ≡ [] → ⊥) → (v : A) × (a ≡ Ok v)
   unfolding AtOnce HasValue
   stands_ok once [] p h some = absurd (some refl)
@@ -219,14 +219,14 @@ module _ {F A E : Type 0} (run : Runs (Poll (Result A E)) F) (f : F) (a : Result
   stands_ok once (c ∷ i) (Gave v) h some = (v, sym (once_value run f a once h.ins (Ok v) h.finishes))
   stands_ok once (c ∷ i) Taken h some = absurd h
 
-same_asked : {F A : Type 0} (p : Half F A) (f g : F) → p ≡ Asked f → p ≡ Asked g → f ≡ g
+same_asked : {F A : Type 0} (p : Side F A) (f g : F) → p ≡ Asked f → p ≡ Asked g → f ≡ g
 same_asked p f g e d = cc
 
 -- The value of `zip`.
 module _ {F G A B : Type 0} (run : Runs (Poll A) F) (run' : Runs (Poll B) G) (x : Zip F G A B) (f : F) (g : G)
     (asked : x.first ≡ Asked f) (asked' : x.second ≡ Asked g) where
   zip_runs_value : (a : A) (b : B) → HasValue run f a → HasValue run' g b
-      → (p y : Half F A) (q v : Half G B) (ins : List (Poll (A × B))) (u : A × B) → p ≡ Asked f → q ≡ Asked g
+      → (p y : Side F A) (q v : Side G B) (ins : List (Poll (A × B))) (u : A × B) → p ≡ Asked f → q ≡ Asked g
       → Gives ins u → FutureZips run run' p q ins y v → u ≡ (a, b)
   zip_runs_value a b has has' p y q v ins u e d gives h =
       pair_ready (λ r t. (r, t)) a b h.i h.j ins u h.rows
@@ -247,7 +247,7 @@ module _ {F G A B E : Type 0} (run : Runs (Poll (Result A E)) F) (run' : Runs (P
   -- The first has no error if the second has one in some row.
   abbrev IsFirst : Result A E → Type 0
   IsFirst a =
-      (i : List (Poll (Result A E))) (p : Half F A) → Stands Ok run (Asked f) i p → (i ≡ [] → ⊥)
+      (i : List (Poll (Result A E))) (p : Side F A) → Stands Ok run (Asked f) i p → (i ≡ [] → ⊥)
       → (v : A) × (a ≡ Ok v)
 
   some_rows : {C D : Type 0} (others : List C) (out : List (Poll D)) (u : D) → length others + 0 ≡ length out
@@ -256,7 +256,7 @@ module _ {F G A B E : Type 0} (run : Runs (Poll (Result A E)) F) (run' : Runs (P
   some_rows others (c ∷ out) u e g n = let k = rw n at e in omega (arith, k)
 
   try_runs_value : (a : Result A E) (b : Result B E) → HasValue run f a → HasValue run' g b → IsFirst a
-      → (p y : Half F A) (q v : Half G B) (ins : List (Poll (Result (A × B) E))) (u : Result (A × B) E)
+      → (p y : Side F A) (q v : Side G B) (ins : List (Poll (Result (A × B) E))) (u : Result (A × B) E)
       → p ≡ Asked f → q ≡ Asked g
       → Gives ins u → TryZips run run' p q ins y v → u ≡ try_pair a b
   unfolding HasValue
@@ -307,7 +307,7 @@ module _ {F G A B E : Type 0} (run : Runs (Poll (Result A E)) F) (run' : Runs (P
   try_second_fails e has = try_after has.0 (Err e) has.1
 
   -- The second does not fail.
-  no_second : (b : B) → HasValue run' g (Ok b) → (e : E) (l : List (Poll (Result B E))) (q : Half G B) (before last : G)
+  no_second : (b : B) → HasValue run' g (Ok b) → (e : E) (l : List (Poll (Result B E))) (q : Side G B) (before last : G)
       → q ≡ Asked g → q ≡ Asked before → Gives l (Err e) → run' before l last → ⊥
   unfolding HasValue
   no_second b has e l q before last d was gives came =
@@ -315,7 +315,7 @@ module _ {F G A B E : Type 0} (run : Runs (Poll (Result A E)) F) (run' : Runs (P
       let k = has l (Err e) (record { gives = gives; last = last; came = rw here came }) in cc
 
   try_runs_fail : (e : E) (b : B) → HasValue run f (Err e) → HasValue run' g (Ok b)
-      → (p y : Half F A) (q v : Half G B) (ins : List (Poll (Result (A × B) E))) (u : Result (A × B) E)
+      → (p y : Side F A) (q v : Side G B) (ins : List (Poll (Result (A × B) E))) (u : Result (A × B) E)
       → p ≡ Asked f → q ≡ Asked g → Gives ins u → TryZips run run' p q ins y v → u ≡ Err e
   unfolding HasValue
   try_runs_fail e b has has' p y q v ins u d d' gives (inl h) =
@@ -343,7 +343,7 @@ module _ {F G A B E : Type 0} (run : Runs (Poll (Result A E)) F) (run' : Runs (P
   same_error : (r : Result A E) (e d : E) → r ≡ Err d → Ready r ≡ Ready (Err e) → d ≡ e
   same_error r e d h k = cc
 
-  fails_row : (e : E) → AtOnce run f (Err e) → (i : List (Poll (Result A E))) (p : Half F A)
+  fails_row : (e : E) → AtOnce run f (Err e) → (i : List (Poll (Result A E))) (p : Side F A)
       → Stands Ok run (Asked f) i p → (i ≡ [] → ⊥) → ⊥
   fails_row e once i p h some = let k = stands_ok run f (Err e) once i p h some in absurd (let d = k.1 in cc)
 
@@ -357,7 +357,7 @@ module _ {F G A B E : Type 0} (run : Runs (Poll (Result A E)) F) (run' : Runs (P
       → others ≡ [] → ⊥
   some_asked others c out e n = let k = rw n at e in omega (arith, k)
 
-  fails_first : (e : E) → AtOnce run f (Err e) → (p y : Half F A) (q v : Half G B) (c : Poll (Result (A × B) E))
+  fails_first : (e : E) → AtOnce run f (Err e) → (p y : Side F A) (q v : Side G B) (c : Poll (Result (A × B) E))
       (out : List (Poll (Result (A × B) E))) → p ≡ Asked f → TryZips run run' p q (c ∷ out) y v → c ≡ Ready (Err e)
   unfolding AtOnce
   fails_first e once p y q v c out d (inl h) =

@@ -2,7 +2,7 @@
 use Rattle.lite_views.proofs.OkLists.{ok_seen}
 use Rattle.std.specs.Prelude.{◌≡◌, ℕ, List, [], ◌∷◌, ◌++◌, refl, ⊤, Option, Some, None, Result, Ok, Err}
 use Rattle.std.proofs.Common.{◌<◌}
-use Rattle.lite_views.specs.Uses.{◌∙◌, length, ap, subst, arith, FoldsTo, Error, Ready, Pending, Answer, Runs, TellsKnown, Known, Knows, spends_bytes}
+use Rattle.lite_views.specs.Uses.{◌∙◌, length, ap, subst, arith, FoldsTo, Error, Ready, Pending, Answer, Runs, ReadsKnown, Known, Knows, spends_bytes}
 use Rattle.lite_views.specs.Uses.{spends_split, knows_spends, ReadMark, bytes, Cut, CutsPiece, AnswerMarks, ReadFold}
 use Rattle.lite_read.specs.BytePieces.{last_piece, pieces_from}
 use Rattle.lite_read.specs.Pieces.{Itemised, pieces}
@@ -35,7 +35,7 @@ module _ {A : Type 0} (at : ℕ) (whole final : List ℕ → Result A Error → 
 
   cut_fits : (c : Cut) (r : Option (Result A Error)) (out : List (Answer (Result A Error)))
       (held after ys zs : List ℕ) (marks : List ReadMark)
-      → CutsPiece at ⊤ held marks c → Itemised whole final c held r after → TellsKnown ys marks zs
+      → CutsPiece at ⊤ held marks c → Itemised whole final c held r after → ReadsKnown ys marks zs
       → StillToCome after out zs → OkFits f (Ready r ∷ out) (made held ys)
   cut_fits (Cut.piece xs) (Some (Ok x)) out held after ys zs marks c i s k =
       let s = rw c.0 at s in rw (s.1, equal at) (on_whole xs x i.0 ∙ ap h c.1, rw (i.1, s.2) at k)
@@ -49,10 +49,10 @@ module _ {A : Type 0} (at : ℕ) (whole final : List ℕ → Result A Error → 
 
   answer_fits : (a : Answer (Result A Error)) (out : List (Answer (Result A Error))) (p q bs zs : List ℕ)
       (marks : List ReadMark) → AnswerMarks stream_fold p marks a q
-      → TellsKnown bs marks zs → StillToCome q out zs → OkFits f (a ∷ out) (made p bs)
+      → ReadsKnown bs marks zs → StillToCome q out zs → OkFits f (a ∷ out) (made p bs)
   answer_fits Pending out p q bs zs marks w s k =
       let cut = spends_split bs zs (bytes w.taken) w.last (rw w.cut at s) in
-      let told : zs ≡ cut.0 = subst (λ m. TellsKnown cut.0 m zs) w.given.0 cut.2 in
+      let told : zs ≡ cut.0 = subst (λ m. ReadsKnown cut.0 m zs) w.given.0 cut.2 in
       rw (spends_bytes w.taken bs cut.0 cut.1, taken_made w.taken p w.between cut.0 w.folds)
       (rw (w.given.2, told) at k)
   answer_fits (Ready r) out p q bs zs marks w s k =
@@ -62,7 +62,7 @@ module _ {A : Type 0} (at : ℕ) (whole final : List ℕ → Result A Error → 
       (cut_fits g.0 r out w.between q cut.0 zs w.last g.1 g.2 cut.2 k)
 
   pieces_fit : (out : List (Answer (Result A Error))) (p q bs ys : List ℕ) (marks : List ReadMark)
-      → PieceSegments stream_fold p marks out q → TellsKnown bs marks ys
+      → PieceSegments stream_fold p marks out q → ReadsKnown bs marks ys
       → OkFits f out (pieces_from at h p bs)
   pieces_fit [] p q bs ys marks g s = tt
   pieces_fit (a ∷ out) p q bs ys marks (first, rest, m, e, one, more) s =

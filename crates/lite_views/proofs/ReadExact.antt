@@ -1,6 +1,6 @@
 -- `read_exact` of a reader of which it is known what bytes are to come.
 use Rattle.std.specs.Prelude.{◌≡◌, ◌≤◌, ◌+◌, ℕ, zero, suc, List, [], ◌∷◌, refl, replicate, Result, Ok, Err, IfOk}
-use Rattle.lite_views.specs.Uses.{take_all, take-append_seam, drop-append_seam, ◌∙◌, length, take, drop, ap, sym, arith, Error, TellsKnown, ReadMark}
+use Rattle.lite_views.specs.Uses.{take_all, take-append_seam, drop-append_seam, ◌∙◌, length, take, drop, ap, sym, arith, Error, ReadsKnown, ReadMark}
 use Rattle.lite_views.specs.Uses.{Runs}
 use Rattle.lite_read.specs.Filling.{Filling, filling_of}
 use Rattle.lite_read.specs.Laws.ReadExact.{filled_by}
@@ -12,7 +12,7 @@ use Rattle.lite_views.specs.YieldsOn.{EachByte, YieldsOn}
 use Rattle.lite_views.proofs.Futures.{TakenUp, taken_up, when_left}
 
 module _ (p : Filling) (bs ys : List ℕ) where
-  full : (last : List ReadMark) (u : Unit {0}) → Fulfils p last (Ok u) → TellsKnown bs last ys → (length p.0 ≡ p.1)
+  full : (last : List ReadMark) (u : Unit {0}) → Fulfils p last (Ok u) → ReadsKnown bs last ys → (length p.0 ≡ p.1)
       × (ys ≡ bs)
   full [] u f s = (f.0, s)
   full (ReadMark.fault kind ∷ l) u f s = absurd s
@@ -36,7 +36,7 @@ exactly_read (Ok u) k old new bs ys t =
 
 -- marks that are one byte, over and over, are told of enough such bytes
 each_told : (b n : ℕ) (l : List ReadMark) → EachByte b l → length l ≤ n → (k : ℕ)
-    × TellsKnown (replicate n b) l (replicate k b)
+    × ReadsKnown (replicate n b) l (replicate k b)
 each_told b n [] e h = (n, refl)
 each_told b n (ReadMark.pending ∷ l) e h = each_told b n l e (omega (arith, h))
 each_told b zero (ReadMark.byte x ∷ l) e h = absurd (omega (arith, h))

@@ -1,7 +1,7 @@
 -- The value of `try_for_each`, by the items of the stream.
 use Rattle.std.specs.Prelude.{◌≡◌, List, [], ◌∷◌, map, Result, Ok, Err}
 use Rattle.lite_views.specs.Uses.{inl, inr, Question, fold_of}
-use Rattle.lite_consume.specs.TryForEach.{tries_each}
+use Rattle.lite_consume.specs.TryForEach.{try_each_fold}
 use Rattle.lite_consume.specs.declared.try_for_each.TryForEach.{TryForEach}
 use Rattle.lite_views.proofs.Views.{AnswersAs, answered}
 use Rattle.lite_views.specs.Trying.{first_error}
@@ -10,7 +10,7 @@ use Rattle.lite_views.proofs.Consume.{MakesOnly}
 module _ {F A E : Type 0} (call : Question F A (Result (Unit {0}) E)) (f : F) (h : A → Result (Unit {0}) E)
     (acts : AnswersAs call f h) where
   pub try_for_each_made : (p : TryForEach F) (xs : List A) → p.f ≡ f
-      → MakesOnly (fold_of (λ m. m.f) (tries_each call)) p xs (first_error (map h xs))
+      → MakesOnly (fold_of (λ m. m.f) (try_each_fold call)) p xs (first_error (map h xs))
   try_for_each_made p [] e v (q, s) = s.0
   try_for_each_made p (x ∷ xs) e v (inl (q, s, more)) =
       let a = answered call f h acts p.f q.f x (Ok tt) e s in

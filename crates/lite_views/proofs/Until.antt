@@ -1,6 +1,6 @@
 -- `read_until` and `read_line` of a reader of which it is known what bytes are to come. They share one lemma.
 use Rattle.std.specs.Prelude.{◌≡◌, ℕ, List, [], ◌∷◌, ◌++◌, refl, ⊤, Result, Ok, Err, IfOk}
-use Rattle.lite_views.specs.Uses.{◌∙◌, length, take, drop, ap, sym, append_assoc, append-nil, FoldsTo, Error, TellsKnown, ReadMark, Cut, CutsPiece}
+use Rattle.lite_views.specs.Uses.{◌∙◌, length, take, drop, ap, sym, append_assoc, append-nil, FoldsTo, Error, ReadsKnown, ReadMark, Cut, CutsPiece}
 use Rattle.lite_views.specs.Uses.{Reading, in_text}
 use Rattle.lite_read.specs.BytePieces.{behind, through_first}
 use Rattle.lite_read.specs.ReadUntil.{CountsPiece, until}
@@ -21,7 +21,7 @@ module _ (at : ℕ) where
       (rw (← append_assoc p (x ∷ []) xs, ← t.1) next.0, rw (other, next.1), rw other next.2)
 
   cut_until : (c : Cut) (n : ℕ) (held after bs ys : List ℕ) (last : List ReadMark) → CutsPiece at ⊤ held last c
-      → CountsPiece at c held (Ok n) after → TellsKnown bs last ys
+      → CountsPiece at c held (Ok n) after → ReadsKnown bs last ys
       → (after ≡ held ++ through_first at bs) × (ys ≡ behind at bs) × (n ≡ length after)
   cut_until (Cut.piece xs) n held after bs ys last c k s =
       let s = rw c.0 at s in rw (s.1, equal at) (rw c.1 at k.0, s.2, (let e = k.1 in cc))

@@ -1,7 +1,7 @@
 -- The runs of the futures that the facade names. A clause over them needs no bounds on the types of their states.
 use Rattle.std.specs.Prelude.{ℕ, Bool, List, [], ◌∷◌, Option, Result, IfSome, cond}
 use Rattle.lite_views.specs.Views.{ListsAs}
-use Rattle.lite_views.specs.Uses.{Mut, MutBor, Poll, Answer, Lent, Question, Runs, Folds, fold_of, counts, finds, folds, lasts, nths, tries_fold}
+use Rattle.lite_views.specs.Uses.{Mut, MutBor, Poll, Answer, Lent, Question, Runs, Folds, fold_of, counts, finds, folds, lasts, nths, try_fold_steps}
 use Rattle.lite_views.specs.Uses.{Consume, Find, Last, Nth, TryFold, TryZip, TryZips}
 use Rattle.lite_consume.specs.Calls.{CallsBoth}
 use Rattle.lite_base.specs.Future.Zip.{FutureZips}
@@ -36,7 +36,7 @@ module _ {S A : Type 0} (run : Runs (Answer A) S) where
 -- The runs of `try_fold` over a stream with these runs, with the function `g`.
 abbrev pub TryFoldRuns : {S F B T E : Type 0} → Runs (Answer (Result T E)) S → Mut F (B × (T × Unit {0})) (Result B E)
     → Runs (Poll (Result B E)) (Consume (MutBor S) (TryFold F B))
-TryFoldRuns run g = Folds (Lent run) (fold_of (λ m. (m.f, m.acc)) (tries_fold (CallsBoth g)))
+TryFoldRuns run g = Folds (Lent run) (fold_of (λ m. (m.f, m.acc)) (try_fold_steps (CallsBoth g)))
 
 -- The runs of `zip` of two futures with these runs.
 abbrev pub ZipRuns : {F G A B : Type 0} → Runs (Poll A) F → Runs (Poll B) G → Runs (Poll (A × B)) (Zip F G A B)

@@ -23,7 +23,7 @@ pub use Rattle.lite_consume.specs.Fold.{folds}
 pub use Rattle.lite_consume.specs.Last.{lasts}
 pub use Rattle.lite_consume.specs.Laws.Consuming.{consumes_steps}
 pub use Rattle.lite_consume.specs.Nth.{nths}
-pub use Rattle.lite_consume.specs.TryFold.{tries_fold}
+pub use Rattle.lite_consume.specs.TryFold.{try_fold_steps}
 pub use Rattle.lite_consume.specs.declared.consume.Consume.{Consume}
 pub use Rattle.lite_consume.specs.declared.find.Find.{Find}
 pub use Rattle.lite_consume.specs.declared.last.Last.{Last}
@@ -33,13 +33,13 @@ pub use Rattle.lite_gather.specs.TryCollect.{tries_collect}
 pub use Rattle.lite_gather.specs.declared.refused.Refused.{Refused}
 pub use Rattle.lite_gather.specs.declared.refused.TryCollectError.{TryCollectError}
 pub use Rattle.lite_gather.specs.declared.try_collect.TryCollect.{TryCollect}
-pub use Rattle.lite_io_base.specs.Known.{Known, Knows, TellsKnown}
+pub use Rattle.lite_io_base.specs.Known.{Known, Knows, ReadsKnown}
 pub use Rattle.lite_io_base.specs.Laws.Known.{knows_spends, spends_bytes, spends_split}
 pub use Rattle.lite_io_base.specs.Laws.Stored.{stores_kept}
-pub use Rattle.lite_io_base.specs.Laws.Takings.{taken_both}
+pub use Rattle.lite_io_base.specs.Laws.WriteMarks.{taken_both}
 pub use Rattle.lite_io_base.specs.Marks.{ReadMark, bytes}
 pub use Rattle.lite_io_base.specs.Stored.{Stored, Stores}
-pub use Rattle.lite_io_base.specs.Takings.{WriteMark, bytes_taken}
+pub use Rattle.lite_io_base.specs.WriteMarks.{WriteMark, bytes_taken}
 pub use Rattle.lite_merge.specs.Merge.{MergeRow, MergeRows}
 pub use Rattle.lite_merge.specs.Zip.{Pairs, pendings}
 pub use Rattle.lite_read.specs.Pieces.{Cut, CutsPiece}

@@ -1,15 +1,15 @@
 -- The steps of `copy`.
 use Rattle.std.specs.Prelude.{◌≡◌, ◌<◌, ◌+◌, ◌%◌, ◌^◌, ℕ, List, [], ◌∷◌, ◌++◌, Result, Ok, Err, length}
 use Rattle.lite_write.specs.Uses.{◌∙◌, refl, ap, sym, subst, arith, append-nil, error_kind, Error, WriteZero, Poll, Ready, Pending, ThroughBuffer}
-use Rattle.lite_write.specs.Uses.{ahead, reader_capacity, ReadMark, bytes, MarkLaws, WriteMark, bytes_taken, write_marks, offered_marks, UpToValue}
+use Rattle.lite_write.specs.Uses.{bytes_ahead, reader_capacity, ReadMark, bytes, MarkLaws, WriteMark, bytes_taken, write_marks, offered_marks, UpToValue}
 use Rattle.lite_write.specs.Uses.{strip, waits, OneStep, Runs}
 use Rattle.lite_base.specs.Laws.Answers.{up_to_one}
 use Rattle.lite_buffered.specs.Laws.BufReader.{passes_some, through_laws}
 use Rattle.lite_buffered.specs.declared.buf_reader.BufReader.{BufReader}
-use Rattle.lite_io_base.specs.Marks.{filled}
+use Rattle.lite_io_base.specs.Marks.{filled_marks}
 use Rattle.std.proofs.Common.{None, Option, Some}
 use Rattle.lite_write.specs.Copy.{CopyValue, Moves, CopiesSome}
-use Rattle.lite_write.specs.MarkLists.{BytesAlone, TakesUpTo, TellsUpTo, bytes_told, waits_taken, waits_told}
+use Rattle.lite_write.specs.MarkLists.{BytesAlone, WritesUpTo, ReadsUpTo, bytes_told, waits_taken, waits_told}
 use Rattle.lite_write.specs.Parts.{held_of, met_in, source_of}
 use Rattle.lite_write.specs.Laws.Copy.{counted_none, moves_both}
 use Rattle.lite_write.specs.declared.copy.CopyFuture.{CopyFuture}
@@ -50,12 +50,12 @@ one_mark [] came m other e = (refl, e)
 one_mark (b ∷ p) came m other e = absurd (other b (cc e))
 
 copying_on : (a b : Phase) (came : List ReadMark) → a ≡ Copying → b ≡ Copying → BytesAlone came
-    → TellsUpTo (met_in a ++ came) (met_in b ++ [])
+    → ReadsUpTo (met_in a ++ came) (met_in b ++ [])
 copying_on a b came e d on = record { read = came; goes_on = on; cut = rw (e, d) (sym (append-nil came)) }
 
 -- a fill that lent something left no mark
 fills_some : {R : Type 0} (reads : Runs ReadMark R) (x y : BufReader R) (shown : List ℕ) → 0 < length shown
-    → ThroughBuffer reads x (filled shown) y
+    → ThroughBuffer reads x (filled_marks shown) y
     → ThroughBuffer reads x [] y
 fills_some reads x y [] some h = absurd (omega (arith, some))
 fills_some reads x y (b ∷ shown) some h = h
@@ -73,7 +73,7 @@ module _ {R W : Type 0} (reads : Runs ReadMark R) (writes : Runs WriteMark W) (r
           amount ∙ counted_none x.amount x.counted ∙ ap (λ l. (x.amount + length l) % 2 ^ 64) (sym none)
 
       -- one call of the writer, which took no byte
-      writer_answers : (m : WriteMark) (a : Poll (Result ℕ Error)) (last : List WriteMark) → TakesUpTo (m ∷ []) last
+      writer_answers : (m : WriteMark) (a : Poll (Result ℕ Error)) (last : List WriteMark) → WritesUpTo (m ∷ []) last
           → bytes_taken (m ∷ []) ≡ []
           → waits (a ∷ []) ≡ waits_taken (m ∷ [])
           → CopyValue (strip (a ∷ [])) [] last (held_of y) (met_in y.phase) y.amount
@@ -89,7 +89,7 @@ module _ {R W : Type 0} (reads : Runs ReadMark R) (writes : Runs WriteMark W) (r
               last = last;
               reading = record { read = []; goes_on = tt; cut = ap (λ v. met_in v ++ []) (sym phase) };
               writing = writing;
-              balanced = append-nil (held_of x) ∙ ap (λ (r : BufReader R). ahead r) (sym reader)
+              balanced = append-nil (held_of x) ∙ ap (λ (r : BufReader R). bytes_ahead r) (sym reader)
                   ∙ ap (λ l. l ++ held_of y) (sym none);
               waited = omega (arith, waits);
               once = up_to_one a;
@@ -119,7 +119,7 @@ module _ {R W : Type 0} (reads : Runs ReadMark R) (writes : Runs WriteMark W) (r
           → writes x.writer (write_marks (Ready (Ok 0)) (held_of x)) y.writer
           → Moves reads writes x (Ready (Err e) ∷ []) y
       writer_takes_none e is some went =
-          let held = subst (λ (r : BufReader R). 0 < length (ahead r)) (sym reader) some in
+          let held = subst (λ (r : BufReader R). 0 < length (bytes_ahead r)) (sym reader) some in
           let none = subst (λ l. writes x.writer l y.writer) (offered_marks 0 (held_of x) some) went in
           writer_stops (WriteMark.wrote []) (Err e) refl refl (is, held) none
 
@@ -169,7 +169,7 @@ module _ {R W : Type 0} (reads : Runs ReadMark R) (writes : Runs WriteMark W) (r
       unwritten = subst (λ w. writes x.writer [] w) (sym writer) (wl.rests x.writer)
 
       reader_told : (told failed : List ReadMark) (out : List (Poll (Result ℕ Error)))
-          → TellsUpTo (met_in x.phase ++ told) (met_in y.phase ++ failed)
+          → ReadsUpTo (met_in x.phase ++ told) (met_in y.phase ++ failed)
           → held_of x ++ bytes_told told ≡ held_of y → waits out ≡ waits_told told → UpToValue out
           → CopyValue (strip out) failed [] (held_of y) (met_in y.phase) y.amount
           → reads (source_of x) told (source_of y) → Moves reads writes x out y
@@ -218,7 +218,7 @@ module _ {R W : Type 0} (reads : Runs ReadMark R) (writes : Runs WriteMark W) (r
         reader_marks read failed out cut on none waits once value =
             let came = subst (λ l. reads (source_of x) l (source_of y)) marked.1 h.ran in
             let balanced = ap (λ l. held_of x ++ l) none ∙ append-nil (held_of x) ∙ marked.0 ∙ sym empty in
-            let reading : TellsUpTo (met_in x.phase ++ m ∷ []) (met_in y.phase ++ failed) =
+            let reading : ReadsUpTo (met_in x.phase ++ m ∷ []) (met_in y.phase ++ failed) =
             record { read = read; goes_on = on; cut = ap (λ a. met_in a ++ m ∷ []) copying ∙ cut } in
             reader_told (m ∷ []) failed out reading balanced waits once value came
 
@@ -245,7 +245,7 @@ module _ {R W : Type 0} (reads : Runs ReadMark R) (writes : Runs WriteMark W) (r
   -- a fill that lent something, and then the step
   module _ (x m y : CopyFuture R W) (writer : m.writer ≡ x.writer) (amount : m.amount ≡ x.amount)
       (copying : x.phase ≡ Copying) (still : m.phase ≡ Copying)
-      (fills : ThroughBuffer reads x.reader (filled (held_of m)) m.reader) where
+      (fills : ThroughBuffer reads x.reader (filled_marks (held_of m)) m.reader) where
     pub then_steps : 0 < length (held_of m) → (r : Option (Poll (Result ℕ Error)))
         → OneStep (CopiesSome reads writes) (λ v a w. Moves reads writes v (a ∷ []) w) m r y
         → OneStep (CopiesSome reads writes) (λ v a w. Moves reads writes v (a ∷ []) w) x r y

@@ -3,7 +3,7 @@ use Rattle.std.specs.Prelude.{◌≡◌, ◌<◌, ◌+◌, ◌%◌, ◌^◌, ⊤
 use Rattle.lite_write.specs.Uses.{error_kind, Error, WriteZero, Poll, UpToValue, strip, waits, Runs, ReadMark, WriteMark, bytes_taken, ThroughBuffer}
 use Rattle.lite_write.specs.Uses.{bytes}
 use Rattle.futures.specs.Task.{Lasting}
-use Rattle.lite_write.specs.MarkLists.{TakesUpTo, TellsUpTo, bytes_told, waits_taken, waits_told}
+use Rattle.lite_write.specs.MarkLists.{WritesUpTo, ReadsUpTo, bytes_told, waits_taken, waits_told}
 use Rattle.lite_write.specs.Parts.{held_of, met_in, source_of}
 use Rattle.lite_write.specs.declared.copy.CopyFuture.{CopyFuture}
 use Rattle.lite_write.specs.declared.copy.Phase.{Phase}
@@ -31,8 +31,8 @@ pub record Copied (before : List ℕ) (met told : List ReadMark) (took : List Wr
     (met' : List ReadMark) (total : ℕ) : Type 0 where
   pub failed : List ReadMark
   pub last : List WriteMark
-  pub reading : TellsUpTo (met ++ told) (met' ++ failed)
-  pub writing : TakesUpTo took last
+  pub reading : ReadsUpTo (met ++ told) (met' ++ failed)
+  pub writing : WritesUpTo took last
   pub balanced : before ++ bytes_told told ≡ bytes_taken took ++ after
   pub waited : waits out ≡ waits_told told + waits_taken took
   pub once : UpToValue out

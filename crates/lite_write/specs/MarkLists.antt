@@ -37,7 +37,7 @@ BytesAlone (ReadMark.pending ∷ l) = BytesAlone l
 BytesAlone (m ∷ l) = ⊥
 
 -- The reader's marks are bytes and `Pending`s, followed by `stop`, which may be empty.
-pub record TellsUpTo (told stop : List ReadMark) : Type 0 where
+pub record ReadsUpTo (told stop : List ReadMark) : Type 0 where
   pub read : List ReadMark
   pub goes_on : BytesAlone read
   pub cut : told ≡ read ++ stop
@@ -50,7 +50,7 @@ TakesSome (WriteMark.pending ∷ l) = TakesSome l
 TakesSome (m ∷ l) = ⊥
 
 -- The writer's marks are `Pending`s and writes that took at least one byte, followed by `last`, which may be empty.
-pub record TakesUpTo (took last : List WriteMark) : Type 0 where
+pub record WritesUpTo (took last : List WriteMark) : Type 0 where
   pub written : List WriteMark
   pub takes_some : TakesSome written
   pub cut : took ≡ written ++ last

@@ -1,6 +1,6 @@
 -- The parts of a `copy` future.
 use Rattle.std.specs.Prelude.{◌≡◌, ℕ, List, [], ◌∷◌}
-use Rattle.lite_write.specs.Uses.{ahead, reader_inner, ReadMark}
+use Rattle.lite_write.specs.Uses.{bytes_ahead, reader_inner, ReadMark}
 use Rattle.lite_write.specs.declared.copy.CopyFuture.{CopyFuture}
 use Rattle.lite_write.specs.declared.copy.Phase.{Phase}
 use Rattle.lite_write.specs.declared.copy.Phase.TheVariants.{Copying, Flushing}
@@ -17,7 +17,7 @@ module _ {R W : Type 0} where
 
   -- The bytes held: those read and not yet written.
   abbrev pub held_of : CopyFuture R W → List ℕ
-  held_of x = ahead x.reader
+  held_of x = bytes_ahead x.reader
 
   -- No byte has been copied or is held, and end of file has not been met.
   pub record NothingCopied (x : CopyFuture R W) : Type 0 where

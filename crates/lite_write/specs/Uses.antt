@@ -13,12 +13,12 @@ pub use Rattle.lite_base.specs.Laws.FutureLaws.{future_laws_of}
 pub use Rattle.lite_base.specs.Registered.{Registered}
 pub use Rattle.lite_base.specs.Runs.{Runs}
 pub use Rattle.lite_base.specs.Steady.{FutureSteadyLaws}
-pub use Rattle.lite_buffered.specs.BufReader.{ThroughBuffer, ahead, reader_capacity, reader_inner}
+pub use Rattle.lite_buffered.specs.BufReader.{ThroughBuffer, bytes_ahead, reader_capacity, reader_inner}
 pub use Rattle.lite_io_base.specs.Laws.Runs.{offered_marks}
 pub use Rattle.lite_io_base.specs.Marks.{ReadMark, bytes}
 pub use Rattle.lite_io_base.specs.Runs.{MarkLaws}
 pub use Rattle.lite_io_base.specs.SteadyWrite.{CalmWriteLaws, NoPendingWrite}
-pub use Rattle.lite_io_base.specs.Takings.{WriteMark, bytes_taken, done_marks, write_marks}
+pub use Rattle.lite_io_base.specs.WriteMarks.{WriteMark, bytes_taken, done_marks, write_marks}
 pub use Rattle.lite_read.specs.Deterministic.{SameByKind}
 pub use Rattle.lite_read.specs.Laws.PollSteps.{idle_join}
 pub use Rattle.lite_read.specs.Laws.Polled.{polled_laws, polled_one}

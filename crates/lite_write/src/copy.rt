@@ -1,5 +1,5 @@
 ghost use Rattle.std.specs.Prelude.{◌≡◌, ◌<◌, ◌↔◌, ◌^◌, [], ◌∷◌, length, IfOk, IfSome, IsTrue};
-ghost use Rattle.lite_write.specs.Uses.{IfReady, Keeps, ahead, reader_capacity, reader_inner, Registered, SameByKind, Sameness};
+ghost use Rattle.lite_write.specs.Uses.{IfReady, Keeps, bytes_ahead, reader_capacity, reader_inner, Registered, SameByKind, Sameness};
 ghost use Rattle.lite_base.specs.Laws.Ends.{Terminates-map};
 ghost use Rattle.lite_buffered.specs.Laws.BufReader.{through_counting};
 ghost use Rattle.lite_io_base.specs.Laws.Counting.{counting_ends};
@@ -42,14 +42,14 @@ pub struct CopyFuture<R, W> {
     pub(crate) phase: Phase,
     ghost buffered: { 0 < reader_capacity reader },
     ghost counted: { amount < 2 ^ 64 },
-    ghost drained: { phase ≡ Flushing → ahead reader ≡ [] },
+    ghost drained: { phase ≡ Flushing → bytes_ahead reader ≡ [] },
 }
 
 /// Fills the buffer of a reader, and returns whether it is empty then.
 fn fill<R: AsyncBufRead>(reader: &mut R, cx: &mut Context<'_>) -> Poll<io::Result<bool>>
-    ensures ran { R.reads reader.old (fill_marks result (R.lent reader.new)) reader.new }
-    ensures empty { IfReady result (λ r. IfOk r (λ empty. IsTrue empty ↔ R.lent reader.new ≡ [])) }
-    ensures lends { OnlyOkLends result (R.lent reader.new) }
+    ensures ran { R.reads reader.old (fill_marks result (R.buffer_of reader.new)) reader.new }
+    ensures empty { IfReady result (λ r. IfOk r (λ empty. IsTrue empty ↔ R.buffer_of reader.new ≡ [])) }
+    ensures lends { OnlyOkLends result (R.buffer_of reader.new) }
     ensures registered { Registered result (R.registers reader.new) cx.new }
     ensures context { Keeps cx.old cx.new }
 {
@@ -68,7 +68,7 @@ impl<R: AsyncRead, W: AsyncWrite> CopyFuture<R, W> {
     #[tactic(auto, using(crate::proofs::Copying::writer_waits, crate::proofs::Copying::writer_fails, crate::proofs::Copying::writer_takes_none))]
     fn write_some(&mut self, cx: &mut Context<'_>) -> Option<Poll<io::Result<u64>>>
         requires phase { self.old.phase ≡ Copying }
-        requires some { 0 < length (ahead self.old.reader) }
+        requires some { 0 < length (bytes_ahead self.old.reader) }
         ensures stepped { OneStep (CopiesSome R.reads W.writes)
             (λ x a y. Moves R.reads W.writes x (a ∷ []) y) self.old result self.new }
         ensures registered { IfSome result

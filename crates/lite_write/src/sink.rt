@@ -6,7 +6,7 @@ ghost use Rattle.lite_write.specs.Laws.Sink.{sinks_calm, sinks_laws, sinks_stead
 ghost use Rattle.lite_write.specs.Sink.{Sinks};
 
 use lite_base::{Context, Poll};
-use lite_io_base::{AsyncWrite, CalmWrite, SteadyWrite, Takings, Tale, first_nonempty};
+use lite_io_base::{AsyncWrite, CalmWrite, ReadSpec, SteadyWrite, WriteSpec, first_nonempty};
 use std::io;
 use std::io::IoSlice;
 
@@ -16,14 +16,14 @@ use std::io::IoSlice;
 #[derive(Clone, Copy, Debug)]
 pub struct Sink {}
 
-impl Takings for Sink {
+impl WriteSpec for Sink {
     ghost writes = { Sinks };
 
     ghost write_laws = { sinks_laws };
 }
 
 // It is not read from.
-impl Tale for Sink {
+impl ReadSpec for Sink {
     ghost reads = { Idle };
 
     ghost read_laws = { idle_laws };

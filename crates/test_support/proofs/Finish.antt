@@ -8,7 +8,7 @@ use Rattle.std.proofs.lemmas.List.Elements.{Contains-append_right}
 use Rattle.futures.specs.declared.task.Poll.{Poll}
 use Rattle.futures.specs.declared.task.Poll.TheVariants.{Ready, Pending}
 use Rattle.lite_io_base.specs.Kinds.{by_kind}
-use Rattle.lite_io_base.specs.Takings.{WriteMark, done_marks}
+use Rattle.lite_io_base.specs.WriteMarks.{WriteMark, done_marks}
 use Rattle.test_support.specs.Calls.{SaysRefused, finish_marks}
 
 refused_close : (c : Poll (Result (Unit {0}) Error)) → SaysRefused (by_kind c)

@@ -8,8 +8,8 @@ use Rattle.std.specs.declared.io.ErrorKind.TheVariants.{OutOfMemory}
 use Rattle.futures.specs.declared.task.Poll.{Poll}
 use Rattle.futures.specs.declared.task.Poll.TheVariants.{Ready}
 use Rattle.lite_io_base.specs.Kinds.{by_kind}
-use Rattle.lite_io_base.specs.Marks.{ReadMark, count_of, filled, read_marks}
-use Rattle.lite_io_base.specs.Takings.{WriteMark, done_marks, write_marks}
+use Rattle.lite_io_base.specs.Marks.{ReadMark, count_of, filled_marks, read_marks}
+use Rattle.lite_io_base.specs.WriteMarks.{WriteMark, done_marks, write_marks}
 use Rattle.lite_base.specs.Runs.{Runs}
 
 -- The result is an allocation failure.
@@ -39,8 +39,8 @@ GivesRead run x room is want y =
 
 -- A fill returned a slice of the bytes `want` if `is` is true, and otherwise returned something else.
 abbrev pub LendsOf : {S : Type 0} → Runs ReadMark S → (S → List ℕ) → S → Bool → List ℕ → S → Type 0
-LendsOf run lent x is want y =
-    (marks : List ReadMark) × run x marks y × Decides is ((marks ≡ filled want) × (lent y ≡ want))
+LendsOf run buffer_of x is want y =
+    (marks : List ReadMark) × run x marks y × Decides is ((marks ≡ filled_marks want) × (buffer_of y ≡ want))
 
 -- A write of the bytes `offered` returned this result, and left the writer like this.
 abbrev pub WriteTold : {S : Type 0} → Runs WriteMark S → S → Poll (Result ℕ ErrorKind) → List ℕ → S → Type 0

@@ -49,13 +49,13 @@ pub fn lends<R, S>(rt: &R, reader: &mut S, bytes: &[u8]) -> io::Result<bool>
 where
     R: RandomSource + AllocGlobal,
     S: AsyncBufRead,
-    ensures ran { IfOk result (λ is. LendsOf S.reads S.lent reader.old is bytes.now reader.new) }
+    ensures ran { IfOk result (λ is. LendsOf S.reads S.buffer_of reader.old is bytes.now reader.new) }
     ensures err { IfErr result (λ _. reader.new ≡ reader.old) }
 {
     let solo = Solo::new(rt, Doorbell::spinning())?;
     let mut cx = solo.begin();
     let is_lent = match reader.poll_fill_buf(&mut cx) {
-        Poll::Ready(Ok(lent)) => lent == bytes,
+        Poll::Ready(Ok(buffer_of)) => buffer_of == bytes,
         _ => false,
     };
     cx.cancel();

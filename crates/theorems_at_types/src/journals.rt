@@ -3,7 +3,7 @@ ghost use Rattle.std.specs.Prelude.{◌≡◌, List, ℕ};
 ghost use Rattle.lite_bridge.specs.Cursor.{CursorReads, CursorWrites};
 ghost use Rattle.lite_io_base.specs.Parts.{PartsInOrder};
 ghost use Rattle.lite_io_base.specs.Runs.{Idle};
-ghost use Rattle.lite_io_base.specs.Told.{TellsScript};
+ghost use Rattle.lite_io_base.specs.Told.{ReadsScript};
 ghost use Rattle.lite_halves.specs.Entry.{parts_in};
 
 use futures_lite::io::{BytesLike, Cursor, Journal};
@@ -44,7 +44,7 @@ impl BytesLike for Plain {
 
 /// How many entries there are. By its contract they lead a reader that is told from the start to what it is now.
 pub fn entries_of_marks(journal: &Journal<Marks>) -> usize
-    ensures { PartsInOrder TellsScript Idle journal.now.start (parts_in journal.now.notes) journal.now.stream }
+    ensures { PartsInOrder ReadsScript Idle journal.now.start (parts_in journal.now.notes) journal.now.stream }
 {
     journal.entries().len()
 }

@@ -2,7 +2,7 @@
 #![tactic(auto)]
 
 use futures_lite::io::{
-    AsyncRead, AsyncWrite, Books, Journal, JournalReadHalf, JournalWriteHalf, history,
+    AsyncRead, AsyncWrite, CounterNames, Journal, JournalReadHalf, JournalWriteHalf, history,
 };
 use std::alloc::AllocError;
 use std::sync::Wait;
@@ -15,8 +15,8 @@ fn mixed<R, T, A, B>(
 where
     R: Wait,
     T: AsyncRead + AsyncWrite + Clone,
-    A: Books,
-    B: Books,
+    A: CounterNames,
+    B: CounterNames,
 {
     history(read, write)
 }

@@ -34,14 +34,14 @@ frame_by_frame limits =
       end = λ c xs t ys idle h. rw (nothing_open limits c idle) at h.1;
     }
 
-module _ {T O : Type 0} {reads : Runs ReadMark T} (lent : T → List ℕ) {writes : Runs WriteMark O}
+module _ {T O : Type 0} {reads : Runs ReadMark T} (buffer_of : T → List ℕ) {writes : Runs WriteMark O}
     (read_laws : MarkLaws reads) (write_laws : MarkLaws writes) where
   -- What serving a new stream to its end did.
   pub session_of : (x y : Session T Requests O Replies Store) (r : Result (Unit {0}) (ServeError RequestError ReplyError))
-      → IsFresh x.requests → SessionEnds reads lent writes x r y → IfOk r (λ u. Conversed reads writes x y)
+      → IsFresh x.requests → SessionEnds reads buffer_of writes x r y → IfOk r (λ u. Conversed reads writes x y)
   session_of x y (Err e) fresh ends = tt
   session_of x y (Ok u) (phase, none, idle) ends =
-      conversed gives_requests (λ given error. error ≡ Io given) reads lent writes encodes_replies refuses_replies
+      conversed gives_requests (λ given error. error ≡ Io given) reads buffer_of writes encodes_replies refuses_replies
       (λ request. texts request.words.items) (λ reply. said (Some reply)) held step LastSaid
       (IsIdle x.requests.decoder.limits) (request_frame x.requests.decoder.limits)
       (frame_by_frame x.requests.decoder.limits) requests_partial read_laws write_laws x y u idle phase none ends

@@ -11,6 +11,6 @@ first_told Pending = None
 
 -- The future is polled once, and the value is `Some` of what it returned, or `None` if it was pending. No other result
 -- follows.
-abbrev pub TellsFirst : {F A : Type 0} → Runs (Poll A) F → Runs (Poll (Option A)) (PollOnce F)
-TellsFirst run x [] y = y ≡ x
-TellsFirst {A = A} run x (b ∷ l) y = (a : Poll A) × run x.f (a ∷ []) y.f × (b ≡ Ready (first_told a)) × (l ≡ [])
+abbrev pub GivesFirst : {F A : Type 0} → Runs (Poll A) F → Runs (Poll (Option A)) (PollOnce F)
+GivesFirst run x [] y = y ≡ x
+GivesFirst {A = A} run x (b ∷ l) y = (a : Poll A) × run x.f (a ∷ []) y.f × (b ≡ Ready (first_told a)) × (l ≡ [])

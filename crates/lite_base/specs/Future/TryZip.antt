@@ -2,10 +2,10 @@
 use Rattle.std.specs.Prelude.{◌≡◌, ◌+◌, ◌⊎◌, ℕ, List, length, Result, Ok, Err}
 use Rattle.lite_base.specs.Uses.{Poll}
 use Rattle.lite_base.specs.Answers.{Gives}
-use Rattle.lite_base.specs.Future.Half.{Stands}
+use Rattle.lite_base.specs.Future.Side.{Stands}
 use Rattle.lite_base.specs.Future.Together.{Together}
-use Rattle.lite_base.specs.declared.future.half.Half.{Half}
-use Rattle.lite_base.specs.declared.future.half.Half.TheVariants.{Asked}
+use Rattle.lite_base.specs.declared.future.side.Side.{Side}
+use Rattle.lite_base.specs.declared.future.side.Side.TheVariants.{Asked}
 use Rattle.lite_base.specs.Runs.{Runs}
 
 -- The pair of the two values if both are `Ok`, and otherwise the error, the first one's if both failed.
@@ -18,7 +18,7 @@ try_pair (Err e) b = Err e
 -- results, or its value, in each row, or in each except the last `unasked` rows.
 pub record Fails {F G A B C E : Type 0} (run : Runs (Poll (Result A E)) F) (run_other : Runs (Poll (Result B E)) G)
     (unasked : ℕ)
-    (x : Half F A) (u : Half G B) (out : List (Poll (Result C E))) (y : Half F A) (v : Half G B) : Type 0 where
+    (x : Side F A) (u : Side G B) (out : List (Poll (Result C E))) (y : Side F A) (v : Side G B) : Type 0 where
   pub before : F
   pub was_asked : x ≡ Asked before
   pub ins : List (Poll (Result A E))
@@ -35,7 +35,7 @@ pub record Fails {F G A B C E : Type 0} (run : Runs (Poll (Result A E)) F) (run_
 -- No future fails, and the results are those of `zip`. Or the first one fails, and in that row the second is not
 -- polled. Or the second one fails.
 abbrev pub TryZips : {F G A B E : Type 0} → Runs (Poll (Result A E)) F → Runs (Poll (Result B E)) G
-    → Half F A → Half G B → List (Poll (Result (A × B) E)) → Half F A → Half G B → Type 0
+    → Side F A → Side G B → List (Poll (Result (A × B) E)) → Side F A → Side G B → Type 0
 TryZips run_first run_second x u out y v =
     Together Ok Ok try_pair run_first run_second x u out y v
     ⊎ (Fails run_first run_second 1 x u out y v ⊎ Fails run_second run_first 0 u x out v y)

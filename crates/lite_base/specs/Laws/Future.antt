@@ -1,10 +1,10 @@
 pub mod Agree
-pub mod Budgeted
+pub mod PollLimited
 pub mod Calls
 pub mod Either
 pub mod Finishes
 pub mod Fuse
-pub mod Half
+pub mod Side
 pub mod Handed
 pub mod Or
 pub mod Pending

@@ -71,7 +71,7 @@ impl<A: CalmFuture, B: CalmFuture<Output = A::Output>> CalmFuture for Either<A, 
     ghost calm = { either_calm A.calm B.calm };
 }
 
-/// Does nothing. Its contract says what an `Either` has registered.
+/// States what an `Either` has registered.
 pub fn tells_of_either<A, B>(either: &Either<A, B>, first: &A, second: &B)
 where
     A: Future,

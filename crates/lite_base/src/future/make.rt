@@ -1,10 +1,10 @@
 //! Functions that make futures.
 ghost use Rattle.std.specs.Prelude.{◌≡◌, None, Result, Some, false};
-ghost use Rattle.lite_base.specs.declared.future.half.Half.TheVariants.{Asked};
+ghost use Rattle.lite_base.specs.declared.future.side.Side.TheVariants.{Asked};
 
-use super::half::Half;
+use super::side::Side;
 use super::{
-    Budgeted, Fuse, Future, Or, Pending, PollFn, PollOnce, Race, Ready, TryZip, YieldNow, Zip,
+    Fuse, Future, Or, Pending, PollFn, PollLimited, PollOnce, Race, Ready, TryZip, YieldNow, Zip,
 };
 use crate::{Context, Poll};
 use rand_core::{Rng, SeedableRng};
@@ -110,8 +110,8 @@ where
     ensures second { result.second ≡ Asked future2 }
 {
     Zip {
-        first: Half::Asked(future1),
-        second: Half::Asked(future2),
+        first: Side::Asked(future1),
+        second: Side::Asked(future2),
     }
 }
 
@@ -124,8 +124,8 @@ where
     ensures second { result.second ≡ Asked future2 }
 {
     TryZip {
-        first: Half::Asked(future1),
-        second: Half::Asked(future2),
+        first: Side::Asked(future1),
+        second: Side::Asked(future2),
     }
 }
 
@@ -193,10 +193,10 @@ pub fn fuse<F: Future>(future: F) -> Fuse<F>
 
 /// Returns a future that polls `future` at most `polls` times. Its value is `Ok` with that of `future`. If the
 /// last of these polls is pending, the value is `Err(Exhausted)`, and it is so at once if `polls` is 0.
-pub fn with_budget<F>(future: F, polls: usize) -> Budgeted<F>
+pub fn with_poll_limit<F>(future: F, polls: usize) -> PollLimited<F>
     ensures { result ≡ record { inner = future; left = polls } }
 {
-    Budgeted {
+    PollLimited {
         inner: future,
         left: polls,
     }

@@ -1,5 +1,5 @@
 ghost use Rattle.std.specs.Prelude.{⊤};
-ghost use Rattle.lite_base.specs.Future.PollOnce.{TellsFirst};
+ghost use Rattle.lite_base.specs.Future.PollOnce.{GivesFirst};
 ghost use Rattle.lite_base.specs.Laws.Future.PollOnce.{tells_calm, tells_laws};
 
 use super::{CalmFuture, Future};
@@ -26,7 +26,7 @@ impl<F: Future> Future for PollOnce<F> {
 
     ghost can_poll = { λ x. F.can_poll x.f };
 
-    ghost run = { TellsFirst F.run };
+    ghost run = { GivesFirst F.run };
 
     ghost laws = { tells_laws F.run F.can_poll };
 

@@ -1,9 +1,9 @@
 ghost use Rattle.std.specs.Prelude.{◌⊎◌};
-ghost use Rattle.lite_base.specs.Future.Half.{CanAsk, IfAsked, IsAskedAnd};
+ghost use Rattle.lite_base.specs.Future.Side.{CanAsk, IfAsked, IsAskedAnd};
 ghost use Rattle.lite_base.specs.Future.TryZip.{TryZips};
 ghost use Rattle.lite_base.specs.Laws.Future.TryZip.{try_zips_calm, try_zips_laws};
 
-use super::half::{Half, take_both, try_ask};
+use super::side::{Side, take_both, try_ask};
 use super::{CalmFuture, Future};
 use crate::{Context, Poll};
 
@@ -14,8 +14,8 @@ use crate::{Context, Poll};
 /// in the poll that returns its value. After an error both stay as they are.
 #[derive(Debug, Drop)]
 pub struct TryZip<F1, T1, F2, T2> {
-    pub(crate) first: Half<F1, T1>,
-    pub(crate) second: Half<F2, T2>,
+    pub(crate) first: Side<F1, T1>,
+    pub(crate) second: Side<F2, T2>,
 }
 
 impl<T1, T2, E, F1, F2> Future for TryZip<F1, T1, F2, T2>

@@ -1,10 +1,10 @@
 ghost use Rattle.std.specs.Prelude.{◌⊎◌};
 ghost use Rattle.lite_base.specs.Alike.{Pairwise};
-ghost use Rattle.lite_base.specs.Future.Half.{CanAsk, HalvesBy, IfAsked, IsAskedAnd};
+ghost use Rattle.lite_base.specs.Future.Side.{CanAsk, SidesBy, IfAsked, IsAskedAnd};
 ghost use Rattle.lite_base.specs.Future.Zip.{FutureZips};
 ghost use Rattle.lite_base.specs.Laws.Future.Zip.{zips_calm, zips_laws, zips_steady};
 
-use super::half::{Half, ask, take_both};
+use super::side::{Side, ask, take_both};
 use super::{CalmFuture, Future, SteadyFuture};
 use crate::{Context, Poll};
 
@@ -14,8 +14,8 @@ use crate::{Context, Poll};
 /// the second. A future is dropped in the poll that returns its value.
 #[derive(Debug, Drop)]
 pub struct Zip<F1: Future<Output: Drop>, F2: Future<Output: Drop>> {
-    pub(crate) first: Half<F1, F1::Output>,
-    pub(crate) second: Half<F2, F2::Output>,
+    pub(crate) first: Side<F1, F1::Output>,
+    pub(crate) second: Side<F2, F2::Output>,
 }
 
 impl<F1, F2> Future for Zip<F1, F2>
@@ -51,7 +51,7 @@ where
 
     ghost same = { Pairwise F1.same F2.same };
 
-    ghost alike = { λ x y. HalvesBy F1.same F1.alike x.first y.first × HalvesBy F2.same F2.alike x.second y.second };
+    ghost alike = { λ x y. SidesBy F1.same F1.alike x.first y.first × SidesBy F2.same F2.alike x.second y.second };
 
     ghost steady = { zips_steady F1.same F2.same F1.steady F2.steady };
 }

@@ -3,12 +3,12 @@ use Rattle.std.specs.Prelude.{◌≡◌, ◌<◌, ℕ, zero, suc, List, [], ◌�
 use Rattle.lite_bridge.specs.Uses.{◌∙◌, append-nil, ap, arith, refl, subst, sym, ReadsAtMost, Keeps, ReadConsumes, WriteAppends, SeekMoves, StaysAt}
 use Rattle.lite_bridge.specs.Uses.{Error, SeekFrom, End, Poll, Pending, Ready, by_kind, ReadMark, bytes, read_marks, MarkLaws, told_one_tale}
 use Rattle.lite_bridge.specs.Uses.{CalmReadLaws, NoPendingRead, SteadyReadLaws, strip_marks, CalmWriteLaws, SteadyWriteLaws, WriteMark, bytes_taken}
-use Rattle.lite_bridge.specs.Uses.{done_marks, write_marks, TellsScript, Comparable, Runs}
+use Rattle.lite_bridge.specs.Uses.{done_marks, write_marks, ReadsScript, Comparable, Runs}
 use Rattle.lite_base.specs.Calm.{CalmRuns}
 use Rattle.lite_io_base.specs.Laws.Grows.{growing_laws, grows_all, grows_no_pending}
 use Rattle.lite_io_base.specs.Laws.Steady.{no_wait_both, no_wait_moved}
 use Rattle.lite_io_base.specs.Laws.SteadyWrite.{never_waits_both}
-use Rattle.lite_io_base.specs.Marks.{moved}
+use Rattle.lite_io_base.specs.Marks.{moved_marks}
 use Rattle.std.specs.Io.Seek.{IsSeekTarget}
 use Rattle.lite_bridge.specs.Known.{GainsKnown, MovesKnown, NoFault, SameKnown, SpendsBytes, SpendsKnown}
 use Rattle.lite_bridge.specs.Known.{SpendsWell, WhereKnown, known_bytes}
@@ -86,7 +86,7 @@ no_fault_both (ReadMark.fault kind ∷ l) m h k = absurd h
 no_fault_both (_ ∷ l) m h k = no_fault_both l m h k
 
 -- If no read failed, the known bytes come in order.
-spends_told : (x y : List ℕ) (l : List ReadMark) → SpendsBytes x l y → NoFault l → TellsScript (bytes x) l (bytes y)
+spends_told : (x y : List ℕ) (l : List ReadMark) → SpendsBytes x l y → NoFault l → ReadsScript (bytes x) l (bytes y)
 spends_told x y [] h n = ap bytes h
 spends_told (a ∷ x) y (ReadMark.byte b ∷ l) h n = (ap ReadMark.byte h.0, spends_told x y l h.1 n)
 spends_told [] y (ReadMark.end ∷ l) h n = (refl, spends_told [] y l h.1 n)
@@ -148,7 +148,7 @@ spends_front : (xs ys : List ℕ) → SpendsBytes (xs ++ ys) (bytes xs) ys
 spends_front [] ys = refl
 spends_front (x ∷ xs) ys = (refl, spends_front xs ys)
 
-spends_moved : (room xs ys : List ℕ) → (xs ≡ [] → 0 < length room → ys ≡ []) → SpendsBytes (xs ++ ys) (moved room xs) ys
+spends_moved : (room xs ys : List ℕ) → (xs ≡ [] → 0 < length room → ys ≡ []) → SpendsBytes (xs ++ ys) (moved_marks room xs) ys
 spends_moved room (x ∷ xs) ys none = (refl, spends_front xs ys)
 spends_moved [] [] ys none = refl
 spends_moved (r ∷ room) [] ys none = (none refl (omega arith), refl)
@@ -165,7 +165,7 @@ pub read_spends : (x y z : Option (List ℕ)) (r : Result ℕ Error) (buf : List
 read_spends None y z (Ok n) buf k b h = no_wait_moved buf (take n buf)
 read_spends None y z (Err e) buf k b h = tt
 read_spends (Some xs) (Some ys) (Some zs) (Ok n) buf k b h =
-    subst (λ t. SpendsBytes t (moved buf (take n buf)) zs) (sym h.0 ∙ k)
+    subst (λ t. SpendsBytes t (moved_marks buf (take n buf)) zs) (sym h.0 ∙ k)
     (spends_moved buf (take n buf) zs (λ none room. h.1 (b.1 ∙ ap length none) room))
 read_spends (Some xs) (Some ys) (Some zs) (Err e) buf k b h = h ∙ k
 read_spends (Some xs) None z r buf k b h = absurd k
@@ -218,7 +218,7 @@ pub seek_moves : (p q s : Option ℕ) (x y z : Option (List ℕ)) (to : SeekFrom
     → Keeps y z → MovesKnown p s x z to (by_kind (Ready r))
 seek_moves (Some at) q s x y z to (Ok n) stays k h l =
     let moved = rw stays at h in
-    ((target_kept at x y to n k moved.0, moved.1), keeps_trans x y z k l)
+    ((target_kept at x y to n k moved_marks.0, moved_marks.1), keeps_trans x y z k l)
 seek_moves (Some at) q s x y z to (Err e) stays k h l =
     (rw stays at h, keeps_trans x y z k l)
 seek_moves None q s x y z to (Ok n) stays k h l = (tt, keeps_trans x y z k l)

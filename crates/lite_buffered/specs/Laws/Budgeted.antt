@@ -1,6 +1,6 @@
 -- Laws of a reader with a budget.
 use Rattle.std.specs.Prelude.{◌≡◌, ◌+◌, ◌-◌, ℕ, zero, suc, List, [], ◌∷◌, ◌++◌, Option, Some, None, length, take}
-use Rattle.lite_buffered.specs.Uses.{◌∙◌, inl, inr, refl, ap, subst, sym, arith, Comparable, Runs, ReadCounting, Falls, Known, TellsKnown, calm_part}
+use Rattle.lite_buffered.specs.Uses.{◌∙◌, inl, inr, refl, ap, subst, sym, arith, Comparable, Runs, ReadCounting, Falls, Known, ReadsKnown, calm_part}
 use Rattle.lite_buffered.specs.Uses.{steady_write_part, AllGiven, ReadMark, bytes, MarkLaws, Shows, SteadyReadLaws, strip_marks, CalmWriteLaws}
 use Rattle.lite_buffered.specs.Uses.{SteadyWriteLaws, WriteMark}
 use Rattle.lite_base.specs.Laws.Paces.{paces_follow}
@@ -9,15 +9,15 @@ use Rattle.lite_buffered.specs.Budgeted.{left_behind_mark, left_noted, lent_note
 use Rattle.lite_buffered.specs.declared.budgeted.Budgeted.{Budgeted}
 
 -- The bytes that may be shown of the inner reader's are the first to be passed on.
-paced_shows : (p q : ℕ × ℕ) (lent : List ℕ) (i o : List ReadMark) → PacesMarks p i o q → Comparable (bytes lent) i
-    → Comparable (bytes (take p.1 lent)) o
-paced_shows (budget, suc n) q (b ∷ lent) i (m ∷ o) (inl h) c = absurd (omega (arith, h.0))
-paced_shows (budget, suc n) q (b ∷ lent) i (m ∷ o) (inr h) c =
+paced_shows : (p q : ℕ × ℕ) (buffer_of : List ℕ) (i o : List ReadMark) → PacesMarks p i o q → Comparable (bytes buffer_of) i
+    → Comparable (bytes (take p.1 buffer_of)) o
+paced_shows (budget, suc n) q (b ∷ buffer_of) i (m ∷ o) (inl h) c = absurd (omega (arith, h.0))
+paced_shows (budget, suc n) q (b ∷ buffer_of) i (m ∷ o) (inr h) c =
     let e = rw h.2 at c in
     let one : suc n - 1 ≡ n = omega arith in
     let rest = subst (λ a. PacesMarks (budget, left_behind_mark budget a (suc n)) h.1 o q) (sym e.0) h.3 in
-    (e.0, paced_shows (budget, n) q lent h.1 o (subst (λ k. PacesMarks (budget, k) h.1 o q) one rest) e.1)
-paced_shows p q lent i o h c = tt
+    (e.0, paced_shows (budget, n) q buffer_of h.1 o (subst (λ k. PacesMarks (budget, k) h.1 o q) one rest) e.1)
+paced_shows p q buffer_of i o h c = tt
 
 -- Marks of only bytes and errors use as much of the budget.
 paced_falls : (p q : ℕ × ℕ) (i o : List ReadMark) → PacesMarks p i o q → AllGiven o → q.1 + length o ≡ p.1
@@ -35,8 +35,8 @@ paced_tale p q i (ReadMark.pending ∷ o) (inr h) = rw h.2 (paced_tale (p.0, p.0
 paced_tale p q i (m ∷ o) (inr h) =
     rw h.2 (ap (λ l. m ∷ l) (paced_tale (p.0, left_behind_mark p.0 m p.1) q h.1 o h.3))
 
-pub paced_spends : (p q : ℕ × ℕ) (i o : List ReadMark) (xs ys : List ℕ) → PacesMarks p i o q → TellsKnown xs i ys
-    → TellsKnown xs o ys
+pub paced_spends : (p q : ℕ × ℕ) (i o : List ReadMark) (xs ys : List ℕ) → PacesMarks p i o q → ReadsKnown xs i ys
+    → ReadsKnown xs o ys
 paced_spends p q i [] xs ys h k = rw h.0 at k
 paced_spends p q i (m ∷ o) xs ys (inl h) k = rw h.1 (paced_spends (p.0, p.0) q i o xs ys h.2 k)
 paced_spends p q i (ReadMark.byte b ∷ o) xs ys (inr h) k =
@@ -68,12 +68,12 @@ budgets_laws laws = record {
 }
 
 module _ {R : Type 0} {reads : Runs ReadMark R} where
-  pub budgets_show : (lent : R → List ℕ) → Shows reads lent → Shows (BudgetsMarks reads) (budgeted_lent lent)
-  budgets_show lent shows x y l h =
+  pub budgets_show : (buffer_of : R → List ℕ) → Shows reads buffer_of → Shows (BudgetsMarks reads) (budgeted_lent buffer_of)
+  budgets_show buffer_of shows x y l h =
       shown x.left (paced_shows _ _ _ h.came l h.paced (shows x.reader y.reader h.came h.ran))
     where
-      shown : (left : Option ℕ) → Comparable (bytes (take (left_noted x.budget left) (lent x.reader))) l
-          → Comparable (bytes (lent_noted left (lent x.reader))) l
+      shown : (left : Option ℕ) → Comparable (bytes (take (left_noted x.budget left) (buffer_of x.reader))) l
+          → Comparable (bytes (lent_noted left (buffer_of x.reader))) l
       shown None c = tt
       shown (Some n) c = c
 

@@ -1,11 +1,11 @@
 -- Laws of a `BufReader` as a reader.
 use Rattle.std.specs.Prelude.{◌≡◌, ◌<◌, ℕ, zero, suc, ◌+◌, ◌-◌, List, [], ◌∷◌, ◌++◌, length}
 use Rattle.lite_buffered.specs.Uses.{◌∙◌, refl, sym, ap, arith, append_assoc, append-nil, length-append, Comparable, Ranks, Runs, ReadCounting}
-use Rattle.lite_buffered.specs.Uses.{WriteMark, given-append, given_parts, AllGiven, ReadMark, bytes, given, MarkLaws, Shows}
+use Rattle.lite_buffered.specs.Uses.{WriteMark, given_count-append, given_parts, AllGiven, ReadMark, bytes, given_count, MarkLaws, Shows}
 use Rattle.lite_io_base.specs.Laws.Falls.{falls_held}
-use Rattle.lite_io_base.specs.Laws.Marks.{bytes_given, given-bytes, given_all, given_both}
+use Rattle.lite_io_base.specs.Laws.Marks.{bytes_given, given_count-bytes, given_all, given_both}
 use Rattle.lite_buffered.specs.declared.buf_reader.BufReader.{BufReader}
-use Rattle.lite_buffered.specs.BufReader.{Padded, PassesBuffer, Past, ThroughBuffer, ahead, ahead_ranks}
+use Rattle.lite_buffered.specs.BufReader.{Padded, PassesBuffer, Past, ThroughBuffer, bytes_ahead, ahead_ranks}
 use Rattle.lite_buffered.specs.BufReader.{reader_capacity}
 
 pub padded_same : (l : List ReadMark) → Padded l l
@@ -17,10 +17,10 @@ padded_both _ _ m n Padded.none q = q
 padded_both _ _ m n (Padded.same a l k p) q = Padded.same a _ _ (padded_both l k m n p q)
 padded_both _ _ m n (Padded.more l k p) q = Padded.more _ _ (padded_both l k m n p q)
 
-given_one : (a : ReadMark) (l k : List ReadMark) → given l ≡ given k → given (a ∷ l) ≡ given (a ∷ k)
-given_one a l k e = rw (given-append (a ∷ []) l, e) (sym (given-append (a ∷ []) k))
+given_one : (a : ReadMark) (l k : List ReadMark) → given_count l ≡ given_count k → given_count (a ∷ l) ≡ given_count (a ∷ k)
+given_one a l k e = rw (given_count-append (a ∷ []) l, e) (sym (given_count-append (a ∷ []) k))
 
-padded_given : (l k : List ReadMark) → Padded l k → given l ≡ given k
+padded_given : (l k : List ReadMark) → Padded l k → given_count l ≡ given_count k
 padded_given _ _ Padded.none = refl
 padded_given _ _ (Padded.same a l k p) = given_one a l k (padded_given l k p)
 padded_given _ _ (Padded.more l k p) = padded_given l k p
@@ -52,11 +52,11 @@ passes_both (suc n) p q r came out more next a b =
 
 -- The bytes and errors passed on, and the bytes ahead after, are as many as those that came in and those ahead before.
 passes_given : (n : ℕ) (p q : List ℕ) (came out : List ReadMark) → PassesBuffer n p came out q
-    → given came + length p ≡ given out + length q
+    → given_count came + length p ≡ given_count out + length q
 passes_given zero p q came out h = let e = padded_given came out h.2 in rw (h.0, h.1) (ap (λ k. k + 0) e)
 passes_given (suc n) p q came out h =
-    let e = ap given h in
-    omega (arith, e, given-append (bytes p) came, given-append out (bytes q), given-bytes p, given-bytes q)
+    let e = ap given_count h in
+    omega (arith, e, given_count-append (bytes p) came, given_count-append out (bytes q), given_count-bytes p, given_count-bytes q)
 
 passes_all_given : (n : ℕ) (p q : List ℕ) (came out : List ReadMark) → PassesBuffer n p came out q → AllGiven out
     → AllGiven came
@@ -74,7 +74,7 @@ passes_front zero p q came out h = rw h.0 tt
 passes_front (suc n) p q came out h = front _ came out _ h
 
 -- With capacity 0, no byte is ahead.
-pub ahead_none : {R : Type 0} (x : BufReader R) → reader_capacity x ≡ 0 → ahead x ≡ []
+pub ahead_none : {R : Type 0} (x : BufReader R) → reader_capacity x ≡ 0 → bytes_ahead x ≡ []
 ahead_none x none = let nothing : x.end - x.pos ≡ 0 = omega arith in rw nothing
 
 held_sized : (xs : List ℕ) (k n : ℕ) → length xs ≡ n → length (xs ++ k ∷ []) ≡ n + 1
@@ -87,7 +87,7 @@ module _ {R : Type 0} {reads : Runs ReadMark R} where
       came = [];
       ran = laws.rests x.inner;
       capacity = refl;
-      passes = passes_of _ _ [] [] (ahead x) (append-nil (bytes _)) (λ none. (ahead_none x none, ahead_none x none));
+      passes = passes_of _ _ [] [] (bytes_ahead x) (append-nil (bytes _)) (λ none. (ahead_none x none, ahead_none x none));
     };
     follows = λ x y z l m a b.
         let next = rw a.capacity at b.passes in
@@ -99,7 +99,7 @@ module _ {R : Type 0} {reads : Runs ReadMark R} where
         };
   }
 
-  pub through_shows : Shows (ThroughBuffer reads) ahead
+  pub through_shows : Shows (ThroughBuffer reads) bytes_ahead
   through_shows x y l h = passes_front _ _ _ h.came l h.passes
 
   module _ {r : Ranks R} (c : ReadCounting reads r) where

@@ -1,7 +1,7 @@
 -- Laws of `chain`.
 use Rattle.std.specs.Prelude.{◌≡◌, ℕ, Bool, true, false, cond, replicate, ◌+◌, List, [], ◌∷◌, ◌++◌, length, ⊤}
-use Rattle.lite_buffered.specs.Uses.{◌∙◌, refl, ap, append_assoc, inl, length-append, Falls, Comparable, AllGiven, ReadMark, bytes, given}
-use Rattle.lite_buffered.specs.Uses.{given-append, given_parts, ReadCounting, Ranks, Runs, MarkLaws, Shows}
+use Rattle.lite_buffered.specs.Uses.{◌∙◌, refl, ap, append_assoc, inl, length-append, Falls, Comparable, AllGiven, ReadMark, bytes, given_count}
+use Rattle.lite_buffered.specs.Uses.{given_count-append, given_parts, ReadCounting, Ranks, Runs, MarkLaws, Shows}
 use Rattle.lite_io_base.specs.Laws.Falls.{falls_both, falls_to_zeros}
 use Rattle.std.proofs.Common.{add-zero, zero-add}
 use Rattle.std.proofs.lemmas.List.{length-replicate}
@@ -138,6 +138,6 @@ module _ {R S : Type 0} (first : Runs ReadMark R) (second : Runs ReadMark S) whe
           fall_at r.width r.rank s.rank c.sized AllGiven length given_parts length-append x y
           (λ v m. c.falls x.first v m k.0) (λ m. d.falls x.second y.second m k.1) x.has_ended y.has_ended l;
       lowers = λ x y l k h.
-          fall_at r.width r.rank s.rank c.sized (λ _. ⊤) given (λ m n _. (tt, tt)) given-append x y
+          fall_at r.width r.rank s.rank c.sized (λ _. ⊤) given_count (λ m n _. (tt, tt)) given_count-append x y
           (λ v m _. c.lowers x.first v m k.0) (λ m _. d.lowers x.second y.second m k.1) x.has_ended y.has_ended l tt h;
     }

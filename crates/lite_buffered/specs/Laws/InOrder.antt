@@ -2,14 +2,14 @@
 use Rattle.std.specs.Prelude.{[], ◌∷◌}
 use Rattle.lite_buffered.specs.Uses.{refl, append-nil, ReadMark, bytes, Part, WriteMark, Runs}
 use Rattle.lite_buffered.specs.declared.buf_reader.BufReader.{BufReader}
-use Rattle.lite_buffered.specs.BufReader.{ahead}
+use Rattle.lite_buffered.specs.BufReader.{bytes_ahead}
 use Rattle.lite_buffered.specs.InOrder.{KeepsOrder}
 use Rattle.lite_buffered.specs.Laws.BufReader.{ahead_none, passes_both, passes_of}
 
 module _ {R : Type 0} (reads : Runs ReadMark R) (writes : Runs WriteMark R) where
   pub in_order : (x : BufReader R) → KeepsOrder reads writes x
   in_order x [] y h =
-      let still = passes_of _ _ [] [] (ahead x) (append-nil (bytes _))
+      let still = passes_of _ _ [] [] (bytes_ahead x) (append-nil (bytes _))
       (λ none. (ahead_none x none, ahead_none x none)) in
       rw h ([], refl, tt, still)
   in_order x (Part.reading l ∷ ps) y (z, a, h) =

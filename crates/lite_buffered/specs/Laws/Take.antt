@@ -1,9 +1,9 @@
 -- Laws of `take`.
 use Rattle.std.specs.Prelude.{◌≡◌, ℕ, zero, suc, List, [], ◌∷◌, ◌++◌, take}
-use Rattle.lite_buffered.specs.Uses.{◌∙◌, refl, sym, ap, subst, arith, append_assoc, append-nil, Comparable, Ranks, ranks_of, Runs, ReadCounting, given-append}
-use Rattle.lite_buffered.specs.Uses.{given_parts, comparable_none, AllGiven, ReadMark, bytes, given, MarkLaws, Shows}
+use Rattle.lite_buffered.specs.Uses.{◌∙◌, refl, sym, ap, subst, arith, append_assoc, append-nil, Comparable, Ranks, ranks_of, Runs, ReadCounting, given_count-append}
+use Rattle.lite_buffered.specs.Uses.{given_parts, comparable_none, AllGiven, ReadMark, bytes, given_count, MarkLaws, Shows}
 use Rattle.lite_buffered.specs.declared.take.Take.{Take}
-use Rattle.lite_buffered.specs.Take.{LimitEnds, TakesMarks, WithinLimit}
+use Rattle.lite_buffered.specs.Take.{LimitEnds, ReadsWithin, WithinLimit}
 
 fits_follow : (a b c : ℕ) (l m : List ReadMark) → WithinLimit a l b → WithinLimit b m c → WithinLimit a (l ++ m) c
 fits_follow a b c [] m h k = rw (← h) k
@@ -20,7 +20,7 @@ ends_both : (c : ℕ) (l m : List ReadMark) → LimitEnds c l → LimitEnds c m 
 ends_both c [] m h k = k
 ends_both c (e ∷ l) m h k = (h.0, h.1, ends_both c l m h.2 k)
 
-ends_given : (c : ℕ) (l : List ReadMark) → LimitEnds c l → given l ≡ 0
+ends_given : (c : ℕ) (l : List ReadMark) → LimitEnds c l → given_count l ≡ 0
 ends_given c [] h = refl
 ends_given c (e ∷ l) h = rw h.1 (ends_given c l h.2)
 
@@ -30,21 +30,21 @@ ends_gone c [] h g = refl
 ends_gone c (e ∷ l) h g = absurd (subst (λ m. AllGiven (m ∷ [])) h.1 (g.0, tt)).0
 
 -- Bytes shown of the inner reader's agree with its marks through the limit and the ends behind them.
-fits_show : (limit rest : ℕ) (lent : List ℕ) (front ends : List ReadMark) → WithinLimit limit front rest
-    → LimitEnds rest ends → Comparable (bytes lent) front → Comparable (bytes (take limit lent)) (front ++ ends)
-fits_show limit rest lent [] [] f e h = comparable_none (bytes _)
-fits_show limit rest lent [] (m ∷ ends) f e h = let none : limit ≡ 0 = omega (arith, f, e.0) in rw none tt
-fits_show zero rest lent (m ∷ front) ends f e h = absurd f
+fits_show : (limit rest : ℕ) (buffer_of : List ℕ) (front ends : List ReadMark) → WithinLimit limit front rest
+    → LimitEnds rest ends → Comparable (bytes buffer_of) front → Comparable (bytes (take limit buffer_of)) (front ++ ends)
+fits_show limit rest buffer_of [] [] f e h = comparable_none (bytes _)
+fits_show limit rest buffer_of [] (m ∷ ends) f e h = let none : limit ≡ 0 = omega (arith, f, e.0) in rw none tt
+fits_show zero rest buffer_of (m ∷ front) ends f e h = absurd f
 fits_show (suc n) rest [] (m ∷ front) ends f e h = tt
-fits_show (suc n) rest (b ∷ lent) (ReadMark.byte c ∷ front) ends f e h = (h.0, fits_show n rest lent front ends f e h.1)
-fits_show (suc n) rest (b ∷ lent) (m ∷ front) ends f e h = absurd (cc h.0)
+fits_show (suc n) rest (b ∷ buffer_of) (ReadMark.byte c ∷ front) ends f e h = (h.0, fits_show n rest buffer_of front ends f e h.1)
+fits_show (suc n) rest (b ∷ buffer_of) (m ∷ front) ends f e h = absurd (cc h.0)
 
 module _ {R : Type 0} {reads : Runs ReadMark R} where
-  still : (x y z : Take R) (l m : List ReadMark) → TakesMarks reads x l y → TakesMarks reads y m z → x.limit ≡ 0 → z ≡ x
+  still : (x y z : Take R) (l m : List ReadMark) → ReadsWithin reads x l y → ReadsWithin reads y m z → x.limit ≡ 0 → z ≡ x
   still x y z l m a b none = b.still (ap (λ (t : Take R). t.limit) (a.still none) ∙ none) ∙ a.still none
 
   -- Ends of file come once the limit is used up, so none of the inner reader's marks follows them.
-  joined : (x y z : Take R) (l m : List ReadMark) (a : TakesMarks reads x l y) (b : TakesMarks reads y m z)
+  joined : (x y z : Take R) (l m : List ReadMark) (a : ReadsWithin reads x l y) (b : ReadsWithin reads y m z)
       (e : List ReadMark) → a.ends ≡ e
       → (l ++ m ≡ (a.front ++ b.front) ++ (a.ends ++ b.ends)) × LimitEnds z.limit (a.ends ++ b.ends)
   joined x y z l m a b [] is = rw is (rw (a.cut, is, append-nil, b.cut, append_assoc), b.used_up)
@@ -56,7 +56,7 @@ module _ {R : Type 0} {reads : Runs ReadMark R} where
         ends_both z.limit a.ends b.ends (rw (← same) a.used_up) b.used_up,
       )
 
-  pub takes_laws : MarkLaws reads → MarkLaws (TakesMarks reads)
+  pub takes_laws : MarkLaws reads → MarkLaws (ReadsWithin reads)
   takes_laws laws = record {
     rests = λ x. record {
       front = [];
@@ -80,12 +80,12 @@ module _ {R : Type 0} {reads : Runs ReadMark R} where
         };
   }
 
-  pub takes_show : (lent : R → List ℕ) → Shows reads lent → Shows (TakesMarks reads) (λ x. take x.limit (lent x.inner))
-  takes_show lent shows x y l h =
+  pub takes_show : (buffer_of : R → List ℕ) → Shows reads buffer_of → Shows (ReadsWithin reads) (λ x. take x.limit (buffer_of x.inner))
+  takes_show buffer_of shows x y l h =
       rw h.cut (fits_show x.limit y.limit _ h.front h.ends h.fits h.used_up (shows x.inner y.inner h.front h.ran))
 
   module _ {r : Ranks R} (c : ReadCounting reads r) where
-    pub takes_counting : ReadCounting (TakesMarks reads) (ranks_of (λ (x : Take R). x.inner) r)
+    pub takes_counting : ReadCounting (ReadsWithin reads) (ranks_of (λ (x : Take R). x.inner) r)
     takes_counting = record {
       sized = λ x. c.sized x.inner;
       counts_on = λ x y l k h. c.counts_on x.inner y.inner h.front k h.ran;
@@ -95,7 +95,7 @@ module _ {R : Type 0} {reads : Runs ReadMark R} where
           let same : h.front ≡ l = rw (h.cut, ends_gone y.limit h.ends h.used_up parts.1, append-nil) in
           rw (← same) (c.falls _ _ h.front k parts.0 h.ran);
       lowers = λ x y l k h.
-          let same : given h.front ≡ given l =
-          omega (arith, ap given h.cut, given-append h.front h.ends, ends_given y.limit h.ends h.used_up) in
+          let same : given_count h.front ≡ given_count l =
+          omega (arith, ap given_count h.cut, given_count-append h.front h.ends, ends_given y.limit h.ends h.used_up) in
           rw (← same) (c.lowers _ _ h.front k h.ran);
     }

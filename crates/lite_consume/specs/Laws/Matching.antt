@@ -6,8 +6,8 @@ use Rattle.lite_base.specs.Laws.Alike.{ends_same, held_same, optional_same, same
 use Rattle.lite_base.specs.Laws.Calling.{agree_from_matches, keeping_from, keeping_matches, kin_matches}
 use Rattle.std.proofs.Common.{ap, sym, ◌∙◌}
 use Rattle.lite_consume.specs.Agreeing.{FoldSteadyLaws, SameDecision}
-use Rattle.lite_consume.specs.All.{alls}
-use Rattle.lite_consume.specs.Any.{anys}
+use Rattle.lite_consume.specs.All.{all_fold}
+use Rattle.lite_consume.specs.Any.{any_fold}
 use Rattle.lite_consume.specs.Consuming.{Fold}
 use Rattle.lite_consume.specs.Count.{counts}
 use Rattle.lite_consume.specs.Find.{finds}
@@ -21,8 +21,8 @@ use Rattle.lite_consume.specs.Next.{nexts}
 use Rattle.lite_consume.specs.Nth.{nths}
 use Rattle.lite_consume.specs.Position.{positions}
 use Rattle.lite_consume.specs.TestedUntil.{tested_until}
-use Rattle.lite_consume.specs.TryFold.{tries_fold}
-use Rattle.lite_consume.specs.TryForEach.{tries_each}
+use Rattle.lite_consume.specs.TryFold.{try_fold_steps}
+use Rattle.lite_consume.specs.TryForEach.{try_each_fold}
 use Rattle.lite_consume.specs.TryNext.{SameNext, TryNextItem, next_item_of, tries_next}
 
 -- The fold needs no memory and meets `FoldSteadyLaws`.
@@ -72,10 +72,10 @@ module _ {F A : Type 0} (like : A → A → Type 0) (test : Question F A Bool) w
     tested_steady : Steady like Equal (tested_until test goes_on decides) Tests
     tested_steady = steady tested_asked (λ p k q l r t a c d. c.0 ∙ sym d.0)
 
-  pub all_steady : Steady like Equal (alls test) Tests
+  pub all_steady : Steady like Equal (all_fold test) Tests
   all_steady = tested_steady true false (λ e. cc)
 
-  pub any_steady : Steady like Equal (anys test) Tests
+  pub any_steady : Steady like Equal (any_fold test) Tests
   any_steady = tested_steady false true (λ e. cc)
 
   position_asked : SameAsked like Equal (positions test) (AgreeBeside Tests)
@@ -226,7 +226,7 @@ module _ {M A R : Type 0} (like : A → A → Type 0) (fold : Fold M A R) where
       (λ p k q l r t a c d. inl (p, k, q, l, a.0, c, d))
 
 module _ {F A E : Type 0} (call : Question F A (Result (Unit {0}) E)) where
-  try_for_each_asked : SameAsked Equal Equal (tries_each call) (Agree call)
+  try_for_each_asked : SameAsked Equal Equal (try_each_fold call) (Agree call)
   try_for_each_asked p k q l x w None None a e c d = (matched a e c d).1
   try_for_each_asked p k q l x w None (Some t) a e c d =
       absurd (let b = subst IsErr (sym (matched a e c d.1).0) d.0 in cc)
@@ -234,10 +234,10 @@ module _ {F A E : Type 0} (call : Question F A (Result (Unit {0}) E)) where
   try_for_each_asked p k q l x w (Some r) (Some t) a e c d = (matched a e c.1 d.1).0
 
   pub try_for_each_steady : (like : Sameness A)
-      → Steady (SameItem like) (SameItem (Giving like (tries_each call))) (tries_each call)
-      (AgreeDeciding like (Agree call) (tries_each call))
+      → Steady (SameItem like) (SameItem (Giving like (try_each_fold call))) (try_each_fold call)
+      (AgreeDeciding like (Agree call) (try_each_fold call))
   try_for_each_steady Sameness.equal = steady try_for_each_asked (λ p k q l r t a c d. c.0 ∙ sym d.0)
-  try_for_each_steady (Sameness.by like) = deciding_steady like (tries_each call)
+  try_for_each_steady (Sameness.by like) = deciding_steady like (try_each_fold call)
 
 -- By accumulators that are equal.
 folded_same : {F B T R : Type 0} {call : Question F (B × T) R} {p k q l : F} {held kept : Option B} {x w : T} {b c : B}
@@ -266,7 +266,7 @@ module _ {F T A : Type 0} (call : F → T × A → T → F → Type 0) where
   fold_steady (Sameness.by like) = steady (kin_fold_asked like) (λ p k q l r t a c d. inl (p, k, q, l, a, c, d))
 
 module _ {F B T E : Type 0} (call : F → B × T → Result B E → F → Type 0) where
-  try_fold_asked : SameAsked Equal Equal (tries_fold call) (AgreeBeside (Agree call))
+  try_fold_asked : SameAsked Equal Equal (try_fold_steps call) (AgreeBeside (Agree call))
   try_fold_asked p k q l (Ok x) (Ok w) None None a e c d =
       let s = folded_same a.0 a.1 (cc e) c.2 d.2 c.3 d.3 in
       (s.1, let e' = s.0 in let h = c.4 in let g = d.4 in cc)
@@ -282,9 +282,9 @@ module _ {F B T E : Type 0} (call : F → B × T → Result B E → F → Type 0
   try_fold_asked p k q l _ _ o u a e c d = cc
 
   pub try_fold_steady : (like : Sameness (Result T E))
-      → Steady (SameItem like) (SameItem (Giving like (tries_fold call))) (tries_fold call)
-      (AgreeDeciding like (AgreeBeside (Agree call)) (tries_fold call))
+      → Steady (SameItem like) (SameItem (Giving like (try_fold_steps call))) (try_fold_steps call)
+      (AgreeDeciding like (AgreeBeside (Agree call)) (try_fold_steps call))
   try_fold_steady Sameness.equal =
       steady try_fold_asked
       (λ p k q l r t a c d. let e = a.1 in let h = c.1 in let g = d.1 in let v = c.2 in let w = d.2 in cc)
-  try_fold_steady (Sameness.by like) = deciding_steady like (tries_fold call)
+  try_fold_steady (Sameness.by like) = deciding_steady like (try_fold_steps call)

@@ -1,6 +1,6 @@
 -- Laws about entries of a journal and their marks.
 use Rattle.std.specs.Prelude.{◌≡◌, ℕ, List, [], ◌∷◌, ◌++◌, length, take, Result, Ok, Err}
-use Rattle.lite_halves.specs.Uses.{refl, arith, length-take-le, ap, map-append, Error, Poll, Ready, Pending, Part, moved, read_marks, WriteMark, done_marks}
+use Rattle.lite_halves.specs.Uses.{refl, arith, length-take-le, ap, map-append, Error, Poll, Ready, Pending, Part, moved_marks, read_marks, WriteMark, done_marks}
 use Rattle.lite_halves.specs.Uses.{write_marks, CountsWithin}
 use Rattle.lite_halves.specs.Entry.{AllFit, FitsCall, FitsDone, Note, done_marks_of, met, part_of, parts_in, read_note}
 use Rattle.lite_halves.specs.Entry.{told_of_done, write_note}
@@ -12,7 +12,7 @@ pub fit_both : (es fs : List Note) → AllFit es → AllFit fs → AllFit (es ++
 fit_both [] fs h k = k
 fit_both (e ∷ es) fs h k = (h.0, fit_both es fs h.1 k)
 
-met_moved : (buf xs : List ℕ) → met (length buf) xs ≡ moved buf xs
+met_moved : (buf xs : List ℕ) → met (length buf) xs ≡ moved_marks buf xs
 met_moved [] [] = refl
 met_moved _ _ = refl
 

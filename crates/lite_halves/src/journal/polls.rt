@@ -14,25 +14,25 @@ use crate::answers::{done_answer, or_refused, read_answer, write_answer};
 use crate::entry::{Call, Entry};
 use lite_base::{Context, Poll};
 use lite_io_base::{
-    AsyncRead, AsyncWrite, CalmRead, CalmWrite, SteadyRead, SteadyWrite, Takings, Tale,
+    AsyncRead, AsyncWrite, CalmRead, CalmWrite, ReadSpec, SteadyRead, SteadyWrite, WriteSpec,
     first_nonempty, first_room,
 };
 use std::io;
 use std::io::{IoSlice, IoSliceMut};
 
-impl<T: Tale + Takings + Clone> Tale for Journal<T> {
+impl<T: ReadSpec + WriteSpec + Clone> ReadSpec for Journal<T> {
     ghost reads = { JournalReads T.reads T.writes };
 
     ghost read_laws = { journals_laws T.reads T.writes Part.reading (ReadMark.fault OutOfMemory) };
 }
 
-impl<T: Tale + Takings + Clone> Takings for Journal<T> {
+impl<T: ReadSpec + WriteSpec + Clone> WriteSpec for Journal<T> {
     ghost writes = { JournalWrites T.reads T.writes };
 
     ghost write_laws = { journals_laws T.reads T.writes Part.writing (WriteMark.fault OutOfMemory) };
 }
 
-impl<T: Tale + Takings + Clone> Journal<T> {
+impl<T: ReadSpec + WriteSpec + Clone> Journal<T> {
     // Makes room for an entry, and for `bytes` bytes of it.
     #[inline(always)]
     fn make_room(&mut self, bytes: usize) -> Option<Vec<u8>>
@@ -45,7 +45,7 @@ impl<T: Tale + Takings + Clone> Journal<T> {
     }
 }
 
-impl<T: AsyncRead + Takings + Clone> Journal<T> {
+impl<T: AsyncRead + WriteSpec + Clone> Journal<T> {
     /// Reads once, and records the call with its answer.
     ///
     /// Returns `None` if the memory for the entry was refused. The stream is not called then, and nothing
@@ -115,7 +115,7 @@ impl<T: AsyncRead + Takings + Clone> Journal<T> {
     }
 }
 
-impl<T: Tale + AsyncWrite + Clone> Journal<T> {
+impl<T: ReadSpec + AsyncWrite + Clone> Journal<T> {
     /// Writes once, and records the call with its answer.
     ///
     /// Returns `None` if the memory for the entry was refused. The stream is not called then, and nothing
@@ -261,7 +261,7 @@ impl<T: Tale + AsyncWrite + Clone> Journal<T> {
 }
 
 #[tactic(auto, using(crate::specs::Laws::Journal::reads_rules))]
-impl<T: AsyncRead + Takings + Clone> AsyncRead for Journal<T> {
+impl<T: AsyncRead + WriteSpec + Clone> AsyncRead for Journal<T> {
     ghost registers = { λ j. T.registers j.stream };
 
     /// Reads from the stream, and records the call with its answer.
@@ -298,7 +298,7 @@ impl<T: AsyncRead + Takings + Clone> AsyncRead for Journal<T> {
 }
 
 #[tactic(auto, using(crate::specs::Laws::Journal::writes_rules))]
-impl<T: Tale + AsyncWrite + Clone> AsyncWrite for Journal<T> {
+impl<T: ReadSpec + AsyncWrite + Clone> AsyncWrite for Journal<T> {
     ghost write_registers = { λ j. T.write_registers j.stream };
 
     /// Writes to the stream, and records the call with its answer.
@@ -353,7 +353,7 @@ impl<T: Tale + AsyncWrite + Clone> AsyncWrite for Journal<T> {
 }
 
 // Where memory was found for each entry.
-impl<T: SteadyRead + Takings + Clone> SteadyRead for Journal<T> {
+impl<T: SteadyRead + WriteSpec + Clone> SteadyRead for Journal<T> {
     ghost ample = { ReadsAmply T.reads T.writes T.ample };
 
     ghost needs_none = { ⊥ };
@@ -364,7 +364,7 @@ impl<T: SteadyRead + Takings + Clone> SteadyRead for Journal<T> {
 }
 
 // An entry that was refused memory is an error, and those are left out.
-impl<T: Tale + SteadyWrite + Clone> SteadyWrite for Journal<T> {
+impl<T: ReadSpec + SteadyWrite + Clone> SteadyWrite for Journal<T> {
     ghost alike = { λ a b. T.alike a.stream b.stream };
 
     ghost below = { λ a. T.below a.stream };
@@ -372,13 +372,13 @@ impl<T: Tale + SteadyWrite + Clone> SteadyWrite for Journal<T> {
     ghost steady = { journal_steady_write T.write_laws T.steady };
 }
 
-impl<T: CalmRead + Takings + Clone> CalmRead for Journal<T> {
+impl<T: CalmRead + WriteSpec + Clone> CalmRead for Journal<T> {
     ghost is_calm = { λ j. T.is_calm j.stream };
 
     ghost calm = { journal_calm T.read_laws T.calm };
 }
 
-impl<T: Tale + CalmWrite + Clone> CalmWrite for Journal<T> {
+impl<T: ReadSpec + CalmWrite + Clone> CalmWrite for Journal<T> {
     ghost is_calm = { λ j. T.is_calm j.stream };
 
     ghost calm = { journal_calm_write T.write_laws T.calm };

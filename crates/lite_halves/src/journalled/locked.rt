@@ -6,20 +6,20 @@ ghost use Rattle.lite_halves.specs.Counts.{numbers_of};
 ghost use Rattle.lite_halves.specs.declared.journalled.tally.Side.TheVariants.{Reading, Writing};
 ghost use Rattle.lite_halves.specs.Entry.{Request, asked_of, close_note, flush_note, read_note, write_note};
 
-use super::books::{Blanks, Books, Got, Reads, Taken, Writes};
+use super::counter_names::{CounterNames, Got, NewCounters, Reads, Taken, Writes};
 use super::tally::{Shares, Side, SideBooks, Tally};
 use crate::{Answer, Call, Journal, buffer_answer, done_answer, write_answer};
 use lite_base::{Context, Poll};
-use lite_io_base::{AsyncRead, AsyncWrite, Takings, Tale};
+use lite_io_base::{AsyncRead, AsyncWrite, ReadSpec, WriteSpec};
 use std::alloc::AllocError;
 use std::io;
 
-/// A journal, and the books of its two sides. Each step is one call of the stream together with its entry.
+/// A journal, and the counter_names of its two sides. Each step is one call of the stream together with its entry.
 ///
 /// The journal is put in after the lock is made. Each book of calls counts one for it, so anyone who has a
 /// tally finds it there.
 #[derive(Drop)]
-pub(super) struct Locked<T: Tale + Takings + Clone, B: Books> {
+pub(super) struct Locked<T: ReadSpec + WriteSpec + Clone, B: CounterNames> {
     journal: Option<Journal<T>>,
     reading: SideBooks<Reads<B>, Got<B>>,
     writing: SideBooks<Writes<B>, Taken<B>>,
@@ -28,7 +28,7 @@ pub(super) struct Locked<T: Tale + Takings + Clone, B: Books> {
 }
 
 #[tactic(auto, using(crate::proofs::Fits::call_fits))]
-impl<T: AsyncRead + Takings + Clone, B: Books> Locked<T, B> {
+impl<T: AsyncRead + WriteSpec + Clone, B: CounterNames> Locked<T, B> {
     /// Reads once, with an entry. `None` means that the memory for it was refused, and nothing was called.
     pub(super) fn read(
         &mut self,
@@ -65,7 +65,7 @@ impl<T: AsyncRead + Takings + Clone, B: Books> Locked<T, B> {
 }
 
 #[tactic(auto, using(crate::proofs::Fits::call_fits))]
-impl<T: Tale + AsyncWrite + Clone, B: Books> Locked<T, B> {
+impl<T: ReadSpec + AsyncWrite + Clone, B: CounterNames> Locked<T, B> {
     /// Writes once, with an entry. `None` means that the memory for it was refused, and nothing was called.
     pub(super) fn write(
         &mut self,
@@ -141,24 +141,24 @@ impl<T: Tale + AsyncWrite + Clone, B: Books> Locked<T, B> {
     }
 }
 
-impl<T: Tale + Takings + Clone, B: Books> Locked<T, B> {
+impl<T: ReadSpec + WriteSpec + Clone, B: CounterNames> Locked<T, B> {
     /// Returns a place without a journal yet, and all shares of its four ledgers.
     pub(super) fn open(
-        blanks: Blanks,
+        counters: NewCounters,
     ) -> (
         Locked<T, B>,
         Shares<Reads<B>, Got<B>>,
         Shares<Writes<B>, Taken<B>>,
     )
-        requires { blanks ≡ B.names }
+        requires { counters ≡ B.names }
         ensures { (result.1 ≡ nothing_counted) × (result.2 ≡ nothing_counted) }
     {
-        let Blanks {
+        let NewCounters {
             reads,
             got,
             writes,
             taken,
-        } = blanks;
+        } = counters;
         let (reading, read_shares) = SideBooks::open(reads, got);
         let (writing, write_shares) = SideBooks::open(writes, taken);
         let locked = Locked {

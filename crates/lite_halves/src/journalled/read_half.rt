@@ -6,13 +6,13 @@ ghost use Rattle.lite_halves.specs.Counts.{ReadCounts, read_bytes_of};
 ghost use Rattle.lite_halves.specs.Entry.{Request, read_note, told_in};
 ghost use Rattle.lite_halves.specs.Laws.Counts.{counts_laws};
 
-use super::books::{Books, Got, Reads};
+use super::counter_names::{CounterNames, Got, Reads};
 use super::locked::Locked;
 use super::tally::Tally;
 use crate::Answer;
 use crate::answers::or_refused;
 use lite_base::{Context, Poll};
-use lite_io_base::{AsyncRead, Takings, Tale, first_room};
+use lite_io_base::{AsyncRead, ReadSpec, WriteSpec, first_room};
 use std::alloc::{AllocError, AllocGlobal};
 use std::io::IoSliceMut;
 use std::marker::Model;
@@ -26,13 +26,13 @@ use std::{fmt, io};
 /// those from before the split are included. It also sees the reads that this half made, each with its result, in
 /// order. What the stream does between two calls is not known, because the other half may call it.
 #[derive(Drop)]
-pub struct JournalReadHalf<R, T: Tale + Takings + Clone, B: Books> {
+pub struct JournalReadHalf<R, T: ReadSpec + WriteSpec + Clone, B: CounterNames> {
     pub(super) rt: R,
     pub(super) shared: Arc<Mutex<Locked<T, B>>>,
     pub(super) tally: Tally<Reads<B>, Got<B>>,
 }
 
-impl<R, T: Tale + Takings + Clone, B: Books> fmt::Debug for JournalReadHalf<R, T, B> {
+impl<R, T: ReadSpec + WriteSpec + Clone, B: CounterNames> fmt::Debug for JournalReadHalf<R, T, B> {
     fn fmt<W: fmt::Write>(&self, f: &mut fmt::Formatter<W>) -> fmt::Result {
         f.debug_struct("JournalReadHalf")
             .field("calls", &self.calls())
@@ -41,7 +41,7 @@ impl<R, T: Tale + Takings + Clone, B: Books> fmt::Debug for JournalReadHalf<R, T
     }
 }
 
-impl<R, T: Tale + Takings + Clone, B: Books> Model for JournalReadHalf<R, T, B> {
+impl<R, T: ReadSpec + WriteSpec + Clone, B: CounterNames> Model for JournalReadHalf<R, T, B> {
     ghost use Rattle.lite_halves.specs.Counts.{HalfCounts};
 
     ghost Value = { HalfCounts };
@@ -49,7 +49,7 @@ impl<R, T: Tale + Takings + Clone, B: Books> Model for JournalReadHalf<R, T, B> 
     ghost view = { λ h. h.tally };
 }
 
-impl<R, T: Tale + Takings + Clone, B: Books> JournalReadHalf<R, T, B> {
+impl<R, T: ReadSpec + WriteSpec + Clone, B: CounterNames> JournalReadHalf<R, T, B> {
     /// Returns how many entries of reads the journal has.
     ///
     /// It takes no lock and does not wait. The number is exact: it never wraps.
@@ -58,7 +58,7 @@ impl<R, T: Tale + Takings + Clone, B: Books> JournalReadHalf<R, T, B> {
     ///
     /// ```
     /// use futures_lite::future;
-    /// use futures_lite::io::{AsyncReadExt, Blanks, Cursor, Journal, split_journalled};
+    /// use futures_lite::io::{AsyncReadExt, NewCounters, Cursor, Journal, split_journalled};
     /// use std::alloc::AllocError;
     /// use std::marker::Brand;
     ///
@@ -69,7 +69,7 @@ impl<R, T: Tale + Takings + Clone, B: Books> JournalReadHalf<R, T, B> {
     ///     return Err(AllocError.into());
     /// };
     /// future::block_on(&rt, journal.read(&mut [0u8]))??;
-    /// let halves = split_journalled::<HostRuntime, Bytes, Brand>(rt, journal, Blanks::new());
+    /// let halves = split_journalled::<HostRuntime, Bytes, Brand>(rt, journal, NewCounters::new());
     /// let Ok((mut reader, _writer)) = halves else {
     ///     return Err(AllocError.into());
     /// };
@@ -93,7 +93,7 @@ impl<R, T: Tale + Takings + Clone, B: Books> JournalReadHalf<R, T, B> {
     /// ```
     /// use futures_lite::future;
     /// use futures_lite::io::{
-    ///     AsyncReadExt, Blanks, Cursor, Journal, JournalReadHalf, split_journalled,
+    ///     AsyncReadExt, NewCounters, Cursor, Journal, JournalReadHalf, split_journalled,
     /// };
     /// use std::alloc::AllocError;
     /// use std::marker::Brand;
@@ -104,7 +104,7 @@ impl<R, T: Tale + Takings + Clone, B: Books> JournalReadHalf<R, T, B> {
     /// let Ok(journal) = Journal::new(rt.alloc(), cursor) else {
     ///     return Err(AllocError.into());
     /// };
-    /// let halves = split_journalled::<HostRuntime, Bytes, Brand>(rt, journal, Blanks::new());
+    /// let halves = split_journalled::<HostRuntime, Bytes, Brand>(rt, journal, NewCounters::new());
     /// let Ok((mut reader, _writer)) = halves else {
     ///     return Err(AllocError.into());
     /// };
@@ -118,13 +118,14 @@ impl<R, T: Tale + Takings + Clone, B: Books> JournalReadHalf<R, T, B> {
     }
 }
 
-impl<R, T: Tale + Takings + Clone, B: Books> Tale for JournalReadHalf<R, T, B> {
+impl<R, T: ReadSpec + WriteSpec + Clone, B: CounterNames> ReadSpec for JournalReadHalf<R, T, B> {
     ghost reads = { ReadCounts };
 
     ghost read_laws = { counts_laws Part.reading (ReadMark.fault OutOfMemory) read_bytes_of };
 }
 
-impl<R: Wait, T: AsyncRead + Takings + Clone, B: Books> AsyncRead for JournalReadHalf<R, T, B> {
+impl<R: Wait, T: AsyncRead + WriteSpec + Clone, B: CounterNames> AsyncRead
+    for JournalReadHalf<R, T, B> {
     /// Reads from the stream, and records the call with its answer, both under one lock.
     ///
     /// Room for the entry is made first. If it is refused, this returns an error of the kind `OutOfMemory`:
@@ -166,8 +167,8 @@ impl<R: Wait, T: AsyncRead + Takings + Clone, B: Books> AsyncRead for JournalRea
 impl<R, T, B> JournalReadHalf<R, T, B>
 where
     R: Wait + AllocGlobal,
-    T: AsyncRead + Takings + Clone,
-    B: Books,
+    T: AsyncRead + WriteSpec + Clone,
+    B: CounterNames,
 {
     // Reads once, with an entry. `None` means that the memory for the entry or the answer was refused, and
     // nothing was called.
@@ -194,7 +195,7 @@ where
     /// # Examples
     ///
     /// ```
-    /// use futures_lite::io::{Answer, Blanks, Cursor, Journal, split_journalled};
+    /// use futures_lite::io::{Answer, NewCounters, Cursor, Journal, split_journalled};
     /// use futures_lite::{Context, Poll, future};
     /// use std::alloc::AllocError;
     /// use std::marker::Brand;
@@ -205,7 +206,7 @@ where
     /// let Ok(journal) = Journal::new(rt.alloc(), cursor) else {
     ///     return Err(AllocError.into());
     /// };
-    /// let halves = split_journalled::<HostRuntime, Bytes, Brand>(rt, journal, Blanks::new());
+    /// let halves = split_journalled::<HostRuntime, Bytes, Brand>(rt, journal, NewCounters::new());
     /// let Ok((mut reader, _writer)) = halves else {
     ///     return Err(AllocError.into());
     /// };

@@ -7,13 +7,13 @@ ghost use Rattle.lite_halves.specs.Counts.{MakesWrite, WriteCounts, taken_bytes_
 ghost use Rattle.lite_halves.specs.Entry.{asked_in, asked_of, close_note, flush_note, told_in, write_note};
 ghost use Rattle.lite_halves.specs.Laws.Counts.{counts_laws};
 
-use super::books::{Books, Taken, Writes};
+use super::counter_names::{CounterNames, Taken, Writes};
 use super::locked::Locked;
 use super::tally::Tally;
 use crate::answers::or_refused;
 use crate::{Answer, Call};
 use lite_base::{Context, Poll};
-use lite_io_base::{AsyncWrite, Takings, Tale, first_nonempty};
+use lite_io_base::{AsyncWrite, ReadSpec, WriteSpec, first_nonempty};
 use std::alloc::AllocError;
 use std::io::IoSlice;
 use std::marker::Model;
@@ -28,13 +28,13 @@ use std::{fmt, io};
 /// made, each with its result, in order. What the stream does between two calls is not known, because the other
 /// half may call it.
 #[derive(Drop)]
-pub struct JournalWriteHalf<R, T: Tale + Takings + Clone, B: Books> {
+pub struct JournalWriteHalf<R, T: ReadSpec + WriteSpec + Clone, B: CounterNames> {
     pub(super) rt: R,
     pub(super) shared: Arc<Mutex<Locked<T, B>>>,
     pub(super) tally: Tally<Writes<B>, Taken<B>>,
 }
 
-impl<R, T: Tale + Takings + Clone, B: Books> fmt::Debug for JournalWriteHalf<R, T, B> {
+impl<R, T: ReadSpec + WriteSpec + Clone, B: CounterNames> fmt::Debug for JournalWriteHalf<R, T, B> {
     fn fmt<W: fmt::Write>(&self, f: &mut fmt::Formatter<W>) -> fmt::Result {
         f.debug_struct("JournalWriteHalf")
             .field("calls", &self.calls())
@@ -43,7 +43,7 @@ impl<R, T: Tale + Takings + Clone, B: Books> fmt::Debug for JournalWriteHalf<R, 
     }
 }
 
-impl<R, T: Tale + Takings + Clone, B: Books> Model for JournalWriteHalf<R, T, B> {
+impl<R, T: ReadSpec + WriteSpec + Clone, B: CounterNames> Model for JournalWriteHalf<R, T, B> {
     ghost use Rattle.lite_halves.specs.Counts.{HalfCounts};
 
     ghost Value = { HalfCounts };
@@ -51,7 +51,7 @@ impl<R, T: Tale + Takings + Clone, B: Books> Model for JournalWriteHalf<R, T, B>
     ghost view = { λ h. h.tally };
 }
 
-impl<R, T: Tale + Takings + Clone, B: Books> JournalWriteHalf<R, T, B> {
+impl<R, T: ReadSpec + WriteSpec + Clone, B: CounterNames> JournalWriteHalf<R, T, B> {
     /// Returns how many entries of writes, flushes and closes the journal has.
     ///
     /// It takes no lock and does not wait. The number is exact: it never wraps.
@@ -60,7 +60,7 @@ impl<R, T: Tale + Takings + Clone, B: Books> JournalWriteHalf<R, T, B> {
     ///
     /// ```
     /// use futures_lite::future;
-    /// use futures_lite::io::{AsyncWriteExt, Blanks, Cursor, Journal, split_journalled};
+    /// use futures_lite::io::{AsyncWriteExt, NewCounters, Cursor, Journal, split_journalled};
     /// use std::alloc::AllocError;
     /// use std::marker::Brand;
     ///
@@ -69,7 +69,7 @@ impl<R, T: Tale + Takings + Clone, B: Books> JournalWriteHalf<R, T, B> {
     /// let Ok(journal) = Journal::new(rt.alloc(), Cursor::new(Vec::new(rt.alloc()))) else {
     ///     return Err(AllocError.into());
     /// };
-    /// let halves = split_journalled::<HostRuntime, Bytes, Brand>(rt, journal, Blanks::new());
+    /// let halves = split_journalled::<HostRuntime, Bytes, Brand>(rt, journal, NewCounters::new());
     /// let Ok((_reader, mut writer)) = halves else {
     ///     return Err(AllocError.into());
     /// };
@@ -91,7 +91,7 @@ impl<R, T: Tale + Takings + Clone, B: Books> JournalWriteHalf<R, T, B> {
     ///
     /// ```
     /// use futures_lite::future;
-    /// use futures_lite::io::{AsyncWriteExt, Blanks, Cursor, Journal, split_journalled};
+    /// use futures_lite::io::{AsyncWriteExt, NewCounters, Cursor, Journal, split_journalled};
     /// use std::alloc::AllocError;
     /// use std::marker::Brand;
     ///
@@ -100,7 +100,7 @@ impl<R, T: Tale + Takings + Clone, B: Books> JournalWriteHalf<R, T, B> {
     /// let Ok(journal) = Journal::new(rt.alloc(), Cursor::new(Vec::new(rt.alloc()))) else {
     ///     return Err(AllocError.into());
     /// };
-    /// let halves = split_journalled::<HostRuntime, Bytes, Brand>(rt, journal, Blanks::new());
+    /// let halves = split_journalled::<HostRuntime, Bytes, Brand>(rt, journal, NewCounters::new());
     /// let Ok((_reader, mut writer)) = halves else {
     ///     return Err(AllocError.into());
     /// };
@@ -115,7 +115,7 @@ impl<R, T: Tale + Takings + Clone, B: Books> JournalWriteHalf<R, T, B> {
     }
 }
 
-impl<R: Wait, T: Tale + AsyncWrite + Clone, B: Books> JournalWriteHalf<R, T, B> {
+impl<R: Wait, T: ReadSpec + AsyncWrite + Clone, B: CounterNames> JournalWriteHalf<R, T, B> {
     // Makes one call, with its entry. `None` means that the memory for the entry was refused, and nothing was
     // called.
     fn make(&mut self, cx: &mut Context<'_>, call: &Call) -> Option<Answer>
@@ -139,7 +139,7 @@ impl<R: Wait, T: Tale + AsyncWrite + Clone, B: Books> JournalWriteHalf<R, T, B> 
     /// # Examples
     ///
     /// ```
-    /// use futures_lite::io::{Answer, Blanks, Call, Cursor, Journal, split_journalled};
+    /// use futures_lite::io::{Answer, NewCounters, Call, Cursor, Journal, split_journalled};
     /// use futures_lite::{Context, Poll, future};
     /// use std::alloc::AllocError;
     /// use std::marker::Brand;
@@ -149,7 +149,7 @@ impl<R: Wait, T: Tale + AsyncWrite + Clone, B: Books> JournalWriteHalf<R, T, B> 
     /// let Ok(journal) = Journal::new(rt.alloc(), Cursor::new(Vec::new(rt.alloc()))) else {
     ///     return Err(AllocError.into());
     /// };
-    /// let halves = split_journalled::<HostRuntime, Bytes, Brand>(rt, journal, Blanks::new());
+    /// let halves = split_journalled::<HostRuntime, Bytes, Brand>(rt, journal, NewCounters::new());
     /// let Ok((_reader, mut writer)) = halves else {
     ///     return Err(AllocError.into());
     /// };
@@ -180,14 +180,15 @@ impl<R: Wait, T: Tale + AsyncWrite + Clone, B: Books> JournalWriteHalf<R, T, B> 
     }
 }
 
-impl<R, T: Tale + Takings + Clone, B: Books> Takings for JournalWriteHalf<R, T, B> {
+impl<R, T: ReadSpec + WriteSpec + Clone, B: CounterNames> WriteSpec for JournalWriteHalf<R, T, B> {
     ghost writes = { WriteCounts };
 
     ghost write_laws = { counts_laws Part.writing (WriteMark.fault OutOfMemory) taken_bytes_of };
 }
 
 #[tactic(auto, using(crate::specs::Laws::Counts::write_half_rules))]
-impl<R: Wait, T: Tale + AsyncWrite + Clone, B: Books> AsyncWrite for JournalWriteHalf<R, T, B> {
+impl<R: Wait, T: ReadSpec + AsyncWrite + Clone, B: CounterNames> AsyncWrite
+    for JournalWriteHalf<R, T, B> {
     /// Writes to the stream, and records the call with its answer, both under one lock.
     ///
     /// Room for the entry and a copy of `buf` is made first. If it is refused, this returns an error of the

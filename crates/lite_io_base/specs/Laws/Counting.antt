@@ -4,7 +4,7 @@ use Rattle.lite_io_base.specs.Uses.{Terminates, Ranks, number_ranks, Runs}
 use Rattle.lite_io_base.specs.Falls.{Falls}
 use Rattle.lite_io_base.specs.Laws.Falls.{GivenRun, counted_ends}
 use Rattle.lite_io_base.specs.Laws.Marks.{given_all}
-use Rattle.lite_io_base.specs.Marks.{ReadMark, given}
+use Rattle.lite_io_base.specs.Marks.{ReadMark, given_count}
 use Rattle.lite_io_base.specs.Counting.{ReadCounting}
 
 module _ {S : Type 0} {reads : Runs ReadMark S} where
@@ -14,7 +14,7 @@ module _ {S : Type 0} {reads : Runs ReadMark S} where
 
   -- A reader is counted if each byte and each error lowers a number, and nothing raises it.
   pub number_counting : {number : S → ℕ}
-      → ((x y : S) (l : List ReadMark) → reads x l y → Falls (given l) (number y ∷ []) (number x ∷ []))
+      → ((x y : S) (l : List ReadMark) → reads x l y → Falls (given_count l) (number y ∷ []) (number x ∷ []))
       → ReadCounting reads (number_ranks number)
   number_counting lowers = record {
     sized = λ x. refl;

@@ -2,10 +2,10 @@
 use Rattle.std.specs.Prelude.{⊤, List, [], ◌∷◌, ◌≡◌, ℕ, ◌++◌, refl}
 use Rattle.lite_io_base.specs.Uses.{ap, sym, Comparable, MutBor, Lent, Runs}
 use Rattle.lite_base.specs.Laws.Steady.{lent_takes_none}
-use Rattle.lite_io_base.specs.Marks.{ReadMark, bytes, moved}
+use Rattle.lite_io_base.specs.Marks.{ReadMark, bytes, moved_marks}
 use Rattle.lite_io_base.specs.Steady.{CalmReadLaws, NoPendingRead, SteadyReadLaws, strip_marks, OneTale}
 use Rattle.lite_io_base.specs.Laws.Told.{told_laws}
-use Rattle.lite_io_base.specs.Told.{TellsScript}
+use Rattle.lite_io_base.specs.Told.{ReadsScript}
 use Rattle.lite_io_base.specs.Laws.Lent.{lent_laws}
 use Rattle.lite_io_base.specs.Runs.{MarkLaws}
 
@@ -86,32 +86,32 @@ pub no_wait_bytes : (xs : List ℕ) → NoPendingRead (bytes xs)
 no_wait_bytes [] = tt
 no_wait_bytes (x ∷ xs) = no_wait_bytes xs
 
-pub no_wait_moved : (room xs : List ℕ) → NoPendingRead (moved room xs)
+pub no_wait_moved : (room xs : List ℕ) → NoPendingRead (moved_marks room xs)
 no_wait_moved room (x ∷ xs) = no_wait_bytes xs
 no_wait_moved (r ∷ room) [] = tt
 no_wait_moved [] [] = tt
 
 -- Two runs of a fixed tale: one is a prefix of the other.
-told_comparable : (t x y l m : List ReadMark) → TellsScript t l x → TellsScript t m y → Comparable l m
+told_comparable : (t x y l m : List ReadMark) → ReadsScript t l x → ReadsScript t m y → Comparable l m
 told_comparable [] x y (a ∷ l) (b ∷ m) h k = (cc (h.0, k.0), told_comparable [] x y l m h.1 k.1)
 told_comparable (c ∷ t) x y (a ∷ l) (b ∷ m) h k = (cc (h.0, k.0), told_comparable t x y l m h.1 k.1)
 told_comparable t x y _ _ h k = tt
 
-told_stripped : (x y l : List ReadMark) → TellsScript x l y
-    → TellsScript (strip_marks x) (strip_marks l) (strip_marks y)
+told_stripped : (x y l : List ReadMark) → ReadsScript x l y
+    → ReadsScript (strip_marks x) (strip_marks l) (strip_marks y)
 told_stripped x y [] h = ap strip_marks h
 told_stripped [] y (a ∷ l) h = rw h.0 (refl, told_stripped [] y l h.1)
 told_stripped (ReadMark.pending ∷ x) y (a ∷ l) h = rw h.0 (told_stripped x y l h.1)
 told_stripped (_ ∷ x) y (a ∷ l) h = rw h.0 (refl, told_stripped x y l h.1)
 
 -- Two fixed tales that are equal without their `Pending`s lead to runs that are one tale without them.
-pub told_one_tale : (t u x y l m : List ReadMark) → strip_marks t ≡ strip_marks u → TellsScript t l x
-    → TellsScript u m y → Comparable (strip_marks l) (strip_marks m)
+pub told_one_tale : (t u x y l m : List ReadMark) → strip_marks t ≡ strip_marks u → ReadsScript t l x
+    → ReadsScript u m y → Comparable (strip_marks l) (strip_marks m)
 told_one_tale t u x y l m same h k =
     told_comparable _ _ (strip_marks y) _ _ (rw same at (told_stripped t x l h)) (told_stripped u y m k)
 
 -- If a fixed tale has no `Pending`, neither its run nor what is left has one.
-pub told_no_wait : (t x l : List ReadMark) → NoPendingRead t → TellsScript t l x → NoPendingRead l × NoPendingRead x
+pub told_no_wait : (t x l : List ReadMark) → NoPendingRead t → ReadsScript t l x → NoPendingRead l × NoPendingRead x
 told_no_wait t x [] n h = (tt, rw h n)
 told_no_wait [] x (a ∷ l) n h = rw h.0 (told_no_wait [] x l tt h.1)
 told_no_wait (ReadMark.pending ∷ t) x (a ∷ l) n h = absurd n
@@ -120,12 +120,12 @@ told_no_wait (_ ∷ t) x (a ∷ l) n h = rw h.0 (told_no_wait t x l n h.1)
 -- Values whose marks are fixed in advance. Two are alike if their marks to come, without `Pending`s, are equal.
 module _ {S : Type 0} where
   module _ (marks : S → List ReadMark) where
-    pub told_steady : SteadyReadLaws (λ x l y. TellsScript (marks x) l (marks y))
-        (λ x l y. TellsScript (marks x) l (marks y)) ⊤ (λ x y. strip_marks (marks x) ≡ strip_marks (marks y))
+    pub told_steady : SteadyReadLaws (λ x l y. ReadsScript (marks x) l (marks y))
+        (λ x l y. ReadsScript (marks x) l (marks y)) ⊤ (λ x y. strip_marks (marks x) ≡ strip_marks (marks y))
     told_steady =
         steady_read_always (told_laws marks) (λ x y x' y'. told_one_tale _ _ _ _)
 
-    pub told_calm : CalmReadLaws (λ x l y. TellsScript (marks x) l (marks y)) (λ x. NoPendingRead (marks x))
+    pub told_calm : CalmReadLaws (λ x l y. ReadsScript (marks x) l (marks y)) (λ x. NoPendingRead (marks x))
     told_calm =
         record {
           no_pending = λ x y l n h. (told_no_wait _ _ l n h).0;
@@ -134,14 +134,14 @@ module _ {S : Type 0} where
 
   -- Slices, whose marks are their bytes. Two are alike if their bytes are equal.
   module _ (held : S → List ℕ) where
-    pub slice_steady : SteadyReadLaws (λ x l y. TellsScript (bytes (held x)) l (bytes (held y)))
-        (λ x l y. TellsScript (bytes (held x)) l (bytes (held y))) ⊤ (λ x y. held x ≡ held y)
+    pub slice_steady : SteadyReadLaws (λ x l y. ReadsScript (bytes (held x)) l (bytes (held y)))
+        (λ x l y. ReadsScript (bytes (held x)) l (bytes (held y))) ⊤ (λ x y. held x ≡ held y)
     slice_steady =
         steady_read_always (told_laws (λ x. bytes _))
         (λ x y x' y' l m e.
         told_one_tale (bytes _) (bytes _) (bytes _) (bytes _) l m (rw e))
 
-    pub slice_calm : CalmReadLaws (λ x l y. TellsScript (bytes (held x)) l (bytes (held y))) (λ x. ⊤)
+    pub slice_calm : CalmReadLaws (λ x l y. ReadsScript (bytes (held x)) l (bytes (held y))) (λ x. ⊤)
     slice_calm =
         record {
           no_pending = λ x y l n h. (told_no_wait (bytes _) (bytes _) l (no_wait_bytes (held x)) h).0;

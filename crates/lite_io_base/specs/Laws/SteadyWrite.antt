@@ -1,7 +1,7 @@
 -- Laws of steady writers, and of marks without a `Pending`.
 use Rattle.std.specs.Prelude.{ℕ, List, [], ◌∷◌, ◌++◌}
 use Rattle.lite_io_base.specs.Uses.{MutBor, Lent, Runs}
-use Rattle.lite_io_base.specs.Takings.{WriteMark}
+use Rattle.lite_io_base.specs.WriteMarks.{WriteMark}
 use Rattle.lite_io_base.specs.SteadyWrite.{NoPendingWrite, SteadyWriteLaws}
 
 -- A writer that runs as a part of it does is steady if that part is.

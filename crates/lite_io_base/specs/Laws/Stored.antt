@@ -4,7 +4,7 @@ use Rattle.lite_io_base.specs.Uses.{MutBor, Lent, Runs}
 use Rattle.lite_io_base.specs.Grows.{Grows, IsRefusal}
 use Rattle.lite_io_base.specs.Laws.Grows.{grows_all}
 use Rattle.lite_io_base.specs.Stored.{Arrives, Stored, Stores}
-use Rattle.lite_io_base.specs.Takings.{WriteMark, bytes_taken}
+use Rattle.lite_io_base.specs.WriteMarks.{WriteMark, bytes_taken}
 
 pub stores_kept : {S : Type 0} (writes : Runs WriteMark S) (stored : Stored S) (x y : S) (l : List WriteMark)
     → Stores writes stored x → writes x l y

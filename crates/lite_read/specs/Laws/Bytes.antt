@@ -1,19 +1,19 @@
 -- Laws of `bytes`.
 use Rattle.std.specs.Prelude.{⊤, ◌≡◌, ℕ, ◌+◌, List, [], ◌∷◌, ◌++◌, length, Some, None, Result}
 use Rattle.lite_read.specs.Uses.{suc, refl, ap, subst, add-one, Error, Ready, Pending, Answer, items, Below, Lowers, Ranks, ranks_of, RunLaws}
-use Rattle.lite_read.specs.Uses.{StreamLaws, laws_of, NoHint, Runs, ReadCounting, Falls, ReadMark, given, MarkLaws, CalmReadLaws, SteadyReadLaws}
+use Rattle.lite_read.specs.Uses.{StreamLaws, laws_of, NoHint, Runs, ReadCounting, Falls, ReadMark, given_count, MarkLaws, CalmReadLaws, SteadyReadLaws}
 use Rattle.lite_base.specs.Laws.Calm.{calm_part}
 use Rattle.lite_base.specs.Laws.Falling.{Lowers-below}
 use Rattle.lite_base.specs.Laws.Hint.{same_hint}
 use Rattle.lite_base.specs.Ranks.{Counting}
 use Rattle.lite_io_base.specs.Laws.Lent.{counting_part}
 use Rattle.lite_io_base.specs.Marks.{AllGiven}
-use Rattle.lite_read.specs.Bytes.{TellsBytes, TellsEach}
+use Rattle.lite_read.specs.Bytes.{GivesBytes, GivesEach}
 use Rattle.lite_read.specs.Laws.PollSteps.{idle_join}
 use Rattle.lite_read.specs.declared.bytes.Bytes.{Bytes}
 
-tells_join : (i j : List ReadMark) (l m : List (Answer (Result ℕ Error))) → TellsEach i l → TellsEach j m
-    → TellsEach (i ++ j) (l ++ m)
+tells_join : (i j : List ReadMark) (l m : List (Answer (Result ℕ Error))) → GivesEach i l → GivesEach j m
+    → GivesEach (i ++ j) (l ++ m)
 tells_join [] j [] m h k = k
 tells_join (x ∷ i) j (a ∷ l) m h k = (h.0, tells_join i j l m h.1 k)
 tells_join _ j _ m h k = absurd h
@@ -23,8 +23,8 @@ one_below : (n : ℕ) (xs ys : List ℕ) → Falls (n + 1) xs ys → Below xs ys
 one_below n xs ys h = rw (add-one n) at h
 
 -- The poll results of `bytes` lower a rank as its reader's marks do.
-tells_lower : (i : List ReadMark) (l : List (Answer (Result ℕ Error))) (xs ys : List ℕ) → TellsEach i l
-    → Falls (given i) xs ys → Lowers l xs ys
+tells_lower : (i : List ReadMark) (l : List (Answer (Result ℕ Error))) (xs ys : List ℕ) → GivesEach i l
+    → Falls (given_count i) xs ys → Lowers l xs ys
 tells_lower [] [] xs ys h f = f
 tells_lower (ReadMark.byte b ∷ i) (Ready (Some r) ∷ l) xs ys h f = one_below _ xs ys f
 tells_lower (ReadMark.fault k ∷ i) (Pending ∷ l) xs ys h f = Lowers-below l xs ys (one_below _ xs ys f)
@@ -36,7 +36,7 @@ tells_lower (x ∷ i) [] xs ys h f = absurd h
 tells_lower _ _ xs ys h f = absurd h.0
 
 -- The marks behind a list of items are all bytes and errors, one for each item.
-tells_items : (i : List ReadMark) (l : List (Result ℕ Error)) → TellsEach i (items l) → AllGiven i
+tells_items : (i : List ReadMark) (l : List (Result ℕ Error)) → GivesEach i (items l) → AllGiven i
     × (length i ≡ length l)
 tells_items [] [] h = (tt, refl)
 tells_items [] (r ∷ l) h = absurd h
@@ -47,7 +47,7 @@ tells_items (_ ∷ i) (r ∷ l) h = let e = tells_items i l h.1 in ((tt, e.0), a
 
 module _ {R : Type 0} {reads : Runs ReadMark R} where
   module _ (laws : MarkLaws reads) where
-    pub bytes_runs : RunLaws (TellsBytes reads)
+    pub bytes_runs : RunLaws (GivesBytes reads)
     bytes_runs = record {
       rests = λ x. record { marks = []; came = laws.rests x.inner; told = tt; idle = λ e. refl };
       stays = λ x y h. h.idle refl;
@@ -59,11 +59,11 @@ module _ {R : Type 0} {reads : Runs ReadMark R} where
       };
     }
 
-    pub bytes_laws : StreamLaws (λ _. ⊤) (TellsBytes reads) NoHint
+    pub bytes_laws : StreamLaws (λ _. ⊤) (GivesBytes reads) NoHint
     bytes_laws = laws_of bytes_runs (λ x y hint l e h. same_hint hint (0, None) l e tt) (λ x y l c h. tt)
 
   pub bytes_counting : {r : Ranks R} → ReadCounting reads r
-      → Counting (TellsBytes reads) (ranks_of (λ (b : Bytes R). b.inner) r)
+      → Counting (GivesBytes reads) (ranks_of (λ (b : Bytes R). b.inner) r)
   bytes_counting {r} c =
       record {
         sized = λ x. c.sized x.inner;

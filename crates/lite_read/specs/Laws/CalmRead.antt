@@ -29,15 +29,15 @@ module _ {R : Type 0} {reads : Runs ReadMark R} {is_calm : R → Type 0}
   vectored_calm =
       calls_calm (ReadsVectored reads) (λ x. x.reader.now) (λ x y r h. (_, h.came.2)) (λ x y h n. n) c
 
-  pub fill_calm : {lent : R → List ℕ}
-      → CalmLaws (PolledByCalls (FillsOnce reads lent)) (λ (x : FillBuf R). HeldCalm is_calm x.reader)
-  fill_calm {lent} =
-      polled_calm (FillsOnce reads lent)
+  pub fill_calm : {buffer_of : R → List ℕ}
+      → CalmLaws (PolledByCalls (FillsOnce reads buffer_of)) (λ (x : FillBuf R). HeldCalm is_calm x.reader)
+  fill_calm {buffer_of} =
+      polled_calm (FillsOnce reads buffer_of)
       (λ x y k h.
-      c.no_pending h.reader.now h.filled (fill_marks {A = Bor (List ℕ)} Pending (lent h.filled))
+      c.no_pending h.reader.now h.filled (fill_marks {A = Bor (List ℕ)} Pending (buffer_of h.filled))
       (rw h.held at k) h.came)
       (λ x y r k h.
       let calm =
-      c.calm_on h.reader.now h.filled (fill_marks (Ready r) (lent h.filled))
+      c.calm_on h.reader.now h.filled (fill_marks (Ready r) (buffer_of h.filled))
       (subst (HeldCalm is_calm) h.held k) h.came in
       subst (HeldCalm is_calm) (sym h.after) (held_calm is_calm r (record h.reader { now = h.filled }) calm))

@@ -1,10 +1,10 @@
 -- How a stream over a reader lowers a rank, as `split` and `lines` do.
 use Rattle.std.specs.Prelude.{◌≡◌, ◌<◌, ◌+◌, ℕ, List, [], ◌∷◌, ◌++◌, length, Option, Some, None, Result, Ok}
 use Rattle.lite_read.specs.Uses.{◌∙◌, zero, suc, ap, sym, arith, length-append, FoldsTo, Error, Ready, Pending, Answer, items, Below, Lowers, Ranks}
-use Rattle.lite_read.specs.Uses.{Runs, ReadCounting, Falls, ReadMark, bytes, given, MarkLaws}
+use Rattle.lite_read.specs.Uses.{Runs, ReadCounting, Falls, ReadMark, bytes, given_count, MarkLaws}
 use Rattle.lite_base.specs.OkRanks.{OkCounting, all_ok}
 use Rattle.lite_io_base.specs.Laws.Falls.{falls_held}
-use Rattle.lite_io_base.specs.Laws.Marks.{given-append, given-bytes}
+use Rattle.lite_io_base.specs.Laws.Marks.{given_count-append, given_count-bytes}
 use Rattle.lite_read.specs.Pieces.{Cut, CutsPiece, Itemised, pieces}
 use Rattle.lite_read.specs.Laws.Segments.{flow_keeps}
 use Rattle.lite_read.specs.ReadFold.{AnswerMarks, ReadFold}
@@ -19,8 +19,8 @@ below_some (suc n) xs ys some h = h
 pub record GivesOut {A E : Type 0} (fold : ReadFold (List ℕ) (Option (Result A E))) : Type 0 where
   pub holds : (p q : List ℕ) (b : ℕ) → fold.takes p b q → length q ≡ length p + 1
   pub item_out : (p q : List ℕ) (last : List ReadMark) (x : A) → fold.gives p last (Some (Ok x)) q
-      → (n : ℕ) × (0 < n) × (given last + length p ≡ n + length q)
-  pub end_out : (p q : List ℕ) (last : List ReadMark) → fold.gives p last None q → given last + length p ≡ length q
+      → (n : ℕ) × (0 < n) × (given_count last + length p ≡ n + length q)
+  pub end_out : (p q : List ℕ) (last : List ReadMark) → fold.gives p last None q → given_count last + length p ≡ length q
 
 module _ {A E : Type 0} {fold : ReadFold (List ℕ) (Option (Result A E))} (out : GivesOut fold) where
   grown : (p q xs : List ℕ) → FoldsTo fold.takes p xs q → length q ≡ length p + length xs
@@ -28,36 +28,36 @@ module _ {A E : Type 0} {fold : ReadFold (List ℕ) (Option (Result A E))} (out 
   grown p q (x ∷ xs) h = omega (arith, grown h.0 q xs h.2, out.holds p h.0 x h.1)
 
   came_in : {p q : List ℕ} {marks : List ReadMark} {b : Answer (Result A E)} (s : AnswerMarks fold p marks b q)
-      → given marks + length p ≡ given s.last + length s.between
+      → given_count marks + length p ≡ given_count s.last + length s.between
   came_in {p} s =
       omega (
         arith,
-        ap given s.cut,
-        given-append (bytes s.taken) s.last,
-        given-bytes s.taken,
+        ap given_count s.cut,
+        given_count-append (bytes s.taken) s.last,
+        given_count-bytes s.taken,
         grown p s.between s.taken s.folds,
       )
 
   -- From `p` bytes held to `q`, the items `l` account for `n` of the bytes and errors among `marks` and of the bytes
   -- held. A rank that falls by `n` is lowered by these items.
   abbrev Accounts : List ℕ → List ReadMark → List (Answer A) → List ℕ → Type 0
-  Accounts p marks l q = (n : ℕ) × (given marks + length p ≡ n + length q)
+  Accounts p marks l q = (n : ℕ) × (given_count marks + length p ≡ n + length q)
       × ((xs ys : List ℕ) → Falls n xs ys → Lowers l xs ys)
 
   segments_out : (p q : List ℕ) (marks : List ReadMark) (l : List (Answer A)) → PieceSegments fold p marks (all_ok l) q
       → Accounts p marks l q
-  segments_out p q marks [] h = (0, omega (arith, ap given h.0, ap length h.1), λ xs ys f. f)
+  segments_out p q marks [] h = (0, omega (arith, ap given_count h.0, ap length h.1), λ xs ys f. f)
   segments_out p q marks (Pending ∷ l) (first, rest, m, cut, a, more) =
       let r = segments_out m q rest l more in
-      let came = ap given cut ∙ given-append first rest in
-      (r.0, omega (arith, r.1, came, came_in a, ap given a.given.0, ap length a.given.2), r.2)
+      let came = ap given_count cut ∙ given_count-append first rest in
+      (r.0, omega (arith, r.1, came, came_in a, ap given_count a.given.0, ap length a.given.2), r.2)
   segments_out p q marks (Ready None ∷ l) (first, rest, m, cut, a, more) =
       let r = segments_out m q rest l more in
-      let came = ap given cut ∙ given-append first rest in
+      let came = ap given_count cut ∙ given_count-append first rest in
       (r.0, omega (arith, r.1, came, came_in a, out.end_out a.between m a.last a.given), r.2)
   segments_out p q marks (Ready (Some x) ∷ l) (first, rest, m, cut, a, more) =
       let r = segments_out m q rest l more in
-      let came = ap given cut ∙ given-append first rest in
+      let came = ap given_count cut ∙ given_count-append first rest in
       let e = out.item_out a.between m a.last x a.given in (
         e.0 + r.0,
         omega (arith, r.1, came, came_in a, e.2),
@@ -105,16 +105,16 @@ module _ {X S K A E : Type 0} (over : StreamOver X S (List ℕ) K) {fold : K →
 module _ {A : Type 0} (byte : ℕ) (may_refuse : Type 0) (whole final : List ℕ → Result A Error → Type 0) where
   piece_out : (held after : List ℕ) (last : List ReadMark) (cut : Cut) (x : A) → CutsPiece byte may_refuse held last cut
       → Itemised whole final cut held (Some (Ok x)) after → (n : ℕ) × (0 < n)
-      × (given last + length held ≡ n + length after)
+      × (given_count last + length held ≡ n + length after)
   piece_out held after last (Cut.piece xs) x c i =
-      (length held + 1, omega arith, omega (arith, ap length i.1, ap given c.0))
-  piece_out held after last (Cut.last xs) x c i = (length held, c.1, omega (arith, ap length i.1, ap given c.0))
+      (length held + 1, omega arith, omega (arith, ap length i.1, ap given_count c.0))
+  piece_out held after last (Cut.last xs) x c i = (length held, c.1, omega (arith, ap length i.1, ap given_count c.0))
   piece_out held after last Cut.nothing x c i = absurd i
   piece_out held after last (Cut.failed e) x c i = cc
 
   nothing_out : (held after : List ℕ) (last : List ReadMark) (cut : Cut) → CutsPiece byte may_refuse held last cut
-      → Itemised whole final cut held None after → given last + length held ≡ length after
-  nothing_out held after last Cut.nothing c i = omega (arith, ap length i, ap given c.0, ap length c.1)
+      → Itemised whole final cut held None after → given_count last + length held ≡ length after
+  nothing_out held after last Cut.nothing c i = omega (arith, ap length i, ap given_count c.0, ap length c.1)
   nothing_out held after last _ c i = absurd i
 
   pub pieces_out : GivesOut (pieces byte (λ held. may_refuse) (Itemised whole final))

@@ -7,7 +7,7 @@ use Rattle.lite_base.specs.Laws.Segments.{segment_front}
 use Rattle.lite_io_base.specs.Laws.Steady.{comparable_fronts, comparable_rest, comparable_swapped, no_wait_parts, strip_marks-append}
 use Rattle.lite_io_base.specs.Laws.Steady.{strip_marks-bytes, stripped_no_pending}
 use Rattle.lite_read.specs.ReadFold.{AnswerMarks, ReadFold, Segmented}
-use Rattle.lite_read.specs.Deterministic.{IsDeterministic, TaleValues}
+use Rattle.lite_read.specs.Deterministic.{IsDeterministic, MarkValues}
 
 -- If the marks are some bytes and then a `Pending`, the marks without `Pending`s begin with these bytes, and the rest
 -- follows.
@@ -29,19 +29,19 @@ comparable_front _ k _ c = tt
 module _ {M R : Type 0} (fold : ReadFold M R) where
   -- Bytes consumed before a tale do not change its values.
   tale_values_behind : (p m : M) (xs : List ℕ) (t : List ReadMark) (vs : List R) → FoldsTo fold.takes p xs m
-      → TaleValues fold m t vs
-      → TaleValues fold p (bytes xs ++ t) vs
-  tale_values_behind p m xs _ _ f (TaleValues.held _ q ys g) =
-      rw (← (map-append ReadMark.byte xs ys)) (TaleValues.held p q (xs ++ ys) (folds_follow fold.takes p m q xs ys f g))
-  tale_values_behind p m xs _ _ f (TaleValues.next _ n q ys last rest v vs g h s) =
+      → MarkValues fold m t vs
+      → MarkValues fold p (bytes xs ++ t) vs
+  tale_values_behind p m xs _ _ f (MarkValues.held _ q ys g) =
+      rw (← (map-append ReadMark.byte xs ys)) (MarkValues.held p q (xs ++ ys) (folds_follow fold.takes p m q xs ys f g))
+  tale_values_behind p m xs _ _ f (MarkValues.next _ n q ys last rest v vs g h s) =
       rw (← append_assoc, ← map-append)
-      (TaleValues.next p n q (xs ++ ys) last rest v vs (folds_follow fold.takes p m n xs ys f g) h s)
+      (MarkValues.next p n q (xs ++ ys) last rest v vs (folds_follow fold.takes p m n xs ys f g) h s)
 
   module _ {same : R → R → Type 0} (s : IsDeterministic same fold) where
     -- The values of segments are those of their marks without `Pending`s.
     segments_values : (p q : M) (i : List ReadMark) (l : List (Poll R)) → Segments (AnswerMarks fold) p i l q
-        → TaleValues fold p (strip_marks i) (strip l)
-    segments_values p q i [] h = rw h.0 (TaleValues.held p p [] refl)
+        → MarkValues fold p (strip_marks i) (strip l)
+    segments_values p q i [] h = rw h.0 (MarkValues.held p p [] refl)
     segments_values p q i (Pending ∷ l) h =
         let w = h.4 in
         let cut = rw w.given.0 at (segment_front p h.2 i h.0 h.1 Pending w h.3) in
@@ -51,7 +51,7 @@ module _ {M R : Type 0} (fold : ReadFold M R) where
         let c = h.4 in
         let cut = segment_front p h.2 i h.0 h.1 _ c h.3 in
         rw (past_value i c.last h.1 c.taken (s.at_once c.between h.2 c.last r c.given) cut)
-        (TaleValues.next p c.between h.2 c.taken c.last _ r _ c.folds c.given (segments_values h.2 q h.1 l h.5))
+        (MarkValues.next p c.between h.2 c.taken c.last _ r _ c.folds c.given (segments_values h.2 q h.1 l h.5))
 
     -- If one of two tales is a prefix of the other, their first values are the same, and so are the states after them.
     aligned : (p x y q r : M) (xs ys : List ℕ) (l m k n : List ReadMark) (v w : R) → FoldsTo fold.takes p xs x
@@ -71,10 +71,10 @@ module _ {M R : Type 0} (fold : ReadFold M R) where
         aligned f.0 x y q r xs ys l m k n v w f.2 (rw (← way) g.2) h j c.1
 
     -- If one of two tales is a prefix of the other, their values are the same as far as both go.
-    tale_values_alike : (p : M) (t u : List ReadMark) (vs ws : List R) → TaleValues fold p t vs
-        → TaleValues fold p u ws → Comparable t u → ComparableBy same vs ws
-    tale_values_alike p _ _ _ _ (TaleValues.next _ m q xs last rest v vs f h a)
-        (TaleValues.next _ n r ys end more w ws g j b) c =
+    tale_values_alike : (p : M) (t u : List ReadMark) (vs ws : List R) → MarkValues fold p t vs
+        → MarkValues fold p u ws → Comparable t u → ComparableBy same vs ws
+    tale_values_alike p _ _ _ _ (MarkValues.next _ m q xs last rest v vs f h a)
+        (MarkValues.next _ n r ys end more w ws g j b) c =
         let first = aligned p m n q r xs ys last end rest more v w f g h j c in (
           first.0,
           tale_values_alike q rest more vs ws a

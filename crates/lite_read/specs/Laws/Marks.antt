@@ -57,11 +57,11 @@ module _ {R : Type 0} where
   UntilAlike alike x y = alike x.reader.now y.reader.now × (read_of x ≡ read_of y) × (x.byte ≡ y.byte)
 
   module _ {reads : Runs ReadMark R} where
-    pub until_steady : (lent : R → List ℕ) {ample : Runs ReadMark R} {needs_none : Type 0} {alike : R → R → Type 0}
+    pub until_steady : (buffer_of : R → List ℕ) {ample : Runs ReadMark R} {needs_none : Type 0} {alike : R → R → Type 0}
         → SteadyReadLaws reads ample needs_none alike
-        → FutureSteadyLawsBy (Sameness.by SameByKind) (ReadsUntilByRoom reads lent) (ReadsUntil ample ⊥) ⊥
+        → FutureSteadyLawsBy (Sameness.by SameByKind) (ReadsUntilByRoom reads buffer_of) (ReadsUntil ample ⊥) ⊥
         (UntilAlike alike)
-    until_steady lent s =
+    until_steady buffer_of s =
         record {
           laws = until_runs ⊥ s.laws;
           steady = λ x y e. gathers_alike (λ x. until_deterministic x.byte) s x y e.0 e.1 (rw (sym e.2));

@@ -52,26 +52,26 @@ module _ {R : Type 0} where
         → AppendsMore reads m x y → ReadsUntil reads m y (a ∷ []) z → ReadsUntil reads m x (a ∷ []) z
     step_before {m} laws = gathers_before (keeps m) laws (λ x y k. k)
 
-  module _ (lent : R → List ℕ) where
+  module _ (buffer_of : R → List ℕ) where
     -- A vector that lacks room after a run that was pending lacked it before that run.
-    pub lacks_sooner : (x y z : ReadUntilFuture R) → UntilStays x y → UntilLacksRoom lent y z → UntilLacksRoom lent x z
+    pub lacks_sooner : (x y z : ReadUntilFuture R) → UntilStays x y → UntilLacksRoom buffer_of y z → UntilLacksRoom buffer_of x z
     lacks_sooner x y z s full = let here = rw s.byte at full in omega (arith, s.room, here)
 
-    until_room : RoomLaws (λ x y v. until v.byte (UntilLacksRoom lent x y)) UntilStays
+    until_room : RoomLaws (λ x y v. until v.byte (UntilLacksRoom buffer_of x y)) UntilStays
         (λ x y. vec_capacity x.buf.now ≤ vec_capacity y.buf.now)
     until_room =
         record {
-          keeps = λ x y. keeps (UntilLacksRoom lent x y);
+          keeps = λ x y. keeps (UntilLacksRoom buffer_of x y);
           none = λ x. omega arith;
           join = λ x y z h k. omega (arith, h, k);
           waits = λ x y z v. record { takes = λ p q b h. h; asks = λ p h. h };
-          sooner = λ x y z v s h. pieces_weaker v.byte (λ held. UntilLacksRoom lent y z)
-              (λ held. UntilLacksRoom lent x z) (CountsPiece v.byte) (λ held. lacks_sooner x y z s);
+          sooner = λ x y z v s h. pieces_weaker v.byte (λ held. UntilLacksRoom buffer_of y z)
+              (λ held. UntilLacksRoom buffer_of x z) (CountsPiece v.byte) (λ held. lacks_sooner x y z s);
         }
 
     module _ {reads : Runs ReadMark R} where
       pub until_room_laws : {r : Ranks R} → MarkLaws reads → ReadCounting reads r
-          → FutureLaws (λ x. r.counts x.reader.now × (x.start ≤ length x.buf.now.items)) (ReadsUntilByRoom reads lent)
+          → FutureLaws (λ x. r.counts x.reader.now × (x.start ≤ length x.buf.now.items)) (ReadsUntilByRoom reads buffer_of)
       until_room_laws laws c =
           future_laws_of (room_runs until_room laws)
           (λ x y l w k h.
@@ -79,8 +79,8 @@ module _ {R : Type 0} where
           (c.counts_on _ _ told.marks k.0 told.came, stays_within x y h.gathered.stays k.1))
 
       -- A run in which an allocation fails only if the vector lacked room is one in which it may fail at any time.
-      pub until_any : (x y : ReadUntilFuture R) (l : List (Poll (Result ℕ Error))) → ReadsUntilByRoom reads lent x l y
+      pub until_any : (x y : ReadUntilFuture R) (l : List (Poll (Result ℕ Error))) → ReadsUntilByRoom reads buffer_of x l y
           → ReadsUntil reads ⊤ x l y
       until_any x y l h =
-          gathers_weaker (λ v. pieces_weaker v.byte (λ held. UntilLacksRoom lent x y) (λ held. ⊤) (CountsPiece v.byte)
+          gathers_weaker (λ v. pieces_weaker v.byte (λ held. UntilLacksRoom buffer_of x y) (λ held. ⊤) (CountsPiece v.byte)
           (λ held full. tt)) x y l h.gathered

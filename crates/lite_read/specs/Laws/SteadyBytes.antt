@@ -3,7 +3,7 @@ use Rattle.std.specs.Prelude.{◌≡◌, ◌⊎◌, ℕ, List, [], ◌∷◌, Op
 use Rattle.lite_read.specs.Uses.{◌∙◌, inl, inr, refl, sym, subst, error_kind, Error, ErrorKind, Interrupted, Ready, Pending, OptionBy, Sameness}
 use Rattle.lite_read.specs.Uses.{Answer, Comparable, ComparableBy, strip, SteadyLawsBy, runs_of, Runs, ReadMark, SteadyReadLaws, strip_marks}
 use Rattle.lite_base.specs.Laws.Alike.{comparable_nil}
-use Rattle.lite_read.specs.Bytes.{TellsBytes, TellsEach}
+use Rattle.lite_read.specs.Bytes.{GivesBytes, GivesEach}
 use Rattle.lite_read.specs.Laws.Bytes.{bytes_runs}
 use Rattle.lite_read.specs.Deterministic.{SameByKind}
 use Rattle.lite_read.specs.declared.bytes.Bytes.{Bytes}
@@ -30,7 +30,7 @@ TaleAnswers (ReadMark.pending ∷ ms) l = ⊥
 TaleAnswers (ReadMark.fault kind ∷ ms) l = ((kind ≡ Interrupted) × TaleAnswers ms l) ⊎ FailsHere kind (TaleAnswers ms) l
 TaleAnswers (ReadMark.end ∷ ms) l = (after : List ByteItem) × (l ≡ None ∷ after) × TaleAnswers ms after
 
-said : (i : List ReadMark) (l : List (Answer (Result ℕ Error))) → TellsEach i l → TaleAnswers (strip_marks i) (strip l)
+said : (i : List ReadMark) (l : List (Answer (Result ℕ Error))) → GivesEach i l → TaleAnswers (strip_marks i) (strip l)
 said [] [] h = refl
 said (ReadMark.byte b ∷ i) (Ready (Some (Ok x)) ∷ l) h = rw h.0 (strip l, refl, said i l h.1)
 said (ReadMark.pending ∷ i) (Pending ∷ l) h = said i l h.1
@@ -72,7 +72,7 @@ say_same (ReadMark.fault kind ∷ i) (n ∷ j) l m h k c =
 
 module _ {R : Type 0} {reads ample : Runs ReadMark R} {needs_none : Type 0} {alike : R → R → Type 0} where
   pub bytes_steady : SteadyReadLaws reads ample needs_none alike
-      → SteadyLawsBy (Sameness.by SameByKind) (TellsBytes reads) (TellsBytes ample) needs_none
+      → SteadyLawsBy (Sameness.by SameByKind) (GivesBytes reads) (GivesBytes ample) needs_none
       (λ (x y : Bytes R). alike x.inner y.inner)
   bytes_steady s =
       record {

@@ -126,8 +126,8 @@ string_alike =
     }
 
 module _ {R A : Type 0} where
-  pub line_room : (lent : R → List ℕ) → TextRoom (line_over {A = A}) read_line_fold (LineLacksMemory lent)
-  line_room lent =
+  pub line_room : (buffer_of : R → List ℕ) → TextRoom (line_over {A = A}) read_line_fold (LineLacksMemory buffer_of)
+  line_room buffer_of =
       record {
         alike = line_alike;
         none = λ x. omega arith;

@@ -3,7 +3,7 @@ use Rattle.std.specs.Prelude.{◌≡◌, ℕ, Bool, true, false, List, [], ◌�
 use Rattle.lite_theorems.specs.Uses.{◌∙◌, refl, ap, sym, subst, ChainsReaders, first_of, has_ended, second_of, Chain, ReadMark, MarkLaws, BytesAlone}
 use Rattle.lite_theorems.specs.Uses.{bytes_told, told_both, Runs}
 use Rattle.lite_buffered.specs.Chain.{EndlessMarks, JoinsReaders, ReadsAcross}
-use Rattle.lite_theorems.specs.Chained.{TellsBoth, TellsRest, TellsWhole}
+use Rattle.lite_theorems.specs.Chained.{ReadsBoth, ReadsRest, ReadsWhole}
 
 goes_parts : (l m : List ReadMark) → BytesAlone (l ++ m) → BytesAlone l × BytesAlone m
 goes_parts [] m h = (tt, h)
@@ -25,12 +25,12 @@ cut_at (r ∷ read) (m ∷ before) after e h =
     let same : r ≡ m = cc e in let rest = cut_at read before after (cc e) h.1 in (rest.0, cc (same, rest.1), rest.2)
 
 module _ {R S : Type 0} (first : Runs ReadMark R) (second : Runs ReadMark S) (fl : MarkLaws first) where
-  -- What `TellsBoth` says, by whether the first reader had ended.
+  -- What `ReadsBoth` says, by whether the first reader had ended.
   record TellsByEnd (b : Bool) (x : Chain R S) (xs : List ℕ) (y : Chain R S) : Type 0 where
     pub firsts : List ℕ
     pub seconds : List ℕ
-    pub first_told : TellsRest b first (first_of x) firsts (first_of y)
-    pub second_told : TellsWhole second (second_of x) seconds (second_of y)
+    pub first_told : ReadsRest b first (first_of x) firsts (first_of y)
+    pub second_told : ReadsWhole second (second_of x) seconds (second_of y)
     pub all : xs ≡ firsts ++ seconds
 
   crossed : (x y : Chain R S) (read : List ReadMark) → BytesAlone read
@@ -63,8 +63,8 @@ module _ {R S : Type 0} (first : Runs ReadMark R) (second : Runs ReadMark S) (fl
         all = refl;
       }
 
-  pub tells_both : (x y : Chain R S) (xs : List ℕ) → TellsWhole (ChainsReaders first second) x xs y
-      → TellsBoth first second x xs y
+  pub tells_both : (x y : Chain R S) (xs : List ℕ) → ReadsWhole (ChainsReaders first second) x xs y
+      → ReadsBoth first second x xs y
   tells_both x y xs t =
       let b = joined (has_ended x) (has_ended y) x y t.told t.goes_on t.came in
       record {

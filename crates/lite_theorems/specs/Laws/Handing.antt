@@ -1,7 +1,7 @@
 -- Laws of a reader over another reader, which changes the bytes and passes on everything else.
 use Rattle.std.specs.Prelude.{◌≡◌, ◌≤◌, ℕ, List, [], ◌∷◌, ◌++◌, length, map}
 use Rattle.lite_theorems.specs.Uses.{◌∙◌, take, drop, refl, ap, sym, subst, arith, length-append, length-take-le, map-append, Ranks, Runs}
-use Rattle.lite_theorems.specs.Uses.{ReadCounting, Falls, ReadMark, bytes, given, moved, MarkLaws}
+use Rattle.lite_theorems.specs.Uses.{ReadCounting, Falls, ReadMark, bytes, given_count, moved_marks, MarkLaws}
 use Rattle.lite_base.specs.Ranks.{ranks_of}
 use Rattle.lite_io_base.specs.Marks.{AllGiven}
 use Rattle.std.proofs.Common.{length-drop}
@@ -21,7 +21,7 @@ module _ {M R : Type 0} {part : M → R} {f : ℕ → ℕ} {reads : Runs ReadMar
         };
       }
 
-given_made : (f : ℕ → ℕ) (l : List ReadMark) → given (map (each_byte f) l) ≡ given l
+given_made : (f : ℕ → ℕ) (l : List ReadMark) → given_count (map (each_byte f) l) ≡ given_count l
 given_made f [] = refl
 given_made f (ReadMark.pending ∷ l) = given_made f l
 given_made f (ReadMark.end ∷ l) = given_made f l
@@ -46,7 +46,7 @@ module _ {M R : Type 0} {part : M → R} {f : ℕ → ℕ} {reads : Runs ReadMar
             subst (λ n. Falls n (r.rank (part y)) (r.rank (part x)))
             (sym (ap length h.out ∙ length-map h.ins (each_byte f))) low;
         lowers = λ x y l k h.
-            subst (λ n. Falls n (r.rank (part y)) (r.rank (part x))) (sym (ap given h.out ∙ given_made f h.ins))
+            subst (λ n. Falls n (r.rank (part y)) (r.rank (part x))) (sym (ap given_count h.out ∙ given_made f h.ins))
             (c.lowers (part x) (part y) h.ins k h.came);
       }
 
@@ -56,7 +56,7 @@ made_bytes f (x ∷ xs) = rw (made_bytes f xs)
 
 -- The marks of a read whose bytes were changed in place, whatever else is in the buffer.
 pub handed_moved : (f : ℕ → ℕ) (xs room other : List ℕ) → length other ≡ length room
-    → moved other (map f xs) ≡ map (each_byte f) (moved room xs)
+    → moved_marks other (map f xs) ≡ map (each_byte f) (moved_marks room xs)
 handed_moved f (x ∷ xs) room other same = made_bytes f (x ∷ xs)
 handed_moved f [] [] [] same = refl
 handed_moved f [] (r ∷ room) (o ∷ other) same = refl
@@ -64,8 +64,8 @@ handed_moved f [] _ _ same = absurd (omega (arith, same))
 
 -- A read of the inner reader, after which the bytes that it read were changed in place.
 module _ {M R : Type 0} (part : M → R) (f : ℕ → ℕ) (reads : Runs ReadMark R) (x y : M) (buf out : List ℕ) (n : ℕ) where
-  pub hands_read : reads (part x) (moved buf (take n buf)) (part y) → n ≤ length buf → out ≡ map f (take n buf)
-      → HandsOn part f reads x (moved (out ++ drop n buf) (take n (out ++ drop n buf))) y
+  pub hands_read : reads (part x) (moved_marks buf (take n buf)) (part y) → n ≤ length buf → out ≡ map f (take n buf)
+      → HandsOn part f reads x (moved_marks (out ++ drop n buf) (take n (out ++ drop n buf))) y
   hands_read ran fits is =
       let other = out ++ drop n buf in
       let len : length out ≡ n = ap length is ∙ length-map (take n buf) f ∙ length-take-le n buf fits in
@@ -74,7 +74,7 @@ module _ {M R : Type 0} (part : M → R) (f : ℕ → ℕ) (reads : Runs ReadMar
       let taken : take n other ≡ map f (take n buf) =
       ap (λ k. take k other) (sym len) ∙ take-append_seam out (drop n buf) ∙ is in
       record {
-        ins = moved buf (take n buf);
+        ins = moved_marks buf (take n buf);
         came = ran;
         out = rw taken (handed_moved f (take n buf) buf other room);
       }

@@ -1,6 +1,6 @@
 -- Laws of a reader that is specified by a step and reads many bytes at once.
 use Rattle.std.specs.Prelude.{◌≡◌, ◌<◌, ◌≤◌, ℕ, zero, suc, List, [], ◌∷◌, ◌++◌, length}
-use Rattle.lite_theorems.specs.Uses.{◌∙◌, take, drop, refl, sym, ap, subst, arith, length-take-le, take-append-drop, ReadMark, bytes, moved, Steps}
+use Rattle.lite_theorems.specs.Uses.{◌∙◌, take, drop, refl, sym, ap, subst, arith, length-take-le, take-append-drop, ReadMark, bytes, moved_marks, Steps}
 use Rattle.std.proofs.Common.{min, slice_set}
 use Rattle.std.proofs.lemmas.Grind.{common_steps}
 use Rattle.lite_theorems.specs.Readers.{MarksLower}
@@ -24,7 +24,7 @@ module _ {S : Type 0} {step : S → ReadMark → S → Type 0} {left : S → Lis
       (reads_bytes x (take n (left x)) (drop n (left x)) (sym (take-append-drop n (left x))))
 
   reads_at : (x : S) (xs room : List ℕ) (n : ℕ) → left x ≡ xs → n ≡ min (length xs) (length room)
-      → Steps step x (moved room (take n xs)) (further x n)
+      → Steps step x (moved_marks room (take n xs)) (further x n)
   reads_at x [] (r ∷ room) n e is = let none : n ≡ 0 = omega arith in rw none (x, reads.by_end x e, reads.none x)
   reads_at x (b ∷ xs) (r ∷ room) zero e is = absurd (omega arith)
   reads_at x (b ∷ xs) (r ∷ room) (suc n) e is =
@@ -35,7 +35,7 @@ module _ {S : Type 0} {step : S → ReadMark → S → Type 0} {left : S → Lis
   -- A read that copies as many bytes as are left, or as the buffer has room for.
   pub reads_into : (x : S) (buf : List ℕ) (n : ℕ) → n ≡ min (length (left x)) (length buf)
       → take n buf ≡ take n (left x)
-      → Steps step x (moved buf (take n buf)) (further x n)
+      → Steps step x (moved_marks buf (take n buf)) (further x n)
   reads_into x buf n few same = rw same (reads_at x (left x) buf n refl few)
 
 -- The number of the bytes that are to come falls with each byte.
@@ -64,7 +64,7 @@ module _ {S : Type 0} {left : S → List ℕ} {on : S → ℕ → S} where
   -- A read of the first bytes that are to come, as many as there are and as the buffer has room for.
   pub front_read : (x y : S) (buf : List ℕ) (n : ℕ) → FrontLaws left on → n ≡ min (length (left x)) (length buf)
       → take n buf ≡ take n (left x) → y ≡ on x n
-      → Steps (FrontStep left on) x (moved buf (take n buf)) y
+      → Steps (FrontStep left on) x (moved_marks buf (take n buf)) y
   front_read x y buf n laws few same is = rw is (reads_into (front_reads laws) x buf n few same)
 
 -- Such a read, with what a buffer has after its first bytes were stored.
@@ -73,6 +73,6 @@ pub ruleset front_rules = (front_read, common_steps)
 -- A read of one byte, which is stored at the front of the buffer.
 pub reads_one : {S : Type 0} (step : S → ReadMark → S → Type 0) (x y : S) (b : ℕ) (buf : List ℕ) → 0 < length buf
     → step x (ReadMark.byte b) y
-    → Steps step x (moved (slice_set buf 0 b) (take 1 (slice_set buf 0 b))) y
+    → Steps step x (moved_marks (slice_set buf 0 b) (take 1 (slice_set buf 0 b))) y
 reads_one step x y b [] some h = absurd (omega (arith, some))
 reads_one step x y b (r ∷ buf) some h = (y, h, refl)

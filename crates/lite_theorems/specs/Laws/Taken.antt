@@ -1,7 +1,7 @@
 -- Laws of what a writer takes while calls are waited for, one after the other.
 use Rattle.std.specs.Prelude.{◌≡◌, ℕ, List, ◌++◌}
 use Rattle.lite_theorems.specs.Uses.{◌∙◌, ap, append_assoc, sym, Runs, MarkLaws, WriteMark, bytes_taken}
-pub use Rattle.lite_io_base.specs.Laws.Takings.{taken_both}
+pub use Rattle.lite_io_base.specs.Laws.WriteMarks.{taken_both}
 use Rattle.lite_theorems.specs.BothWriters.{TakesFront}
 
 module _ {W : Type 0} (writes : Runs WriteMark W) where

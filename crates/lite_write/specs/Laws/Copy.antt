@@ -10,14 +10,14 @@ use Rattle.lite_base.specs.Laws.Chain.{Reaches-back}
 use Rattle.lite_base.specs.Ranks.{Ranks}
 use Rattle.lite_io_base.specs.Counting.{ReadCounting}
 use Rattle.lite_io_base.specs.Laws.Falls.{GivenRun}
-use Rattle.lite_io_base.specs.Laws.Takings.{taken_both}
+use Rattle.lite_io_base.specs.Laws.WriteMarks.{taken_both}
 use Rattle.lite_read.specs.Laws.PollSteps.{given_of}
 use Rattle.std.proofs.Common.{append_assoc}
 use Rattle.std.proofs.Math.Nat.{mod-add-mod}
 use Rattle.std.proofs.lemmas.Grind.{flat_map-append}
 use Rattle.std.proofs.lemmas.List.Elements.{filter-append}
 use Rattle.lite_write.specs.Copy.{Copied, CopyRuns, CopyValue, Moves, CopiesSome}
-use Rattle.lite_write.specs.MarkLists.{BytesAlone, TakesSome, TakesUpTo, TellsUpTo, byte_in, bytes_told, is_taken_wait}
+use Rattle.lite_write.specs.MarkLists.{BytesAlone, TakesSome, WritesUpTo, ReadsUpTo, byte_in, bytes_told, is_taken_wait}
 use Rattle.lite_write.specs.MarkLists.{is_told_wait}
 use Rattle.lite_write.specs.Parts.{source_of}
 use Rattle.lite_write.specs.declared.copy.CopyFuture.{CopyFuture}
@@ -77,7 +77,7 @@ module _ (p q r : List ℕ) (a b c : List ReadMark) (i j : List ReadMark) (s t :
   none : (h.failed ≡ []) × (h.last ≡ [])
   none = no_value q b n h.failed h.last (rw (← (waiting_strip l w)) h.value)
 
-  reading_both : TellsUpTo (a ++ (i ++ j)) (c ++ g.failed)
+  reading_both : ReadsUpTo (a ++ (i ++ j)) (c ++ g.failed)
   reading_both =
       record {
         read = h.reading.read ++ g.reading.read;
@@ -85,7 +85,7 @@ module _ (p q r : List ℕ) (a b c : List ReadMark) (i j : List ReadMark) (s t :
         cut = rw (← append_assoc, h.reading.cut, none.0, append-nil, append_assoc, g.reading.cut, append_assoc);
       }
 
-  writing_both : TakesUpTo (s ++ t) g.last
+  writing_both : WritesUpTo (s ++ t) g.last
   writing_both =
       record {
         written = h.writing.written ++ g.writing.written;

@@ -3,4 +3,4 @@ use Rattle.example_frames.proofs.entries.read_entries.Given as goal
 
 abbrev pub invariant-loop : goal.invariant-loop
 invariant-loop g l =
-    g.T.CountedRead.ranks.counts l.source × HasRead g.T.Tale.reads l.fn.reader l.entries.items l.source
+    g.T.CountedRead.ranks.counts l.source × HasRead g.T.ReadSpec.reads l.fn.reader l.entries.items l.source

@@ -8,7 +8,7 @@ pub returns-in-Ok-Frame-clause-read : goal.returns-in-Ok-Frame-clause-read
 returns-in-Ok-Frame-clause-read g c =
     let is : c.read_first-first.result.0 ≡ Ok (Frame c.in-Ok-Frame.name) = search rules in
     let first = rw (is, c.new_with_max_length-lines.ensures) at c.read_first-first.ensures.read in
-    behind_line g.T.Tale.reads g.T.Tale.read_laws c.in-Ok-Frame.name _ _ _ first.0 _ first.1 (first.2, first.3)
+    behind_line g.T.ReadSpec.reads g.T.ReadSpec.read_laws c.in-Ok-Frame.name _ _ _ first.0 _ first.1 (first.2, first.3)
     c.read_body.ensures.read
 
 pub returns-in-Ok-Broken-clause-read : goal.returns-in-Ok-Broken-clause-read

@@ -3,5 +3,5 @@ use Rattle.example_frames.proofs.framing.read_known.Goals as goal
 
 pub returns : goal.returns
 returns g c =
-    read_known g.T.Tale.reads g.T.Tale.known c.args.reader _ c.args.codec _ c.requires.knows
+    read_known g.T.ReadSpec.reads g.T.ReadSpec.known c.args.reader _ c.args.codec _ c.requires.knows
     (rw c.new-frames.ensures at c.read_all.ensures)

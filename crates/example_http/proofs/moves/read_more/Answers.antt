@@ -6,14 +6,14 @@ use Rattle.example_http.proofs.moves.read_more.Goals as goal
 
 pub returns-then-not-is_empty-clause-received : goal.returns-then-not-is_empty-clause-received
 returns-then-not-is_empty-clause-received g c =
-    let some : g.T.AsyncBufRead.lent c.args.reader.now ≢ [] = (λ empty. search (rules, empty)) in
-    shown_taken g.T.Tale.reads g.T.AsyncBufRead.lent g.O.Takings.writes g.T.Tale.read_laws c.args.reader.now
+    let some : g.T.AsyncBufRead.buffer_of c.args.reader.now ≢ [] = (λ empty. search (rules, empty)) in
+    shown_taken g.T.ReadSpec.reads g.T.AsyncBufRead.buffer_of g.O.WriteSpec.writes g.T.ReadSpec.read_laws c.args.reader.now
     c.take_in.new.reader c.args.writer.now (history c.args.connection.now) (history c.take_in.new.connection)
     c.take_in.result some c.take_in.ensures.taken
 
 pub returns-clause-received : goal.returns-clause-received
 returns-clause-received g c =
     let f = c.in_ok-refill.ensures in
-    refilled_taken g.T.Tale.reads g.T.AsyncBufRead.lent g.O.Takings.writes g.T.Tale.read_laws c.args.reader.now
+    refilled_taken g.T.ReadSpec.reads g.T.AsyncBufRead.buffer_of g.O.WriteSpec.writes g.T.ReadSpec.read_laws c.args.reader.now
     c.refill.new.reader c.take_in-2.new.reader c.args.writer.now c.refill.new.writer (history c.args.connection.now)
     (history c.take_in-2.new.connection) f.0 tt c.take_in-2.result f.1 c.take_in-2.ensures.taken

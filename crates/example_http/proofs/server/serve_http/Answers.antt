@@ -18,7 +18,7 @@ returns-in_err-turn-clause-served g c =
       _,
       t.0,
       all.4,
-      turned (config_of c.args.connection.now) g.T.Tale.reads g.T.AsyncBufRead.lent g.O.Takings.writes
+      turned (config_of c.args.connection.now) g.T.ReadSpec.reads g.T.AsyncBufRead.buffer_of g.O.WriteSpec.writes
           g.S.Service.answers (config_of c.loop.connection) all.2 _ _ t.0 _ (Err c.in_err-turn.field-0.0) refl t.1,
     )
 
@@ -31,24 +31,24 @@ returns-then-not-branch-clause-served g c =
       _,
       t.0,
       all.4,
-      finished (config_of c.args.connection.now) g.T.Tale.reads g.T.AsyncBufRead.lent g.O.Takings.writes
+      finished (config_of c.args.connection.now) g.T.ReadSpec.reads g.T.AsyncBufRead.buffer_of g.O.WriteSpec.writes
           g.S.Service.answers _ _ t.0 c.outcome.result
-          (turned (config_of c.args.connection.now) g.T.Tale.reads g.T.AsyncBufRead.lent g.O.Takings.writes
+          (turned (config_of c.args.connection.now) g.T.ReadSpec.reads g.T.AsyncBufRead.buffer_of g.O.WriteSpec.writes
           g.S.Service.answers (config_of c.loop.connection) all.2 _ _ t.0 _ (Ok false) is t.1) c.outcome.ensures,
     )
 
 pub returns-in_err-turn-clause-whole : goal.returns-in_err-turn-clause-whole
 returns-in_err-turn-clause-whole g c =
-    serves_whole (config_of c.args.connection.now) g.T.Tale.reads g.T.AsyncBufRead.lent g.O.Takings.writes g.S.Service.answers
-    g.T.Tale.read_laws g.O.Takings.write_laws
+    serves_whole (config_of c.args.connection.now) g.T.ReadSpec.reads g.T.AsyncBufRead.buffer_of g.O.WriteSpec.writes g.S.Service.answers
+    g.T.ReadSpec.read_laws g.O.WriteSpec.write_laws
     (record { reader = c.args.reader.now; writer = c.args.writer.now; service = c.args.service.now; history = history c.args.connection.now })
     (record { reader = c.turn.new.reader; writer = c.turn.new.writer; service = c.turn.new.service; history = history c.turn.new.connection })
     c.from_residual.result (returns-in_err-turn-clause-served g c)
 
 pub returns-then-not-branch-clause-whole : goal.returns-then-not-branch-clause-whole
 returns-then-not-branch-clause-whole g c =
-    serves_whole (config_of c.args.connection.now) g.T.Tale.reads g.T.AsyncBufRead.lent g.O.Takings.writes g.S.Service.answers
-    g.T.Tale.read_laws g.O.Takings.write_laws
+    serves_whole (config_of c.args.connection.now) g.T.ReadSpec.reads g.T.AsyncBufRead.buffer_of g.O.WriteSpec.writes g.S.Service.answers
+    g.T.ReadSpec.read_laws g.O.WriteSpec.write_laws
     (record { reader = c.args.reader.now; writer = c.args.writer.now; service = c.args.service.now; history = history c.args.connection.now })
     (record { reader = c.turn.new.reader; writer = c.turn.new.writer; service = c.turn.new.service; history = history c.turn.new.connection })
     c.outcome.result (returns-then-not-branch-clause-served g c)
@@ -58,12 +58,12 @@ loop-preserved g c =
     let all = c.loop.invariant in
     let is : c.turn.result ≡ Ok true = search rules in
     let t = c.turn.ensures.turned in
-    let step = turned (config_of c.args.connection.now) g.T.Tale.reads g.T.AsyncBufRead.lent g.O.Takings.writes
+    let step = turned (config_of c.args.connection.now) g.T.ReadSpec.reads g.T.AsyncBufRead.buffer_of g.O.WriteSpec.writes
     g.S.Service.answers (config_of c.loop.connection) all.2 _ _ t.0 _ (Ok true) is t.1 in (
       tt,
       tt,
       search rules,
       all.3 ++ t.0 ∷ [],
-      stepped (config_of c.args.connection.now) g.T.Tale.reads g.T.AsyncBufRead.lent
-          g.O.Takings.writes g.S.Service.answers _ _ _ all.3 t.0 all.4 step,
+      stepped (config_of c.args.connection.now) g.T.ReadSpec.reads g.T.AsyncBufRead.buffer_of
+          g.O.WriteSpec.writes g.S.Service.answers _ _ _ all.3 t.0 all.4 step,
     )

@@ -10,7 +10,7 @@ abbrev pub invariant-loop : goal.invariant-loop
 invariant-loop g l =
     (goal.iterator-loop g).can_next l.iterator' × (goal.iterator-loop g).is_finite l.iterator'
     × (config_of l.connection ≡ config_of l.fn.connection)
-    × (steps : List Moved) × FoldsTo (HttpStep (config_of l.fn.connection) g.T.Tale.reads g.T.AsyncBufRead.lent
-    g.O.Takings.writes g.S.Service.answers)
+    × (steps : List Moved) × FoldsTo (HttpStep (config_of l.fn.connection) g.T.ReadSpec.reads g.T.AsyncBufRead.buffer_of
+    g.O.WriteSpec.writes g.S.Service.answers)
     (record { reader = l.fn.reader; writer = l.fn.writer; service = l.fn.service; history = history l.fn.connection }) steps
     (record { reader = l.reader; writer = l.writer; service = l.service; history = history l.connection })

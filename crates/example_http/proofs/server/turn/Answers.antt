@@ -12,7 +12,7 @@ returns-in-Ok-clause-turned g c =
       record { told = []; took = w.0 },
       (
         _,
-        answered (config_of c.args.connection.now) g.T.Tale.reads g.T.AsyncBufRead.lent g.O.Takings.writes g.S.Service.answers _ c.advance.new.service
+        answered (config_of c.args.connection.now) g.T.ReadSpec.reads g.T.AsyncBufRead.buffer_of g.O.WriteSpec.writes g.S.Service.answers _ c.advance.new.service
             (history c.advance.new.self) _ a.config a.calls a.quiet a.served a.rests,
         inl (w.1, refl, refl, refl),
       ),
@@ -25,7 +25,7 @@ returns-in-Err-clause-turned g c =
       record { told = []; took = w.0 },
       (
         _,
-        answered (config_of c.args.connection.now) g.T.Tale.reads g.T.AsyncBufRead.lent g.O.Takings.writes g.S.Service.answers _ c.advance.new.service
+        answered (config_of c.args.connection.now) g.T.ReadSpec.reads g.T.AsyncBufRead.buffer_of g.O.WriteSpec.writes g.S.Service.answers _ c.advance.new.service
             (history c.advance.new.self) _ a.config a.calls a.quiet a.served a.rests,
         inl (w.1, refl, refl, refl),
       ),
@@ -39,7 +39,7 @@ returns-in-Ok-flush-clause-turned g c =
       record { told = []; took = f.0 },
       (
         _,
-        answered (config_of c.args.connection.now) g.T.Tale.reads g.T.AsyncBufRead.lent g.O.Takings.writes g.S.Service.answers _ c.advance.new.service
+        answered (config_of c.args.connection.now) g.T.ReadSpec.reads g.T.AsyncBufRead.buffer_of g.O.WriteSpec.writes g.S.Service.answers _ c.advance.new.service
             (history c.advance.new.self) _ a.config a.calls a.quiet a.served a.rests,
         (done, f.1, refl, refl, refl, refl),
       ),
@@ -53,7 +53,7 @@ returns-in-Err-flush-clause-turned g c =
       record { told = []; took = f.0 },
       (
         _,
-        answered (config_of c.args.connection.now) g.T.Tale.reads g.T.AsyncBufRead.lent g.O.Takings.writes g.S.Service.answers _ c.advance.new.service
+        answered (config_of c.args.connection.now) g.T.ReadSpec.reads g.T.AsyncBufRead.buffer_of g.O.WriteSpec.writes g.S.Service.answers _ c.advance.new.service
             (history c.advance.new.self) _ a.config a.calls a.quiet a.served a.rests,
         inr (inl (done, f.1, refl, refl, refl, refl)),
       ),
@@ -66,12 +66,12 @@ returns-in_err-read_more-clause-turned g c =
     let is : c.from_residual.result ≡ Err c.in_err-read_more.field-0.0 = search rules in
     let none : 0 < length (history c.advance.new.self).pending → ⊥ = (λ some. search (rules, some)) in
     let going : IsDone (history c.advance.new.self) → ⊥ = (λ done. search (rules, done)) in
-    let now = answered (config_of c.args.connection.now) g.T.Tale.reads g.T.AsyncBufRead.lent g.O.Takings.writes g.S.Service.answers
+    let now = answered (config_of c.args.connection.now) g.T.ReadSpec.reads g.T.AsyncBufRead.buffer_of g.O.WriteSpec.writes g.S.Service.answers
     (record { reader = c.args.reader.now; writer = c.args.writer.now; service = c.args.service.now; history = history c.args.connection.now })
     c.advance.new.service (history c.advance.new.self) _ a.config a.calls a.quiet a.served a.rests in
     rw is (
       r.0,
-      stopped (config_of c.args.connection.now) g.T.Tale.reads g.T.AsyncBufRead.lent g.O.Takings.writes g.S.Service.answers _ _
+      stopped (config_of c.args.connection.now) g.T.ReadSpec.reads g.T.AsyncBufRead.buffer_of g.O.WriteSpec.writes g.S.Service.answers _ _
           (record {
             reader = c.read_more.new.reader;
             writer = c.read_more.new.writer;
@@ -90,7 +90,7 @@ returns-clause-turned g c =
       r.0,
       (
         _,
-        answered (config_of c.args.connection.now) g.T.Tale.reads g.T.AsyncBufRead.lent g.O.Takings.writes g.S.Service.answers _ c.advance.new.service
+        answered (config_of c.args.connection.now) g.T.ReadSpec.reads g.T.AsyncBufRead.buffer_of g.O.WriteSpec.writes g.S.Service.answers _ c.advance.new.service
             (history c.advance.new.self) _ a.config a.calls a.quiet a.served a.rests,
         inr (waiting (history c.advance.new.self) none going, r.1, refl),
       ),

@@ -5,6 +5,6 @@ pub returns : goal.returns
 returns g c =
     record {
       ends = c.serve.ensures.served;
-      whole = session_of g.T.AsyncBufRead.lent g.T.Tale.read_laws g.O.Takings.write_laws _ _ c.serve.result
+      whole = session_of g.T.AsyncBufRead.buffer_of g.T.ReadSpec.read_laws g.O.WriteSpec.write_laws _ _ c.serve.result
           c.requires.fresh c.serve.ensures.served;
     }

@@ -7,7 +7,7 @@ loop-init g c = (
   tt,
   tt,
   c.requires.counts,
-  counts_start g.T.Tale.reads g.T.Tale.read_laws c.args.reader.now c.new-counts.result c.new-counts.ensures,
+  counts_start g.T.ReadSpec.reads g.T.ReadSpec.read_laws c.args.reader.now c.new-counts.result c.new-counts.ensures,
 )
 
 pub read_line-requires : goal.read_line-requires
@@ -16,7 +16,7 @@ read_line-requires g c = record { counts = c.loop.invariant.2 }
 pub returns-then-not-more : goal.returns-then-not-more
 returns-then-not-more g c =
     let last : c.in_ok-more.more ≡ false = search rules in
-    counts_last g.T.Tale.reads g.T.Tale.read_laws c.args.reader.now c.loop.reader c.read_line.new.reader c.loop.counts c.add_line.new.self
+    counts_last g.T.ReadSpec.reads g.T.ReadSpec.read_laws c.args.reader.now c.loop.reader c.read_line.new.reader c.loop.counts c.add_line.new.self
     c.read_line.new.line.items (rw c.deref.ensures.value at c.in_default.ensures.counts) c.in_default.ensures.positive c.loop.invariant.3
     (rw last at c.in_ok-more.ensures.read)
 
@@ -26,7 +26,7 @@ loop-preserved g c =
       tt,
       tt,
       c.read_line.ensures.again,
-      counts_line g.T.Tale.reads g.T.Tale.read_laws c.args.reader.now c.loop.reader c.read_line.new.reader c.loop.counts c.add_line.new.self
+      counts_line g.T.ReadSpec.reads g.T.ReadSpec.read_laws c.args.reader.now c.loop.reader c.read_line.new.reader c.loop.counts c.add_line.new.self
           c.read_line.new.line.items (rw c.deref.ensures.value at c.in_default.ensures.counts) c.in_default.ensures.positive c.loop.invariant.3
           (rw next at c.in_ok-more.ensures.read),
     )

@@ -8,7 +8,7 @@ loop-init g c = (
   tt,
   tt,
   c.requires.counts,
-  sums_start g.T.Tale.reads g.O.Takings.writes g.T.Tale.read_laws g.O.Takings.write_laws c.args.reader.now c.args.output.now
+  sums_start g.T.ReadSpec.reads g.O.WriteSpec.writes g.T.ReadSpec.read_laws g.O.WriteSpec.write_laws c.args.reader.now c.args.output.now
       c.new-sum.result c.new-sum.ensures,
 )
 
@@ -20,7 +20,7 @@ returns-then-is_empty g c =
     let none : length c.read_line.new.line.items ≡ 0 = search rules in
     let text = c.deref.ensures.value ∙ c.in_ok-finish.ensures ∙ ap (λ k. k ++ record_lines (pending c.loop.sum)) c.clear.ensures.items in
     on_ok c.write_last.result
-    (λ h. sums_end g.T.Tale.reads g.O.Takings.writes g.T.Tale.read_laws g.O.Takings.write_laws c.args.reader.now c.loop.reader
+    (λ h. sums_end g.T.ReadSpec.reads g.O.WriteSpec.writes g.T.ReadSpec.read_laws g.O.WriteSpec.write_laws c.args.reader.now c.loop.reader
     c.read_line.new.reader c.args.output.now c.loop.output c.write_last.new.output c.loop.sum c.read_line.new.line.items
     c.deref.result.now c.in_ok-read_line.field-0 none text c.loop.invariant.3 c.in_ok-read_line.ensures.read h)
     c.write_last.ensures
@@ -33,7 +33,7 @@ loop-preserved g c =
       tt,
       tt,
       c.read_line.ensures.again,
-      sums_line g.T.Tale.reads g.O.Takings.writes g.T.Tale.read_laws g.O.Takings.write_laws c.args.reader.now c.loop.reader
+      sums_line g.T.ReadSpec.reads g.O.WriteSpec.writes g.T.ReadSpec.read_laws g.O.WriteSpec.write_laws c.args.reader.now c.loop.reader
           c.read_line.new.reader c.args.output.now c.loop.output c.write.new.output c.loop.sum c.add_line.new.sum c.read_line.new.line.items
           c.deref-in-loop-2.result.now c.in_ok-read_line.field-0 added.0 added.2 line text added.4 c.loop.invariant.3
           c.in_ok-read_line.ensures.read c.in_ok-write.ensures,

@@ -13,9 +13,9 @@ loop-init g c = (
   tt,
   c.requires,
   λ phase. rw c.new-frames.ensures.items (none_yet g.D.Decoder.gives g.D.Error.From.from_gives
-      (ToldStripped g.T.Tale.reads) (stripped_laws g.T.Tale.read_laws) g.met.D.Decoder.stable c.args.framed.now phase),
+      (ToldStripped g.T.ReadSpec.reads) (stripped_laws g.T.ReadSpec.read_laws) g.met.D.Decoder.stable c.args.framed.now phase),
   λ phase. rw c.new-frames.ensures.items (none_left g.D.Decoder.gives g.D.Error.From.from_gives
-      (ToldStripped g.T.Tale.reads) (stripped_laws g.T.Tale.read_laws) g.met.D.Decoder.stable c.args.framed.now phase),
+      (ToldStripped g.T.ReadSpec.reads) (stripped_laws g.T.ReadSpec.read_laws) g.met.D.Decoder.stable c.args.framed.now phase),
   λ phase. (refl, c.new-frames.ensures.items),
 )
 
@@ -23,9 +23,9 @@ pub returns-in-Err-clause-told : goal.returns-in-Err-clause-told
 returns-in-Err-clause-told g c phase =
     let is : c.wait_frame.result ≡ Some (Ok c.in-Some-Ok.frame) = search rules in
     let kind : error_kind c.from.result ≡ OutOfMemory = search rules in
-    refused g.D.Decoder.gives g.D.Error.From.from_gives (ToldStripped g.T.Tale.reads) (stripped_laws g.T.Tale.read_laws)
+    refused g.D.Decoder.gives g.D.Error.From.from_gives (ToldStripped g.T.ReadSpec.reads) (stripped_laws g.T.ReadSpec.read_laws)
     g.met.D.Decoder.stable c.args.framed.now _ _ c.from.result _
-    (more g.D.Decoder.gives g.D.Error.From.from_gives (ToldStripped g.T.Tale.reads) (stripped_laws g.T.Tale.read_laws)
+    (more g.D.Decoder.gives g.D.Error.From.from_gives (ToldStripped g.T.ReadSpec.reads) (stripped_laws g.T.ReadSpec.read_laws)
     g.met.D.Decoder.stable c.args.framed.now c.loop.frames.items c.loop.framed _ c.in-Some-Ok.frame (c.loop.invariant.3 phase)
     (rw is at c.wait_frame.ensures.told)) c.from-in-Err.ensures kind
 
@@ -37,14 +37,14 @@ loop-preserved g c =
       tt,
       c.wait_frame.ensures.again,
       λ phase. rw pushed (more g.D.Decoder.gives g.D.Error.From.from_gives
-          (ToldStripped g.T.Tale.reads) (stripped_laws g.T.Tale.read_laws) g.met.D.Decoder.stable c.args.framed.now
+          (ToldStripped g.T.ReadSpec.reads) (stripped_laws g.T.ReadSpec.read_laws) g.met.D.Decoder.stable c.args.framed.now
           c.loop.frames.items c.loop.framed _ c.in-Some-Ok.frame (c.loop.invariant.3 phase) (rw is at c.wait_frame.ensures.told)),
       λ phase. rw pushed (last_more g.D.Decoder.gives g.D.Error.From.from_gives
-          (ToldStripped g.T.Tale.reads) (stripped_laws g.T.Tale.read_laws) g.met.D.Decoder.stable c.args.framed.now
+          (ToldStripped g.T.ReadSpec.reads) (stripped_laws g.T.ReadSpec.read_laws) g.met.D.Decoder.stable c.args.framed.now
           c.loop.frames.items c.loop.framed _ c.in-Some-Ok.frame (c.loop.invariant.4 phase) (rw is at c.wait_frame.ensures.told)),
       λ phase.
-          let none = nothing_left g.D.Decoder.gives g.D.Error.From.from_gives (ToldStripped g.T.Tale.reads)
-          (stripped_laws g.T.Tale.read_laws) g.met.D.Decoder.stable c.args.framed.now c.loop.framed _ (Some (Ok c.in-Some-Ok.frame))
+          let none = nothing_left g.D.Decoder.gives g.D.Error.From.from_gives (ToldStripped g.T.ReadSpec.reads)
+          (stripped_laws g.T.ReadSpec.read_laws) g.met.D.Decoder.stable c.args.framed.now c.loop.framed _ (Some (Ok c.in-Some-Ok.frame))
           (c.loop.invariant.5 phase).0 phase (rw is at c.wait_frame.ensures.told) in
           let no = none.0 in cc,
     )
@@ -52,14 +52,14 @@ loop-preserved g c =
 pub returns-in-Some-Err-clause-told : goal.returns-in-Some-Err-clause-told
 returns-in-Some-Err-clause-told g c phase =
     let is : c.wait_frame.result ≡ Some (Err c.in-Some-Err.e) = search rules in
-    stops g.D.Decoder.gives g.D.Error.From.from_gives (ToldStripped g.T.Tale.reads) (stripped_laws g.T.Tale.read_laws)
+    stops g.D.Decoder.gives g.D.Error.From.from_gives (ToldStripped g.T.ReadSpec.reads) (stripped_laws g.T.ReadSpec.read_laws)
     g.met.D.Decoder.stable c.args.framed.now c.loop.frames.items c.loop.framed _ c.in-Some-Err.e (c.loop.invariant.3 phase)
     (rw is at c.wait_frame.ensures.told)
 
 pub returns-in-None-wait_frame-clause-told : goal.returns-in-None-wait_frame-clause-told
 returns-in-None-wait_frame-clause-told g c phase =
     let is : c.wait_frame.result ≡ None = search rules in
-    all_frames g.D.Decoder.gives g.D.Error.From.from_gives (ToldStripped g.T.Tale.reads) (stripped_laws g.T.Tale.read_laws)
+    all_frames g.D.Decoder.gives g.D.Error.From.from_gives (ToldStripped g.T.ReadSpec.reads) (stripped_laws g.T.ReadSpec.read_laws)
     g.met.D.Decoder.stable c.args.framed.now c.loop.frames c.loop.frames.items (search rules) c.loop.framed _
     (c.loop.invariant.3 phase) (rw is at c.wait_frame.ensures.told)
 
@@ -68,16 +68,16 @@ returns-in-Err-clause-rest g c phase =
     let is : c.wait_frame.result ≡ Some (Ok c.in-Some-Ok.frame) = search rules in
     let kind : error_kind c.from.result ≡ OutOfMemory = search rules in
     last_refused g.D.Decoder.gives g.D.Error.From.from_gives
-    (ToldStripped g.T.Tale.reads) (stripped_laws g.T.Tale.read_laws) g.met.D.Decoder.stable c.args.framed.now _ _ c.from.result _
+    (ToldStripped g.T.ReadSpec.reads) (stripped_laws g.T.ReadSpec.read_laws) g.met.D.Decoder.stable c.args.framed.now _ _ c.from.result _
     (last_more g.D.Decoder.gives g.D.Error.From.from_gives
-    (ToldStripped g.T.Tale.reads) (stripped_laws g.T.Tale.read_laws) g.met.D.Decoder.stable c.args.framed.now c.loop.frames.items c.loop.framed _ c.in-Some-Ok.frame (c.loop.invariant.4 phase)
+    (ToldStripped g.T.ReadSpec.reads) (stripped_laws g.T.ReadSpec.read_laws) g.met.D.Decoder.stable c.args.framed.now c.loop.frames.items c.loop.framed _ c.in-Some-Ok.frame (c.loop.invariant.4 phase)
     (rw is at c.wait_frame.ensures.told)) c.from-in-Err.ensures kind
 
 pub returns-in-Err-clause-over : goal.returns-in-Err-clause-over
 returns-in-Err-clause-over g c phase =
     let is : c.wait_frame.result ≡ Some (Ok c.in-Some-Ok.frame) = search rules in
     let none = nothing_left g.D.Decoder.gives g.D.Error.From.from_gives
-    (ToldStripped g.T.Tale.reads) (stripped_laws g.T.Tale.read_laws) g.met.D.Decoder.stable c.args.framed.now c.loop.framed _ (Some (Ok c.in-Some-Ok.frame))
+    (ToldStripped g.T.ReadSpec.reads) (stripped_laws g.T.ReadSpec.read_laws) g.met.D.Decoder.stable c.args.framed.now c.loop.framed _ (Some (Ok c.in-Some-Ok.frame))
     (c.loop.invariant.5 phase).0 phase (rw is at c.wait_frame.ensures.told) in
     let no = none.0 in cc
 
@@ -85,14 +85,14 @@ pub returns-in-Some-Err-clause-rest : goal.returns-in-Some-Err-clause-rest
 returns-in-Some-Err-clause-rest g c phase =
     let is : c.wait_frame.result ≡ Some (Err c.in-Some-Err.e) = search rules in
     last_stops g.D.Decoder.gives g.D.Error.From.from_gives
-    (ToldStripped g.T.Tale.reads) (stripped_laws g.T.Tale.read_laws) g.met.D.Decoder.stable c.args.framed.now c.loop.frames.items c.loop.framed _ c.in-Some-Err.e (c.loop.invariant.4 phase)
+    (ToldStripped g.T.ReadSpec.reads) (stripped_laws g.T.ReadSpec.read_laws) g.met.D.Decoder.stable c.args.framed.now c.loop.frames.items c.loop.framed _ c.in-Some-Err.e (c.loop.invariant.4 phase)
     (rw is at c.wait_frame.ensures.told)
 
 pub returns-in-Some-Err-clause-over : goal.returns-in-Some-Err-clause-over
 returns-in-Some-Err-clause-over g c phase =
     let is : c.wait_frame.result ≡ Some (Err c.in-Some-Err.e) = search rules in
     let none = nothing_left g.D.Decoder.gives g.D.Error.From.from_gives
-    (ToldStripped g.T.Tale.reads) (stripped_laws g.T.Tale.read_laws) g.met.D.Decoder.stable c.args.framed.now c.loop.framed _ (Some (Err c.in-Some-Err.e))
+    (ToldStripped g.T.ReadSpec.reads) (stripped_laws g.T.ReadSpec.read_laws) g.met.D.Decoder.stable c.args.framed.now c.loop.framed _ (Some (Err c.in-Some-Err.e))
     (c.loop.invariant.5 phase).0 phase (rw is at c.wait_frame.ensures.told) in
     let no = none.0 in cc
 
@@ -100,13 +100,13 @@ pub returns-in-None-wait_frame-clause-rest : goal.returns-in-None-wait_frame-cla
 returns-in-None-wait_frame-clause-rest g c phase =
     let is : c.wait_frame.result ≡ None = search rules in
     all_left g.D.Decoder.gives g.D.Error.From.from_gives
-    (ToldStripped g.T.Tale.reads) (stripped_laws g.T.Tale.read_laws) g.met.D.Decoder.stable c.args.framed.now c.loop.frames c.loop.frames.items (search rules) c.loop.framed _
+    (ToldStripped g.T.ReadSpec.reads) (stripped_laws g.T.ReadSpec.read_laws) g.met.D.Decoder.stable c.args.framed.now c.loop.frames c.loop.frames.items (search rules) c.loop.framed _
     (c.loop.invariant.4 phase) (rw is at c.wait_frame.ensures.told)
 
 pub returns-in-None-wait_frame-clause-over : goal.returns-in-None-wait_frame-clause-over
 returns-in-None-wait_frame-clause-over g c phase =
     let is : c.wait_frame.result ≡ None = search rules in
     let none = nothing_left g.D.Decoder.gives g.D.Error.From.from_gives
-    (ToldStripped g.T.Tale.reads) (stripped_laws g.T.Tale.read_laws) g.met.D.Decoder.stable c.args.framed.now c.loop.framed _ None
+    (ToldStripped g.T.ReadSpec.reads) (stripped_laws g.T.ReadSpec.read_laws) g.met.D.Decoder.stable c.args.framed.now c.loop.framed _ None
     (c.loop.invariant.5 phase).0 phase (rw is at c.wait_frame.ensures.told) in
     (none.1, (c.loop.invariant.5 phase).1)

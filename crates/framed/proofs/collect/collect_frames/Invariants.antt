@@ -8,6 +8,6 @@ abbrev pub invariant-loop : goal.invariant-loop
 invariant-loop g l =
     (goal.iterator-loop g).can_next l.iterator' × (goal.iterator-loop g).is_finite l.iterator'
     × g.T.CountedRead.ranks.counts l.framed.reader
-    × (l.fn.framed.phase ≡ reading → Collected g.D.Decoder.gives (ToldStripped g.T.Tale.reads) l.fn.framed l.frames.items l.framed)
+    × (l.fn.framed.phase ≡ reading → Collected g.D.Decoder.gives (ToldStripped g.T.ReadSpec.reads) l.fn.framed l.frames.items l.framed)
     × (l.fn.framed.phase ≡ ending → LastCollected g.D.Decoder.gives l.fn.framed l.frames.items l.framed)
     × (l.fn.framed.phase ≡ ended → (l.framed ≡ l.fn.framed) × (l.frames.items ≡ []))

@@ -23,7 +23,7 @@ returns-in-Ok-clause-served g c =
 pub returns-in-Err-flush_by-clause-served : goal.returns-in-Err-flush_by-clause-served
 returns-in-Err-flush_by-clause-served g c =
     let s : c.serve_one.result ≡ Ok (Ok false) = search rules in
-    unflushed g.D.Decoder.gives g.S.Error.From.from_gives g.T.Tale.reads g.T.AsyncBufRead.lent g.O.Takings.writes
+    unflushed g.D.Decoder.gives g.S.Error.From.from_gives g.T.ReadSpec.reads g.T.AsyncBufRead.buffer_of g.O.WriteSpec.writes
     g.E.Encoder.encodes g.E.Encoder.refuses g.S.Service.answers g.S.Service.refuses _
     (record {
       requests = c.serve_one.new.requests;
@@ -37,7 +37,7 @@ pub returns-in-Ok-flush_by-clause-served : goal.returns-in-Ok-flush_by-clause-se
 returns-in-Ok-flush_by-clause-served g c =
     let s : c.serve_one.result ≡ Ok (Err c.in-Ok-Err.stopped) = search rules in
     let f : c.flush_by-in-Ok-Err.result ≡ Ok tt = search rules in
-    flushed g.D.Decoder.gives g.S.Error.From.from_gives g.T.Tale.reads g.T.AsyncBufRead.lent g.O.Takings.writes
+    flushed g.D.Decoder.gives g.S.Error.From.from_gives g.T.ReadSpec.reads g.T.AsyncBufRead.buffer_of g.O.WriteSpec.writes
     g.E.Encoder.encodes g.E.Encoder.refuses g.S.Service.answers g.S.Service.refuses _
     (record {
       requests = c.serve_one.new.requests;
@@ -50,7 +50,7 @@ returns-in-Ok-flush_by-clause-served g c =
 pub returns-in-Err-flush_by-2-clause-served : goal.returns-in-Err-flush_by-2-clause-served
 returns-in-Err-flush_by-2-clause-served g c =
     let s : c.serve_one.result ≡ Ok (Err c.in-Ok-Err.stopped) = search rules in
-    unflushed g.D.Decoder.gives g.S.Error.From.from_gives g.T.Tale.reads g.T.AsyncBufRead.lent g.O.Takings.writes
+    unflushed g.D.Decoder.gives g.S.Error.From.from_gives g.T.ReadSpec.reads g.T.AsyncBufRead.buffer_of g.O.WriteSpec.writes
     g.E.Encoder.encodes g.E.Encoder.refuses g.S.Service.answers g.S.Service.refuses _
     (record {
       requests = c.serve_one.new.requests;

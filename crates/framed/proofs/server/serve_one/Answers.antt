@@ -5,17 +5,17 @@ use Rattle.framed.proofs.server.serve_one.Goals as goal
 
 pub returns-in-None-clause-served : goal.returns-in-None-clause-served
 returns-in-None-clause-served g c =
-    inl (nothing g.D.Decoder.gives g.S.Error.From.from_gives g.T.Tale.reads g.T.AsyncBufRead.lent g.O.Takings.writes
+    inl (nothing g.D.Decoder.gives g.S.Error.From.from_gives g.T.ReadSpec.reads g.T.AsyncBufRead.buffer_of g.O.WriteSpec.writes
     g.E.Encoder.encodes g.E.Encoder.refuses g.S.Service.answers g.S.Service.refuses _
-    g.O.Takings.write_laws c.take.new.requests c.take.new.replies (rw c.in-None.is at c.in_ok-take.ensures.taken))
+    g.O.WriteSpec.write_laws c.take.new.requests c.take.new.replies (rw c.in-None.is at c.in_ok-take.ensures.taken))
 
 pub returns-in-Ok-Ok-clause-served : goal.returns-in-Ok-Ok-clause-served
 returns-in-Ok-Ok-clause-served g c =
     let t : c.in_ok-take.field-0 ≡ Some (Ok c.in-Some-Ok.request) = search rules in
     let s : c.send_all.result ≡ Ok (Ok tt) = search rules in
-    went g.D.Decoder.gives g.S.Error.From.from_gives g.T.Tale.reads g.T.AsyncBufRead.lent g.O.Takings.writes
+    went g.D.Decoder.gives g.S.Error.From.from_gives g.T.ReadSpec.reads g.T.AsyncBufRead.buffer_of g.O.WriteSpec.writes
     g.E.Encoder.encodes g.E.Encoder.refuses g.S.Service.answers g.S.Service.refuses _
-    _ c.in-Some-Ok.request _ (stepped g.D.Decoder.gives g.S.Error.From.from_gives g.T.Tale.reads g.T.AsyncBufRead.lent g.O.Takings.writes
+    _ c.in-Some-Ok.request _ (stepped g.D.Decoder.gives g.S.Error.From.from_gives g.T.ReadSpec.reads g.T.AsyncBufRead.buffer_of g.O.WriteSpec.writes
     g.E.Encoder.encodes g.E.Encoder.refuses g.S.Service.answers g.S.Service.refuses _
     _ (Ok c.in-Some-Ok.request) _ _ _ (rw t at c.in_ok-take.ensures.taken) (rw c.in-Ok.is at c.answer.ensures)
     _ c.send_all.ensures s)
@@ -24,7 +24,7 @@ pub returns-in-Ok-Err-clause-served : goal.returns-in-Ok-Err-clause-served
 returns-in-Ok-Err-clause-served g c =
     let t : c.in_ok-take.field-0 ≡ Some (Ok c.in-Some-Ok.request) = search rules in
     let s : c.send_all.result ≡ Ok (Err c.in-Ok-Err.e) = search rules in
-    not_written g.D.Decoder.gives g.S.Error.From.from_gives g.T.Tale.reads g.T.AsyncBufRead.lent g.O.Takings.writes
+    not_written g.D.Decoder.gives g.S.Error.From.from_gives g.T.ReadSpec.reads g.T.AsyncBufRead.buffer_of g.O.WriteSpec.writes
     g.E.Encoder.encodes g.E.Encoder.refuses g.S.Service.answers g.S.Service.refuses _
     _ (Ok c.in-Some-Ok.request) _ _ _ (rw t at c.in_ok-take.ensures.taken) (rw c.in-Ok.is at c.answer.ensures)
     _ c.send_all.ensures _ s
@@ -32,7 +32,7 @@ returns-in-Ok-Err-clause-served g c =
 pub returns-in-Err-clause-served : goal.returns-in-Err-clause-served
 returns-in-Err-clause-served g c =
     let t : c.in_ok-take.field-0 ≡ Some (Ok c.in-Some-Ok.request) = search rules in
-    not_encoded g.D.Decoder.gives g.S.Error.From.from_gives g.T.Tale.reads g.T.AsyncBufRead.lent g.O.Takings.writes
+    not_encoded g.D.Decoder.gives g.S.Error.From.from_gives g.T.ReadSpec.reads g.T.AsyncBufRead.buffer_of g.O.WriteSpec.writes
     g.E.Encoder.encodes g.E.Encoder.refuses g.S.Service.answers g.S.Service.refuses _
     _ (Ok c.in-Some-Ok.request) _ _ _ (rw t at c.in_ok-take.ensures.taken) (rw c.in-Ok.is at c.answer.ensures)
     _ c.send_all.ensures _ c.in-Err.is
@@ -41,7 +41,7 @@ pub returns-in-Ok-Ok-send_all-clause-served : goal.returns-in-Ok-Ok-send_all-cla
 returns-in-Ok-Ok-send_all-clause-served g c =
     let t : c.in_ok-take.field-0 ≡ Some (Err c.in-Some-Err.error) = search rules in
     let s : c.send_all-in-Some-Err.result ≡ Ok (Ok tt) = search rules in
-    stepped g.D.Decoder.gives g.S.Error.From.from_gives g.T.Tale.reads g.T.AsyncBufRead.lent g.O.Takings.writes
+    stepped g.D.Decoder.gives g.S.Error.From.from_gives g.T.ReadSpec.reads g.T.AsyncBufRead.buffer_of g.O.WriteSpec.writes
     g.E.Encoder.encodes g.E.Encoder.refuses g.S.Service.answers g.S.Service.refuses _
     _ (Err c.in-Some-Err.error) false _ _ (rw t at c.in_ok-take.ensures.taken)
     (rw c.in-Ok-refuse.is at c.refuse.ensures, refl) _ c.send_all-in-Some-Err.ensures s
@@ -50,7 +50,7 @@ pub returns-in-Ok-Err-send_all-clause-served : goal.returns-in-Ok-Err-send_all-c
 returns-in-Ok-Err-send_all-clause-served g c =
     let t : c.in_ok-take.field-0 ≡ Some (Err c.in-Some-Err.error) = search rules in
     let s : c.send_all-in-Some-Err.result ≡ Ok (Err c.in-Ok-Err-send_all.e) = search rules in
-    not_written g.D.Decoder.gives g.S.Error.From.from_gives g.T.Tale.reads g.T.AsyncBufRead.lent g.O.Takings.writes
+    not_written g.D.Decoder.gives g.S.Error.From.from_gives g.T.ReadSpec.reads g.T.AsyncBufRead.buffer_of g.O.WriteSpec.writes
     g.E.Encoder.encodes g.E.Encoder.refuses g.S.Service.answers g.S.Service.refuses _
     _ (Err c.in-Some-Err.error) false _ _ (rw t at c.in_ok-take.ensures.taken)
     (rw c.in-Ok-refuse.is at c.refuse.ensures, refl) _ c.send_all-in-Some-Err.ensures _ s
@@ -58,7 +58,7 @@ returns-in-Ok-Err-send_all-clause-served g c =
 pub returns-in-Err-send_all-clause-served : goal.returns-in-Err-send_all-clause-served
 returns-in-Err-send_all-clause-served g c =
     let t : c.in_ok-take.field-0 ≡ Some (Err c.in-Some-Err.error) = search rules in
-    not_encoded g.D.Decoder.gives g.S.Error.From.from_gives g.T.Tale.reads g.T.AsyncBufRead.lent g.O.Takings.writes
+    not_encoded g.D.Decoder.gives g.S.Error.From.from_gives g.T.ReadSpec.reads g.T.AsyncBufRead.buffer_of g.O.WriteSpec.writes
     g.E.Encoder.encodes g.E.Encoder.refuses g.S.Service.answers g.S.Service.refuses _
     _ (Err c.in-Some-Err.error) false _ _ (rw t at c.in_ok-take.ensures.taken)
     (rw c.in-Ok-refuse.is at c.refuse.ensures, refl) _ c.send_all-in-Some-Err.ensures _ c.in-Err-send_all.is

@@ -5,5 +5,5 @@ pub returns-clause-all : goal.returns-clause-all
 returns-clause-all g c =
     on_each c.copy.result c.copy.ensures.reader c.copy.ensures.writer c.copy.ensures.begins
     (λ f reader writer begins knows stores.
-    copy_left g.R.Tale.reads g.W.Takings.writes g.R.Tale.known g.W.Takings.stored _ _ f reader writer begins knows
+    copy_left g.R.ReadSpec.reads g.W.WriteSpec.writes g.R.ReadSpec.known g.W.WriteSpec.stored _ _ f reader writer begins knows
     stores)

@@ -349,7 +349,7 @@ module _ (E : El) where
             let y : At.Ghost =
             asking κt κc κo κ2 pt.1 pc.1 po.1
             (Share.right qs.1.1.0) tb to cb co ob oo pt.2 pc.2 po.2 s.0 s.1 below in
-            -- [the loans, each with its token and what is kept; the other half of the token of κ2]
+            -- [the loans, each with its token and what is kept; the other side of the token of κ2]
             move ! (0 ∷ 1 ∷ 3 ∷ 4 ∷ 6 ∷ 7 ∷ 9 ∷ []) $ group ! 7 $
             use1 𝓛 (raw (At.pre y))
             (asks κt κc κo κ2 pt.1 pc.1 po.1 (Share.right qs.1.1.0) tb to cb co ob oo pt.2 pc.2 po.2 s.0 s.1 below

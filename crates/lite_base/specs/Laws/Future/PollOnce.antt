@@ -4,37 +4,37 @@ use Rattle.lite_base.specs.Uses.{subst, sym, arith, Poll, Ready, Pending}
 use Rattle.lite_base.specs.Answers.{Waiting, strip}
 use Rattle.lite_base.specs.Calm.{CalmLaws, NoPending}
 use Rattle.lite_base.specs.Laws.Calm.{calm_both}
-use Rattle.lite_base.specs.Future.PollOnce.{TellsFirst}
+use Rattle.lite_base.specs.Future.PollOnce.{GivesFirst}
 use Rattle.lite_base.specs.FutureLaws.{FutureLaws, WaitsOn}
 use Rattle.lite_base.specs.declared.future.poll_once.PollOnce.{PollOnce}
 use Rattle.lite_base.specs.Runs.{Runs}
 
 module _ {F A : Type 0} (run : Runs (Poll A) F) where
-  tells_follow : (x y z : PollOnce F) (l m : List (Poll (Option A))) → Waiting l → TellsFirst run x l y
-      → TellsFirst run y m z → TellsFirst run x (l ++ m) z
-  tells_follow x y z [] m w h k = subst (λ t. TellsFirst run t m z) h k
+  tells_follow : (x y z : PollOnce F) (l m : List (Poll (Option A))) → Waiting l → GivesFirst run x l y
+      → GivesFirst run y m z → GivesFirst run x (l ++ m) z
+  tells_follow x y z [] m w h k = subst (λ t. GivesFirst run t m z) h k
   tells_follow x y z (Pending ∷ l) m w h k = absurd (let e = h.2 in cc)
   tells_follow x y z (Ready b ∷ l) m w h k = absurd w
 
-  tells_once : (x y : PollOnce F) (l : List (Poll (Option A))) → TellsFirst run x l y → length (strip l) ≤ 1
+  tells_once : (x y : PollOnce F) (l : List (Poll (Option A))) → GivesFirst run x l y → length (strip l) ≤ 1
   tells_once x y [] h = omega arith
   tells_once x y (Pending ∷ l) h = absurd (let e = h.2 in cc)
   tells_once x y (Ready b ∷ l) h = rw h.3 (omega arith)
 
-  tells_on : (can_poll : F → Type 0) → WaitsOn (λ (x : PollOnce F). can_poll x.f) (TellsFirst run)
+  tells_on : (can_poll : F → Type 0) → WaitsOn (λ (x : PollOnce F). can_poll x.f) (GivesFirst run)
   tells_on can_poll x y [] w c h = subst (λ (t : PollOnce F). can_poll t.f) (sym h) c
   tells_on can_poll x y (Pending ∷ l) w c h = absurd (let e = h.2 in cc)
   tells_on can_poll x y (Ready b ∷ l) w c h = absurd w
 
-  tells_no_pending : (x y : PollOnce F) (l : List (Poll (Option A))) → TellsFirst run x l y → NoPending l
+  tells_no_pending : (x y : PollOnce F) (l : List (Poll (Option A))) → GivesFirst run x l y → NoPending l
   tells_no_pending x y [] h = tt
   tells_no_pending x y (Pending ∷ l) h = absurd (let e = h.2 in cc)
   tells_no_pending x y (Ready b ∷ l) h = rw h.3 tt
 
-  pub tells_calm : CalmLaws (TellsFirst run) (λ x. ⊤)
+  pub tells_calm : CalmLaws (GivesFirst run) (λ x. ⊤)
   tells_calm = calm_both (λ x y l k h. (tells_no_pending x y l h, tt))
 
-  pub tells_laws : (can_poll : F → Type 0) → FutureLaws (λ x. can_poll x.f) (TellsFirst run)
+  pub tells_laws : (can_poll : F → Type 0) → FutureLaws (λ x. can_poll x.f) (GivesFirst run)
   tells_laws can_poll =
       record {
         rests = λ x. refl;

@@ -3,25 +3,25 @@ use Rattle.std.specs.Prelude.{Result, Ok, ◌≡◌, ◌≤◌, ℕ, List, [], �
 use Rattle.lite_base.specs.Uses.{◌∙◌, subst, sym, inl, inr, arith, length-append, Poll, Ready, Pending}
 use Rattle.lite_base.specs.Answers.{Gives, Waiting, strip}
 use Rattle.lite_base.specs.Calm.{CalmLaws, NoPending}
-use Rattle.lite_base.specs.Future.Half.{CanAsk, IfAsked, Stands}
+use Rattle.lite_base.specs.Future.Side.{CanAsk, IfAsked, Stands}
 use Rattle.lite_base.specs.Future.TryZip.{Fails, TryZips, try_pair}
 use Rattle.lite_base.specs.Future.Together.{TakenWithPair}
 use Rattle.lite_base.specs.FutureLaws.{FutureLaws, FutureRunLaws, WaitsOn}
 use Rattle.lite_base.specs.Laws.FutureLaws.{future_laws_of, future_runs_of}
 use Rattle.lite_base.specs.Laws.Answers.{gives_once, waiting_gives, waiting_not_gives}
 use Rattle.lite_base.specs.Laws.Calm.{calm_both}
-use Rattle.lite_base.specs.Laws.Future.Half.{stands_asked, stands_calm, stands_follow}
+use Rattle.lite_base.specs.Laws.Future.Side.{stands_asked, stands_calm, stands_follow}
 use Rattle.lite_base.specs.Laws.Future.Together.{taken_waiting, rows_long, together_calm, together_follow}
 use Rattle.lite_base.specs.Laws.Future.Together.{together_on, together_once, together_rest, together_stay}
-use Rattle.lite_base.specs.declared.future.half.Half.{Half}
+use Rattle.lite_base.specs.declared.future.side.Side.{Side}
 use Rattle.lite_base.specs.declared.future.try_zip.TryZip.{TryZip}
 use Rattle.lite_base.specs.Runs.{Runs}
 
 module _ {F G A B C E : Type 0} {run : Runs (Poll (Result A E)) F} {run_other : Runs (Poll (Result B E)) G}
     {unasked : ℕ} where
   -- A failure may follow rows without an error.
-  fails_later : FutureRunLaws run → FutureRunLaws run_other → {x y z : Half F A} {u v t : Half G B}
-      {m : List (Poll (Result C E))} (p : Half F A) (q : Half G B) (i : List (Poll (Result A E)))
+  fails_later : FutureRunLaws run → FutureRunLaws run_other → {x y z : Side F A} {u v t : Side G B}
+      {m : List (Poll (Result C E))} (p : Side F A) (q : Side G B) (i : List (Poll (Result A E)))
       (j : List (Poll (Result B E))) (l : List (Poll (Result C E))) → Waiting l
       → Stands Ok run x i p → Stands Ok run_other u j q → TakenWithPair l p y → TakenWithPair l q v
       → length i ≡ length l → length j ≡ length l
@@ -49,14 +49,14 @@ module _ {F G A B C E : Type 0} {run : Runs (Poll (Result A E)) F} {run_other : 
       }
 
 module _ {F G A B E : Type 0} {run_first : Runs (Poll (Result A E)) F} {run_second : Runs (Poll (Result B E)) G} where
-  try_zips_once : {x y : Half F A} {u v : Half G B} {l : List (Poll (Result (A × B) E))}
+  try_zips_once : {x y : Side F A} {u v : Side G B} {l : List (Poll (Result (A × B) E))}
       → TryZips run_first run_second x u l y v → length (strip l) ≤ 1
   try_zips_once (inl h) = together_once h
   try_zips_once {l} (inr (inl h)) = gives_once l _ h.gives
   try_zips_once {l} (inr (inr h)) = gives_once l _ h.gives
 
   try_zips_on : {can_first : F → Type 0} {can_second : G → Type 0} → WaitsOn can_first run_first
-      → WaitsOn can_second run_second → {x y : Half F A} {u v : Half G B} {l : List (Poll (Result (A × B) E))}
+      → WaitsOn can_second run_second → {x y : Side F A} {u v : Side G B} {l : List (Poll (Result (A × B) E))}
       → Waiting l → CanAsk can_first x × CanAsk can_second u → TryZips run_first run_second x u l y v
       → CanAsk can_first y × CanAsk can_second v
   try_zips_on on also w c (inl h) = together_on on also w c h
@@ -64,13 +64,13 @@ module _ {F G A B E : Type 0} {run_first : Runs (Poll (Result A E)) F} {run_seco
   try_zips_on on also {l} w c (inr (inr h)) = absurd (waiting_not_gives l _ w h.gives)
 
   module _ (laws_first : FutureRunLaws run_first) (laws_second : FutureRunLaws run_second) where
-    try_zips_stay : {x y : Half F A} {u v : Half G B}
+    try_zips_stay : {x y : Side F A} {u v : Side G B}
         → TryZips run_first run_second x u [] y v → (y ≡ x) × (v ≡ u)
     try_zips_stay (inl h) = together_stay laws_first laws_second h
     try_zips_stay (inr (inl h)) = absurd h.gives
     try_zips_stay (inr (inr h)) = absurd h.gives
 
-    try_zips_follow : {x y z : Half F A} {u v t : Half G B} {l m : List (Poll (Result (A × B) E))} → Waiting l
+    try_zips_follow : {x y z : Side F A} {u v t : Side G B} {l m : List (Poll (Result (A × B) E))} → Waiting l
         → TryZips run_first run_second x u l y v → TryZips run_first run_second y v m z t
         → TryZips run_first run_second x u (l ++ m) z t
     try_zips_follow {l} w (inr (inl h)) k = absurd (waiting_not_gives l _ w h.gives)
@@ -118,7 +118,7 @@ gives_no_pending i o x y p g e h = absurd h
 module _ {F G A B E : Type 0} {run_first : Runs (Poll (Result A E)) F} {run_second : Runs (Poll (Result B E)) G}
     {calm_first : F → Type 0} {calm_second : G → Type 0} (c : CalmLaws run_first calm_first)
     (d : CalmLaws run_second calm_second) where
-  fails_calm : {C : Type 0} {unasked : ℕ} {x y : Half F A} {u v : Half G B} {l : List (Poll (Result C E))}
+  fails_calm : {C : Type 0} {unasked : ℕ} {x y : Side F A} {u v : Side G B} {l : List (Poll (Result C E))}
       → IfAsked x calm_first × IfAsked u calm_second → Fails run_first run_second unasked x u l y v
       → NoPending l × (IfAsked y calm_first × IfAsked v calm_second)
   fails_calm {u} {v} {l} k h =
@@ -134,7 +134,7 @@ module _ {F G A B E : Type 0} {run_first : Runs (Poll (Result A E)) F} {run_seco
 module _ {F G A B E : Type 0} {run_first : Runs (Poll (Result A E)) F} {run_second : Runs (Poll (Result B E)) G}
     {calm_first : F → Type 0} {calm_second : G → Type 0} (c : CalmLaws run_first calm_first)
     (d : CalmLaws run_second calm_second) where
-  calm_run : {x y : Half F A} {u v : Half G B} {l : List (Poll (Result (A × B) E))} → IfAsked x calm_first
+  calm_run : {x y : Side F A} {u v : Side G B} {l : List (Poll (Result (A × B) E))} → IfAsked x calm_first
       × IfAsked u calm_second → TryZips run_first run_second x u l y v
       → NoPending l × (IfAsked y calm_first × IfAsked v calm_second)
   calm_run k (inl h) = together_calm c d k h

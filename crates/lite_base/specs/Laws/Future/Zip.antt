@@ -2,19 +2,19 @@
 use Rattle.lite_base.specs.Uses.{Poll}
 use Rattle.lite_base.specs.Alike.{Pairwise, SameItem, Sameness}
 use Rattle.lite_base.specs.Calm.{CalmLaws}
-use Rattle.lite_base.specs.Future.Half.{CanAsk, HalvesBy, IfAsked}
+use Rattle.lite_base.specs.Future.Side.{CanAsk, SidesBy, IfAsked}
 use Rattle.lite_base.specs.Future.Zip.{FutureZips}
 use Rattle.lite_base.specs.FutureLaws.{FutureLaws, FutureRunLaws, WaitsOn}
 use Rattle.lite_base.specs.Laws.FutureLaws.{future_laws_of, future_runs_of}
 use Rattle.lite_base.specs.Laws.Alike.{alike_agrees, by_value, up_to_gives}
 use Rattle.lite_base.specs.Laws.Calm.{calm_both}
-use Rattle.lite_base.specs.Laws.Future.Agree.{HalvesAgree, zips_agree}
-use Rattle.lite_base.specs.Laws.Future.Half.{stands_found}
+use Rattle.lite_base.specs.Laws.Future.Agree.{SidesAgree, zips_agree}
+use Rattle.lite_base.specs.Laws.Future.Side.{stands_found}
 use Rattle.lite_base.specs.Laws.Future.Together.{taken_up_to, together_calm, together_follow, together_once}
 use Rattle.lite_base.specs.Laws.Future.Together.{together_on, together_rest, together_stay}
 use Rattle.lite_base.specs.Steady.{FutureSteadyLawsBy, SteadinessBy}
-use Rattle.lite_base.specs.declared.future.half.Half.{Half}
-use Rattle.lite_base.specs.declared.future.half.Half.TheVariants.{Asked}
+use Rattle.lite_base.specs.declared.future.side.Side.{Side}
+use Rattle.lite_base.specs.declared.future.side.Side.TheVariants.{Asked}
 use Rattle.lite_base.specs.declared.future.zip.Zip.{Zip}
 use Rattle.lite_base.specs.Runs.{Runs}
 
@@ -47,9 +47,9 @@ module _ {F G A B : Type 0} {run_first : Runs (Poll A) F} {run_second : Runs (Po
 
 module _ {F A : Type 0} (same : Sameness A) (run : Runs (Poll A) F) (alike : F → F → Type 0)
     (s : SteadinessBy (SameItem same) run alike) where
-  halves_agree : (x y : Half F A) → HalvesBy same alike x y → HalvesAgree same run x y
-  halves_agree (Asked f) (Asked g) e = alike_agrees run f g (s f g e)
-  halves_agree x y e = e
+  sides_agree : (x y : Side F A) → SidesBy same alike x y → SidesAgree same run x y
+  sides_agree (Asked f) (Asked g) e = alike_agrees run f g (s f g e)
+  sides_agree x y e = e
 
 module _ {F G A B : Type 0} {run_first ample_first : Runs (Poll A) F} {run_second ample_second : Runs (Poll B) G}
     {none_first none_second : Type 0} {alike_first : F → F → Type 0} {alike_second : G → G → Type 0}
@@ -57,7 +57,7 @@ module _ {F G A B : Type 0} {run_first ample_first : Runs (Poll A) F} {run_secon
     (t : FutureSteadyLawsBy other run_second ample_second none_second alike_second) where
   pub zips_steady : FutureSteadyLawsBy (Pairwise same other) (Zipped run_first run_second)
       (Zipped ample_first ample_second) (none_first × none_second)
-      (λ (x y : Zip F G A B). HalvesBy same alike_first x.first y.first × HalvesBy other alike_second x.second y.second)
+      (λ (x y : Zip F G A B). SidesBy same alike_first x.first y.first × SidesBy other alike_second x.second y.second)
   zips_steady =
       record {
         laws = zips_runs s.laws t.laws;
@@ -67,8 +67,8 @@ module _ {F G A B : Type 0} {run_first ample_first : Runs (Poll A) F} {run_secon
             (λ v w f g.
             zips_agree ample_first ample_second same other x.first y.first x'.first y'.first x.second y.second x'.second
             y'.second l m v w
-            (halves_agree same ample_first alike_first s.steady x.first y.first e.0)
-            (halves_agree other ample_second alike_second t.steady x.second y.second e.1) h k
+            (sides_agree same ample_first alike_first s.steady x.first y.first e.0)
+            (sides_agree other ample_second alike_second t.steady x.second y.second e.1) h k
             (up_to_gives l v (taken_up_to l h.p x'.first h.taken.0) f)
             (up_to_gives m w (taken_up_to m k.p y'.first k.taken.0) g));
         found = λ n x y l h.

@@ -6,7 +6,7 @@ use Rattle.lite_bridge.specs.Calls.{Event, RunsEvents}
 use Rattle.lite_bridge.specs.Logical.{IsInStep, logical}
 use Rattle.lite_bridge.proofs.Seeking.{seeks_as_bare}
 use Rattle.lite_bridge.proofs.Stepping.{reads_as_bare}
-use Rattle.lite_bridge.proofs.seek.answers_as_bare.Goals as goal
+use Rattle.lite_bridge.proofs.seek.answers_as_cursor.Goals as goal
 
 module _ {T : Type 0} (bytes : T → List ℕ) where
   as_bare : (x : BufReader (Cursor T)) → IsInStep bytes x → (calls : List Event) (last : BufReader (Cursor T))

@@ -10,7 +10,7 @@ returns-then-total_room-room-clause-ran g c =
     let fits : CountsWithin p.result c.args.room = search rules in
     let within = subst (CountsWithin p.result) (sym h.1) p.ensures.bound in
     let some : 0 < length h.0 = omega (arith, h.1, c.total_room.ensures, c.if-total_room-room.true, c.requires) in
-    reads_wide g.R.Tale.reads _ _ p.result h.0 c.args.room some c.requires within fits h.2
+    reads_wide g.R.ReadSpec.reads _ _ p.result h.0 c.args.room some c.requires within fits h.2
 
 pub returns-clause-ran : goal.returns-clause-ran
 returns-clause-ran g c =
@@ -19,4 +19,4 @@ returns-clause-ran g c =
     let fits : CountsWithin p.result c.args.room = search rules in
     let within = subst (CountsWithin p.result) (sym h.1) p.ensures.bound in
     let some : 0 < length h.0 = omega (arith, h.1) in
-    reads_wide g.R.Tale.reads _ _ p.result h.0 c.args.room some c.requires within fits h.2
+    reads_wide g.R.ReadSpec.reads _ _ p.result h.0 c.args.room some c.requires within fits h.2

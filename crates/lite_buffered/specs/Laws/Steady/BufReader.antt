@@ -4,7 +4,7 @@ use Rattle.lite_buffered.specs.Uses.{Comparable, Runs, comparable_behind, no_wai
 use Rattle.lite_buffered.specs.Uses.{NoPendingRead, SteadyReadLaws, strip_marks}
 use Rattle.lite_io_base.specs.Laws.Steady.{comparable_fronts, no_wait_bytes, no_wait_parts}
 use Rattle.lite_buffered.specs.declared.buf_reader.BufReader.{BufReader}
-use Rattle.lite_buffered.specs.BufReader.{Padded, PassesBuffer, ThroughBuffer, ahead, reader_capacity}
+use Rattle.lite_buffered.specs.BufReader.{Padded, PassesBuffer, ThroughBuffer, bytes_ahead, reader_capacity}
 use Rattle.lite_buffered.specs.Laws.BufReader.{passes_some, through_laws}
 
 -- With some capacity, and without `Pending`s, the bytes ahead and the marks that came in are those passed on and the
@@ -29,7 +29,7 @@ passes_no_wait (suc n) p q came out h w =
 -- Two `BufReader`s with some capacity have equal bytes ahead, over readers that are alike. With capacity 0, a fill
 -- looks like end of file, and so they would not be alike.
 abbrev pub AheadAlike : {R : Type 0} → (R → R → Type 0) → BufReader R → BufReader R → Type 0
-AheadAlike alike x y = (0 < reader_capacity x) × (0 < reader_capacity y) × (ahead x ≡ ahead y) × alike x.inner y.inner
+AheadAlike alike x y = (0 < reader_capacity x) × (0 < reader_capacity y) × (bytes_ahead x ≡ bytes_ahead y) × alike x.inner y.inner
 
 module _ {R : Type 0} {reads : Runs ReadMark R} where
   module _ {ample : Runs ReadMark R} {needs_none : Type 0} {alike : R → R → Type 0}
@@ -39,11 +39,11 @@ module _ {R : Type 0} {reads : Runs ReadMark R} where
         → Comparable (strip_marks l) (strip_marks m)
     one_tale x y x' y' l m e h k =
         let came = s.steady x.inner y.inner x'.inner y'.inner h.came k.came e.3 h.ran k.ran in
-        let first = passes_apart (reader_capacity x) (ahead x) (ahead x') h.came l e.0 h.passes in
-        let second = passes_apart (reader_capacity y) (ahead y) (ahead y') k.came m e.1 k.passes in
-        let both = comparable_behind (strip_marks (bytes (ahead y))) (strip_marks h.came) (strip_marks k.came) came in
-        comparable_fronts (strip_marks l) (strip_marks (bytes (ahead x'))) (strip_marks m)
-        (strip_marks (bytes (ahead y'))) (rw (← first, ← second, e.2) both)
+        let first = passes_apart (reader_capacity x) (bytes_ahead x) (bytes_ahead x') h.came l e.0 h.passes in
+        let second = passes_apart (reader_capacity y) (bytes_ahead y) (bytes_ahead y') k.came m e.1 k.passes in
+        let both = comparable_behind (strip_marks (bytes (bytes_ahead y))) (strip_marks h.came) (strip_marks k.came) came in
+        comparable_fronts (strip_marks l) (strip_marks (bytes (bytes_ahead x'))) (strip_marks m)
+        (strip_marks (bytes (bytes_ahead y'))) (rw (← first, ← second, e.2) both)
 
     pub buf_reader_steady : SteadyReadLaws (ThroughBuffer reads) (ThroughBuffer ample) needs_none (AheadAlike alike)
     buf_reader_steady = record {

@@ -4,7 +4,7 @@ use Rattle.lite_buffered.specs.Uses.{◌∙◌, refl, sym, subst, arith, Compara
 use Rattle.lite_buffered.specs.Uses.{NoPendingRead, SteadyReadLaws, strip_marks}
 use Rattle.lite_buffered.specs.declared.take.Take.{Take}
 use Rattle.lite_buffered.specs.Laws.Take.{takes_laws}
-use Rattle.lite_buffered.specs.Take.{LimitEnds, TakesMarks, WithinLimit}
+use Rattle.lite_buffered.specs.Take.{LimitEnds, ReadsWithin, WithinLimit}
 
 fits_stripped : (n rest : ℕ) (l : List ReadMark) → WithinLimit n l rest → WithinLimit n (strip_marks l) rest
 fits_stripped n rest [] h = h
@@ -50,8 +50,8 @@ LimitAlike alike x y = alike x.inner y.inner × (x.limit ≡ y.limit)
 module _ {R : Type 0} {reads : Runs ReadMark R} where
   module _ {ample : Runs ReadMark R} {needs_none : Type 0} {alike : R → R → Type 0}
       (s : SteadyReadLaws reads ample needs_none alike) where
-    one_tale : (x y x' y' : Take R) (l m : List ReadMark) → LimitAlike alike x y → TakesMarks ample x l x'
-        → TakesMarks ample y m y'
+    one_tale : (x y x' y' : Take R) (l m : List ReadMark) → LimitAlike alike x y → ReadsWithin ample x l x'
+        → ReadsWithin ample y m y'
         → Comparable (strip_marks l) (strip_marks m)
     one_tale x y x' y' l m e h k =
         let fits = fits_stripped x.limit x'.limit h.front h.fits in
@@ -62,7 +62,7 @@ module _ {R : Type 0} {reads : Runs ReadMark R} where
         let both = fronts_alike x.limit x'.limit y'.limit _ _ _ _ fits fits2 ends ends2 inner in
         rw (h.cut, strip_marks-append, k.cut, strip_marks-append) both
 
-    pub take_steady : SteadyReadLaws (TakesMarks reads) (TakesMarks ample) needs_none (LimitAlike alike)
+    pub take_steady : SteadyReadLaws (ReadsWithin reads) (ReadsWithin ample) needs_none (LimitAlike alike)
     take_steady = record {
       laws = takes_laws s.laws;
       steady = one_tale;
@@ -78,7 +78,7 @@ module _ {R : Type 0} {reads : Runs ReadMark R} where
     }
 
   pub take_calm : {is_calm : R → Type 0} → CalmReadLaws reads is_calm
-      → CalmReadLaws (TakesMarks reads) (λ (x : Take R). is_calm x.inner)
+      → CalmReadLaws (ReadsWithin reads) (λ (x : Take R). is_calm x.inner)
   take_calm c =
       record {
         no_pending = λ x y l k h.

@@ -5,12 +5,12 @@ use Rattle.lite_theorems.proofs.both_writers.write_both.Goals as goal
 
 pub returns-in_err-on : goal.returns-in_err-on
 returns-in_err-on g c =
-    let rests = g.T.Takings.write_laws.rests in
+    let rests = g.T.WriteSpec.write_laws.rests in
     ([], [], (rests _, (_, refl)), (rests _, (_, refl)), search rules)
 
 pub returns-in_err-first : goal.returns-in_err-first
 returns-in_err-first g c =
-    let rests = g.T.Takings.write_laws.rests in
+    let rests = g.T.WriteSpec.write_laws.rests in
     let one = c.write_up.ensures in
     (one.0, [], one.1, (rests _, (_, refl)), search rules)
 

@@ -4,5 +4,5 @@ use Rattle.lite_theorems.proofs.chained.copy_buffered.Goals as goal
 pub returns-clause-whole : goal.returns-clause-whole
 returns-clause-whole g c =
     let copies = c.copy.ensures in
-    copied g.R.Tale.reads g.W.Takings.writes c.args.reader c.args.writer c.copy.result copies.reader copies.writer
+    copied g.R.ReadSpec.reads g.W.WriteSpec.writes c.args.reader c.args.writer c.copy.result copies.reader copies.writer
     copies.begins

@@ -1,6 +1,6 @@
 use Rattle.std.specs.Prelude.{⊤, ◌≡◌, ◌<◌, ℕ, List, [], ◌++◌}
-use Rattle.lite_theorems.specs.Uses.{◌∙◌, ap, subst, sym, Global, Folds, fold_of, Consume, LacksRoom, tries_collect, ahead, reader_capacity}
-use Rattle.lite_theorems.specs.Uses.{TakesMarks, WithinLimit, take_inner, Take, ReadMark, bytes, lining, PieceSegments, Runs}
+use Rattle.lite_theorems.specs.Uses.{◌∙◌, ap, subst, sym, Global, Folds, fold_of, Consume, LacksRoom, tries_collect, bytes_ahead, reader_capacity}
+use Rattle.lite_theorems.specs.Uses.{ReadsWithin, WithinLimit, take_inner, Take, ReadMark, bytes, line_fold, PieceSegments, Runs}
 use Rattle.lite_buffered.specs.Laws.BufReader.{passes_some}
 use Rattle.lite_buffered.specs.Take.{limit_of}
 use Rattle.lite_buffered.specs.declared.buf_reader.BufReader.{BufReader}
@@ -26,27 +26,27 @@ module _ {R C : Type 0} (reads : Runs ReadMark R) (may_refuse : C → String Glo
       → limit_of x.stream.reader ≡ limit → x.stream.held.bytes.items ≡ []
       → Has holds x.folder.items []
       → AtEachValue
-      (Folds (GivesLines (TakesMarks (ThroughBuffer reads)) ⊤)
+      (Folds (GivesLines (ReadsWithin (ThroughBuffer reads)) ⊤)
       (fold_of (λ (f : TryCollect C). f.items) (tries_collect may_refuse holds))) x
-      (CollectsLines reads holds (ahead reader) (buffered_of reader) limit)
+      (CollectsLines reads holds (bytes_ahead reader) (buffered_of reader) limit)
   lines_collected reader limit x inner some bound held has out y v h g =
       let s = h.came.segmented in
       let t = s.came in
       let b = t.ran in
       let left = take_inner y.stream.reader in
-      let front = bytes (ahead reader) in
-      let full : PassesBuffer (reader_capacity reader) (ahead reader) b.came t.front (ahead left) =
-      subst (λ r. PassesBuffer (reader_capacity r) (ahead r) b.came t.front (ahead left)) inner b.passes
+      let front = bytes (bytes_ahead reader) in
+      let full : PassesBuffer (reader_capacity reader) (bytes_ahead reader) b.came t.front (bytes_ahead left) =
+      subst (λ r. PassesBuffer (reader_capacity r) (bytes_ahead r) b.came t.front (bytes_ahead left)) inner b.passes
       in
-      let told = passes_some (reader_capacity reader) (ahead reader) b.came t.front (ahead left) some full in
+      let told = passes_some (reader_capacity reader) (bytes_ahead reader) b.came t.front (bytes_ahead left) some full in
       let fits : WithinLimit limit t.front (limit_of y.stream.reader) =
       subst (λ (n : ℕ). WithinLimit n t.front (limit_of y.stream.reader)) bound t.fits in
-      let cut : PieceSegments (lining ⊤ tt) [] s.marks h.ins y.stream.held.bytes.items =
-      subst (λ k. PieceSegments (lining ⊤ tt) k s.marks h.ins y.stream.held.bytes.items) held s.cut in
+      let cut : PieceSegments (line_fold ⊤ tt) [] s.marks h.ins y.stream.held.bytes.items =
+      subst (λ k. PieceSegments (line_fold ⊤ tt) k s.marks h.ins y.stream.held.bytes.items) held s.cut in
       let each : (more : List ReadMark) → Given h.ins (lines_told [] (limited limit (front ++ b.came) ++ more)) =
       λ more.
       let l = told_through limit (limit_of y.stream.reader) s.marks t.front t.ends
-      (bytes (ahead left)) t.cut fits t.used_up more in
+      (bytes (bytes_ahead left)) t.cut fits t.used_up more in
       let same = ap (λ k. lines_told [] (limited limit k ++ more)) told ∙ l.1 in
       subst (Given h.ins) (sym same) (given [] y.stream.held.bytes.items s.marks h.ins cut l.0)
       in
@@ -64,6 +64,6 @@ returns-clause-lines g c =
     let made = c.try_collect.ensures in
     let at = ap (λ s. s.reader) made.stream ∙ c.lines.ensures.reader in
     let held = has g.C.Gather.holds c.try_collect.result.folder.items [] made.«open» made.empty in
-    lines_collected g.R.Tale.reads (LacksRoom g.C.Gather.has_room) g.C.Gather.holds c.args.reader c.args.limit c.try_collect.result
+    lines_collected g.R.ReadSpec.reads (LacksRoom g.C.Gather.has_room) g.C.Gather.holds c.args.reader c.args.limit c.try_collect.result
     (ap take_inner at ∙ c.take.ensures.inner) some
     (ap limit_of at ∙ c.take.ensures.limit) (ap (λ s. s.held.bytes.items) made.stream ∙ c.lines.ensures.empty) held

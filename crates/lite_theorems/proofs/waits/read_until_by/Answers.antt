@@ -7,11 +7,11 @@ pub returns-clause-told : goal.returns-clause-told
 returns-clause-told g c =
     let made = c.read_until.ensures in
     let begun = ap (λ z. z.start) made ∙ sym (ap (λ z. length z.buf.now.items) made) in
-    let lent = g.T.AsyncBufRead.lent in
-    let h = rw c.read_until.ensures at (until_waited g.T.Tale.read_laws lent _ _ (done c.wait_for.result)
+    let buffer_of = g.T.AsyncBufRead.buffer_of in
+    let h = rw c.read_until.ensures at (until_waited g.T.ReadSpec.read_laws buffer_of _ _ (done c.wait_for.result)
     begun (c.wait_for.ensures, tt)) in
     let same = h.1 in
-    let lacks = LacksBy c.args.byte (vec_capacity c.args.buf.now) lent in
-    let told = told_at (ToldByUntil g.T.Tale.reads c.args.byte lacks _ _ (done c.wait_for.result)) (search rules)
+    let lacks = LacksBy c.args.byte (vec_capacity c.args.buf.now) buffer_of in
+    let told = told_at (ToldByUntil g.T.ReadSpec.reads c.args.byte lacks _ _ (done c.wait_for.result)) (search rules)
     (search rules) h.0 in
     (told.0, told.1, told.2, told.3, told.4)

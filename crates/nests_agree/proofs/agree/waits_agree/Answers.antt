@@ -1,6 +1,6 @@
 use Rattle.std.proofs.Common.{rules, ◌≡◌, refl, Some, ℕ, false}
 use Rattle.lite_base.specs.Laws.Calling.{answers_agree}
-use Rattle.lite_base.specs.declared.future.half.Half.TheVariants.{Asked}
+use Rattle.lite_base.specs.declared.future.side.Side.TheVariants.{Asked}
 use Rattle.lite_base.specs.declared.future.ready.Ready.{Ready}
 use Rattle.lite_base.specs.declared.future.yield_now.YieldNow.{YieldNow}
 use Rattle.lite_base.specs.declared.future.zip.Zip.{Zip}

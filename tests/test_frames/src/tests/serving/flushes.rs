@@ -4,7 +4,7 @@ ghost use Rattle.futures_lite.specs.Own.{Anything, anything_writes};
 use super::serving::{Twice, had_memory};
 use framed::{FramedRead, ServeError, serve};
 use futures_lite::future::BlockOn;
-use futures_lite::io::{AsyncWrite, BufReader, Takings};
+use futures_lite::io::{AsyncWrite, BufReader, WriteSpec};
 use futures_lite::{Context, Poll};
 use lite_mock::Marks;
 use std::alloc::{AllocGlobal, Global};
@@ -20,7 +20,7 @@ struct Flushes {
     kept: Vec<u8>,
 }
 
-impl Takings for Flushes {
+impl WriteSpec for Flushes {
     ghost writes = { Anything };
 
     ghost write_laws = { anything_writes };

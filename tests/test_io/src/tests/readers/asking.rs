@@ -1,7 +1,7 @@
 //! When a buffered reader asks its inner reader, and for how much.
 ghost use Rattle.futures_lite.specs.Own.{Anything, anything_reads};
 
-use futures_lite::io::{AsyncBufRead, AsyncRead, BufReader, Tale};
+use futures_lite::io::{AsyncBufRead, AsyncRead, BufReader, ReadSpec};
 use futures_lite::{Context, Poll};
 use std::alloc::AllocError;
 use std::io;
@@ -15,7 +15,7 @@ struct Asked {
     room: usize,
 }
 
-impl Tale for Asked {
+impl ReadSpec for Asked {
     ghost reads = { Anything };
 
     ghost read_laws = { anything_reads };

@@ -5,7 +5,7 @@ ghost use Rattle.futures_lite.specs.Own.{Anything, anything_reads, anything_writ
 use futures::task::{Doorbell, Solo, Source};
 use futures_lite::io::{
     self as lite, AsyncBufReadExt, AsyncRead, AsyncReadExt, AsyncSeek, AsyncSeekExt, AsyncWrite,
-    AsyncWriteExt, Budgeted, BufReader, BufWriter, SeekFrom, Takings, Tale,
+    AsyncWriteExt, Budgeted, BufReader, BufWriter, SeekFrom, WriteSpec, ReadSpec,
 };
 use futures_lite::{Context, Future, Poll, StreamExt, future};
 use std::alloc::{AllocError, AllocGlobal, Global};
@@ -18,13 +18,13 @@ use test_support::{is_woken, write};
 #[derive(Drop)]
 struct Still;
 
-impl Tale for Still {
+impl ReadSpec for Still {
     ghost reads = { Anything };
 
     ghost read_laws = { anything_reads };
 }
 
-impl Takings for Still {
+impl WriteSpec for Still {
     ghost writes = { Anything };
 
     ghost write_laws = { anything_writes };

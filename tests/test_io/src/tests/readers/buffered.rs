@@ -1,5 +1,5 @@
 use futures_lite::io::{self, AsyncBufRead, BufReader, Cursor};
-use futures_lite::laws::{answers_as_bare, counts_after_seek, keeps_order};
+use futures_lite::laws::{answers_as_cursor, counts_after_seek, keeps_order};
 use std::alloc::AllocError;
 use std::test::Fail;
 use test_support::{cursor_on, gives};
@@ -30,7 +30,7 @@ fn a_fresh_reader_answers_as_the_bare_cursor(rt: HostRuntime) -> Result<(), Fail
     let Ok(mut reader) = BufReader::with_capacity(rt.alloc(), 4, cursor) else {
         return Err(AllocError.into());
     };
-    answers_as_bare(&reader);
+    answers_as_cursor(&reader);
     assert!(rt; gives(&rt, &mut reader, 1, b"0")?);
     Ok(())
 }

@@ -4,7 +4,7 @@ use super::polls::told;
 use futures::task::{Context, Doorbell, Solo, Source};
 use futures_lite::AsyncReadExt;
 use lite_base::{OkCounted, Poll, Stream};
-use lite_io_base::{AsyncRead, Takings, Tale};
+use lite_io_base::{AsyncRead, WriteSpec, ReadSpec};
 use lite_mock::Marks;
 use lite_read::make::{bytes, read_exact, read_to_end};
 use std::io;
@@ -75,13 +75,13 @@ fn an_interrupted_read_wakes_its_task(rt: HostRuntime) -> Result<(), Fail> {
 #[derive(Drop)]
 struct Still;
 
-impl Tale for Still {
+impl ReadSpec for Still {
     ghost reads = { λ _ _ _. ⊤ };
 
     ghost read_laws = { record { rests = λ x. tt; follows = λ x y z l m h k. tt } };
 }
 
-impl Takings for Still {
+impl WriteSpec for Still {
     ghost writes = { λ _ _ _. ⊤ };
 
     ghost write_laws = { record { rests = λ x. tt; follows = λ x y z l m h k. tt } };

@@ -2,7 +2,7 @@
 ghost use Rattle.std.specs.Prelude.{⊤, []};
 
 use futures_lite::future::BlockOn;
-use futures_lite::io::{self, AsyncWrite, Takings, Tale, wait_flush, wait_write_all};
+use futures_lite::io::{self, AsyncWrite, WriteSpec, ReadSpec, wait_flush, wait_write_all};
 use futures_lite::laws::{SteadyWrite, write_both};
 use futures_lite::{Context, Poll};
 use std::alloc::Global;
@@ -35,13 +35,13 @@ impl Closable {
     }
 }
 
-impl Tale for Closable {
+impl ReadSpec for Closable {
     ghost reads = { λ _ _ _. ⊤ };
 
     ghost read_laws = { record { rests = λ x. tt; follows = λ x y z l m h k. tt } };
 }
 
-impl Takings for Closable {
+impl WriteSpec for Closable {
     ghost writes = { λ _ _ _. ⊤ };
 
     ghost write_laws = { record { rests = λ x. tt; follows = λ x y z l m h k. tt } };

@@ -17,15 +17,15 @@ fn after_an_error_it_may_be_polled_again(rt: HostRuntime) -> Result<(), Fail> {
     let mut future = fill_buf(&mut reader);
     let solo = Solo::new(&rt, Doorbell::spinning())?;
     let mut cx = solo.begin();
-    let mut lent = None;
+    let mut buffer_of = None;
     if let Poll::Ready(Err(_)) = future.poll(&mut cx) {
-        lent = match future.poll(&mut cx) {
+        buffer_of = match future.poll(&mut cx) {
             Poll::Ready(Ok(bytes)) => Some(bytes == b"ab".as_slice()),
             _ => None,
         };
     }
     cx.cancel();
-    assert_eq!(rt; lent, Some(true));
+    assert_eq!(rt; buffer_of, Some(true));
     Ok(())
 }
 

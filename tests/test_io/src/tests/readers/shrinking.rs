@@ -2,7 +2,7 @@
 ghost use Rattle.futures_lite.specs.Own.{Anything, anything_reads};
 
 use super::cursors::gives_both;
-use futures_lite::io::{AsyncRead, AsyncReadExt, Cursor, Tale};
+use futures_lite::io::{AsyncRead, AsyncReadExt, Cursor, ReadSpec};
 use futures_lite::{Context, Poll};
 use std::io;
 use std::io::IoSliceMut;
@@ -12,7 +12,7 @@ use std::test::Fail;
 #[derive(Drop)]
 struct Shrinks;
 
-impl Tale for Shrinks {
+impl ReadSpec for Shrinks {
     ghost reads = { Anything };
 
     ghost read_laws = { anything_reads };

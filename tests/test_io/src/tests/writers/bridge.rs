@@ -3,7 +3,7 @@ ghost use Rattle.test_io.specs.Bridge.{Drains, Holds};
 ghost use Rattle.test_io.specs.Laws.Bridge.{drains_laws, holds_laws};
 
 use lite_base::{Context, Poll};
-use lite_io_base::{AsyncRead, AsyncWrite, Takings, Tale};
+use lite_io_base::{AsyncRead, AsyncWrite, WriteSpec, ReadSpec};
 use std::io::{self, Read, Write};
 use std::test::Fail;
 use test_support::{finishes, gives, write};
@@ -14,13 +14,13 @@ struct Bridge<T> {
     inner: T,
 }
 
-impl<T: Read> Tale for Bridge<T> {
+impl<T: Read> ReadSpec for Bridge<T> {
     ghost reads = { Drains (λ x. T.remaining x.inner) };
 
     ghost read_laws = { drains_laws (λ x. T.remaining x.inner) };
 }
 
-impl<T: Write> Takings for Bridge<T> {
+impl<T: Write> WriteSpec for Bridge<T> {
     ghost writes = { Holds (λ x. T.contents x.inner) };
 
     ghost write_laws = { holds_laws (λ x. T.contents x.inner) };

@@ -3,7 +3,7 @@ ghost use Rattle.test_io.specs.Budget.{Within, within_counting, within_laws};
 
 use lite_base::{Context, Poll};
 use lite_bridge::AssertAsync;
-use lite_io_base::{AsyncRead, CountedRead, Tale};
+use lite_io_base::{AsyncRead, CountedRead, ReadSpec};
 use lite_read::make::read_to_end;
 use lite_write::make::{copy, write_all};
 use std::alloc::AllocError;
@@ -19,7 +19,7 @@ struct Budget<R> {
     left: usize,
 }
 
-impl<R> Tale for Budget<R> {
+impl<R> ReadSpec for Budget<R> {
     ghost reads = { Within (λ x. x.left) };
 
     ghost read_laws = { within_laws (λ x. x.left) };

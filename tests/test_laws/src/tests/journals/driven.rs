@@ -5,7 +5,7 @@ use super::pipe::Pipe;
 use futures::task::{Doorbell, Solo};
 use futures_lite::Poll;
 use futures_lite::io::{
-    Answer, AsyncWrite, Blanks, Books, Journal, JournalReadHalf, split_journalled,
+    Answer, AsyncWrite, NewCounters, CounterNames, Journal, JournalReadHalf, split_journalled,
 };
 use std::alloc::{Alloc, AllocGlobal};
 use std::marker::Brand;
@@ -58,7 +58,7 @@ fn drives_past_a_write<R, B>(
 ) -> Option<bool>
 where
     R: Wait + RandomSource + AllocGlobal,
-    B: Books,
+    B: CounterNames,
 {
     let solo = Solo::new(rt, Doorbell::spinning()).ok()?;
     let rooms = vec![in rt.alloc(); 1usize; ROOMS].ok()?;
@@ -99,13 +99,13 @@ where
     }
 }
 
-fn drive_beside_a_writer<R, B>(rt: R, journal: Journal<Pipe>, blanks: Blanks) -> Result<(), Fail>
+fn drive_beside_a_writer<R, B>(rt: R, journal: Journal<Pipe>, counters: NewCounters) -> Result<(), Fail>
 where
     R: Threads + Wait + Abort + RandomSource + AllocGlobal + Copy + Send + Sync,
-    B: Books + Send + Sync,
-    requires { blanks ≡ B.names }
+    B: CounterNames + Send + Sync,
+    requires { counters ≡ B.names }
 {
-    let split = split_journalled::<Yielding<R>, Pipe, B>(Yielding { rt }, journal, blanks);
+    let split = split_journalled::<Yielding<R>, Pipe, B>(Yielding { rt }, journal, counters);
     let Ok((mut reader, mut writer)) = split else {
         return Err(Fail::from("memory"));
     };
@@ -129,5 +129,5 @@ fn a_half_that_is_driven_lets_the_other_go_on(rt: HostRuntime) -> Result<(), Fai
     let Ok(journal) = Journal::new(rt.alloc(), Pipe::new()) else {
         return Err(Fail::from("memory"));
     };
-    drive_beside_a_writer::<HostRuntime, Brand>(rt, journal, Blanks::new())
+    drive_beside_a_writer::<HostRuntime, Brand>(rt, journal, NewCounters::new())
 }

@@ -3,7 +3,7 @@ ghost use Rattle.std.specs.Prelude.{◌≡◌};
 use super::pipe::Pipe;
 use futures::task::{Doorbell, Solo};
 use futures_lite::Poll;
-use futures_lite::io::{AsyncRead, AsyncWrite, Blanks, Books, Journal, history, split_journalled};
+use futures_lite::io::{AsyncRead, AsyncWrite, NewCounters, CounterNames, Journal, history, split_journalled};
 use std::alloc::AllocGlobal;
 use std::marker::Brand;
 use std::process::Abort;
@@ -61,13 +61,13 @@ where
     false
 }
 
-fn through_the_pipe<R, B>(rt: R, journal: Journal<Pipe>, blanks: Blanks) -> Result<(), Fail>
+fn through_the_pipe<R, B>(rt: R, journal: Journal<Pipe>, counters: NewCounters) -> Result<(), Fail>
 where
     R: Threads + Wait + Abort + RandomSource + AllocGlobal + Copy + Send + Sync,
-    B: Books + Send + Sync,
-    requires { blanks ≡ B.names }
+    B: CounterNames + Send + Sync,
+    requires { counters ≡ B.names }
 {
-    let Ok((mut reader, mut writer)) = split_journalled::<R, Pipe, B>(rt, journal, blanks) else {
+    let Ok((mut reader, mut writer)) = split_journalled::<R, Pipe, B>(rt, journal, counters) else {
         return Err(Fail::from("memory"));
     };
     let barrier = Barrier::new(2);
@@ -102,5 +102,5 @@ fn neither_half_waits_until_the_other_is_done(rt: HostRuntime) -> Result<(), Fai
     let Ok(journal) = Journal::new(rt.alloc(), Pipe::new()) else {
         return Err(Fail::from("memory"));
     };
-    through_the_pipe::<HostRuntime, Brand>(rt, journal, Blanks::new())
+    through_the_pipe::<HostRuntime, Brand>(rt, journal, NewCounters::new())
 }

@@ -2,7 +2,7 @@
 ghost use Rattle.std.specs.Prelude.{◌≡◌};
 
 use futures::task::{Doorbell, Solo};
-use futures_lite::io::{Answer, Blanks, Books, Call, Cursor, Journal, history, split_journalled};
+use futures_lite::io::{Answer, NewCounters, CounterNames, Call, Cursor, Journal, history, split_journalled};
 use std::alloc::{AllocGlobal, Global};
 use std::marker::Brand;
 use std::process::Abort;
@@ -29,14 +29,14 @@ fn assert_told<R, B>(
     rt: R,
     journal: Journal<VecCursor>,
     answers: &[Answer],
-    blanks: Blanks,
+    counters: NewCounters,
 ) -> Result<(), Fail>
 where
     R: Wait + Abort + RandomSource + AllocGlobal + Copy,
-    B: Books,
-    requires { blanks ≡ B.names }
+    B: CounterNames,
+    requires { counters ≡ B.names }
 {
-    let Ok((mut reader, mut writer)) = split_journalled::<R, VecCursor, B>(rt, journal, blanks)
+    let Ok((mut reader, mut writer)) = split_journalled::<R, VecCursor, B>(rt, journal, counters)
     else {
         return Err(Fail::from("memory"));
     };
@@ -67,5 +67,5 @@ fn the_halves_of_a_driven_journal_tell_its_calls(rt: HostRuntime) -> Result<(), 
     ];
     assert_eq!(rt; answers.as_slice(), expected.as_slice());
     assert!(rt; are(journal.entries(), &calls_made, &expected));
-    assert_told::<HostRuntime, Brand>(rt, journal, &expected, Blanks::new())
+    assert_told::<HostRuntime, Brand>(rt, journal, &expected, NewCounters::new())
 }

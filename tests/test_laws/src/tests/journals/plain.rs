@@ -2,7 +2,7 @@
 ghost use Rattle.std.specs.Prelude.{⊤};
 
 use futures::task::{Doorbell, Solo};
-use futures_lite::io::{self, AsyncWrite, Takings};
+use futures_lite::io::{self, AsyncWrite, WriteSpec};
 use futures_lite::{Context, Poll};
 use std::alloc::AllocError;
 use std::sync::atomic::AtomicU64;
@@ -17,7 +17,7 @@ struct Counting<'a> {
     closes: &'a AtomicU64,
 }
 
-impl Takings for Counting<'_> {
+impl WriteSpec for Counting<'_> {
     ghost writes = { λ _ _ _. ⊤ };
 
     ghost write_laws = { record { rests = λ x. tt; follows = λ x y z l m h k. tt } };

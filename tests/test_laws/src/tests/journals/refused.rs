@@ -4,8 +4,8 @@ ghost use Rattle.lite_io_base.specs.Laws.Runs.{idle_laws};
 
 use futures_lite::Poll;
 use futures_lite::io::{
-    self, AsyncRead, AsyncWrite, Blanks, Books, Call, Cursor, ErrorKind, Journal, JournalReadHalf,
-    JournalWriteHalf, Takings, Tale, history, split_journalled,
+    self, AsyncRead, AsyncWrite, NewCounters, CounterNames, Call, Cursor, ErrorKind, Journal, JournalReadHalf,
+    JournalWriteHalf, WriteSpec, ReadSpec, history, split_journalled,
 };
 use std::alloc::{AllocError, AllocGlobal};
 use std::marker::Brand;
@@ -56,7 +56,7 @@ fn move_at_last<R, B>(
 ) -> Result<(), Fail>
 where
     R: Wait + Abort + RandomSource + AllocGlobal + Copy,
-    B: Books,
+    B: CounterNames,
 {
     if !finds_memory_to_read(rt, reader)? {
         assert_eq!(rt; (reader.calls(), reader.bytes()), (0, 0));
@@ -76,13 +76,13 @@ where
     Ok(())
 }
 
-fn refused_entries<R, B>(rt: R, journal: Journal<VecCursor>, blanks: Blanks) -> Result<(), Fail>
+fn refused_entries<R, B>(rt: R, journal: Journal<VecCursor>, counters: NewCounters) -> Result<(), Fail>
 where
     R: Wait + Abort + RandomSource + AllocGlobal + Copy,
-    B: Books,
-    requires { blanks ≡ B.names }
+    B: CounterNames,
+    requires { counters ≡ B.names }
 {
-    let Ok((mut reader, mut writer)) = split_journalled::<R, VecCursor, B>(rt, journal, blanks)
+    let Ok((mut reader, mut writer)) = split_journalled::<R, VecCursor, B>(rt, journal, counters)
     else {
         return Err(Fail::from("memory"));
     };
@@ -92,21 +92,21 @@ where
 #[test]
 fn a_refused_entry_of_a_half_changes_nothing(rt: HostRuntime) -> Result<(), Fail> {
     let journal = journal_on(rt.alloc(), b"xy")?;
-    refused_entries::<HostRuntime, Brand>(rt, journal, Blanks::new())
+    refused_entries::<HostRuntime, Brand>(rt, journal, NewCounters::new())
 }
 
 /// The journal that a refused split hands back.
 fn handed_back<R, B>(
     rt: R,
     journal: Journal<VecCursor>,
-    blanks: Blanks,
+    counters: NewCounters,
 ) -> Option<Journal<VecCursor>>
 where
     R: Wait + AllocGlobal + Clone + Drop,
-    B: Books,
-    requires { blanks ≡ B.names }
+    B: CounterNames,
+    requires { counters ≡ B.names }
 {
-    match split_journalled::<R, VecCursor, B>(rt, journal, blanks) {
+    match split_journalled::<R, VecCursor, B>(rt, journal, counters) {
         Ok(_) => None,
         Err(back) => Some(back),
     }
@@ -116,7 +116,7 @@ where
 fn a_refused_split_hands_the_journal_back(rt: HostRuntime) -> Result<(), Fail> {
     let mut journal = journal_on(rt.alloc(), b"xy")?;
     assert!(rt; reads_byte(&rt, &mut journal, b'x')?);
-    let back = handed_back::<Refusing<HostRuntime>, Brand>(Refusing { rt }, journal, Blanks::new());
+    let back = handed_back::<Refusing<HostRuntime>, Brand>(Refusing { rt }, journal, NewCounters::new());
     let Some(back) = back else {
         return Err(Fail::from("nothing was refused"));
     };
@@ -157,13 +157,13 @@ impl Clone for Single {
     }
 }
 
-impl Tale for Single {
+impl ReadSpec for Single {
     ghost reads = { Idle };
 
     ghost read_laws = { idle_laws };
 }
 
-impl Takings for Single {
+impl WriteSpec for Single {
     ghost writes = { Idle };
 
     ghost write_laws = { idle_laws };

@@ -1,7 +1,7 @@
 //! What journals and halves show of themselves.
 ghost use Rattle.std.specs.Prelude.{◌≡◌};
 
-use futures_lite::io::{self, Blanks, Books, Cursor, Journal, split_journalled};
+use futures_lite::io::{self, NewCounters, CounterNames, Cursor, Journal, split_journalled};
 use std::alloc::{AllocError, AllocGlobal};
 use std::marker::Brand;
 use std::process::Abort;
@@ -46,13 +46,13 @@ fn a_journal_shows_its_entries(rt: HostRuntime) -> Result<(), Fail> {
 }
 
 /// Asserts how both halves of a journal of one read are shown.
-fn halves_show<R, B>(rt: R, journal: Journal<Cursor<Vec<u8>>>, blanks: Blanks) -> Result<(), Fail>
+fn halves_show<R, B>(rt: R, journal: Journal<Cursor<Vec<u8>>>, counters: NewCounters) -> Result<(), Fail>
 where
     R: Wait + Abort + AllocGlobal + Copy,
-    B: Books,
-    requires { blanks ≡ B.names }
+    B: CounterNames,
+    requires { counters ≡ B.names }
 {
-    let halves = split_journalled::<R, Cursor<Vec<u8>>, B>(rt, journal, blanks);
+    let halves = split_journalled::<R, Cursor<Vec<u8>>, B>(rt, journal, counters);
     let Ok((reader, writer)) = halves else {
         return Err(AllocError.into());
     };
@@ -65,5 +65,5 @@ where
 fn halves_of_a_journal_show_how_often_they_were_called(rt: HostRuntime) -> Result<(), Fail> {
     let mut journal = journal_on(rt.alloc(), &[1, 2])?;
     assert!(rt; reads_byte(&rt, &mut journal, 1)?);
-    halves_show::<HostRuntime, Brand>(rt, journal, Blanks::new())
+    halves_show::<HostRuntime, Brand>(rt, journal, NewCounters::new())
 }

@@ -3,7 +3,7 @@ ghost use Rattle.lite_halves.specs.Counts.{AllWrites};
 
 use futures::task::{Doorbell, Solo};
 use futures_lite::io::{
-    Answer, Blanks, Books, Call, Cursor, Entry, Journal, JournalReadHalf, JournalWriteHalf,
+    Answer, NewCounters, CounterNames, Call, Cursor, Entry, Journal, JournalReadHalf, JournalWriteHalf,
     history, split_journalled,
 };
 use std::alloc::{AllocError, AllocGlobal, Global};
@@ -38,7 +38,7 @@ type Reading<R, B> = JournalReadHalf<R, VecCursor, B>;
 type Writing<R, B> = JournalWriteHalf<R, VecCursor, B>;
 
 /// A round of reads of one byte, in a task of its own. `None`: memory was refused.
-fn read_round<R: Wait + RandomSource + AllocGlobal + Drop, B: Books>(
+fn read_round<R: Wait + RandomSource + AllocGlobal + Drop, B: CounterNames>(
     rt: R,
     mut reader: Reading<R, B>,
     mut out: Vec<Answer>,
@@ -53,7 +53,7 @@ fn read_round<R: Wait + RandomSource + AllocGlobal + Drop, B: Books>(
 }
 
 /// A round of writes, in a task of its own. `None`: memory was refused.
-fn write_round<R: Wait + RandomSource + AllocGlobal + Drop, B: Books>(
+fn write_round<R: Wait + RandomSource + AllocGlobal + Drop, B: CounterNames>(
     rt: R,
     mut writer: Writing<R, B>,
     mut out: Vec<Answer>,
@@ -132,14 +132,14 @@ fn asked_in_a_thread<R, B>(
 ) -> Result<Journal<VecCursor>, AllocError>
 where
     R: Threads + Wait + Send + Sync,
-    B: Books + Send + Sync,
+    B: CounterNames + Send + Sync,
 {
     thread::join(rt, || history(reader, writer), || ()).0
 }
 
 /// The two halves, and what each was told.
 #[derive(Drop)]
-struct Halves<R, B: Books> {
+struct Halves<R, B: CounterNames> {
     reader: Reading<R, B>,
     writer: Writing<R, B>,
     reads: Vec<Answer>,
@@ -150,7 +150,7 @@ struct Halves<R, B: Books> {
 fn round<R, B>(rt: R, halves: Halves<R, B>) -> Option<Halves<R, B>>
 where
     R: Threads + Wait + RandomSource + AllocGlobal + Copy + Send + Sync,
-    B: Books + Send + Sync,
+    B: CounterNames + Send + Sync,
 {
     let Halves {
         reader,
@@ -181,7 +181,7 @@ fn told_after<R, B>(
 ) -> Result<Journal<VecCursor>, Fail>
 where
     R: Threads + Wait + Abort + AllocGlobal + Copy + Send + Sync,
-    B: Books + Send + Sync,
+    B: CounterNames + Send + Sync,
 {
     let told = asked_in_a_thread(&rt, &mut halves.reader, &mut halves.writer)?;
     assert_eq!(rt;
@@ -193,13 +193,13 @@ where
     Ok(told)
 }
 
-fn two_rounds<R, B>(rt: R, journal: Journal<VecCursor>, blanks: Blanks) -> Result<(), Fail>
+fn two_rounds<R, B>(rt: R, journal: Journal<VecCursor>, counters: NewCounters) -> Result<(), Fail>
 where
     R: Threads + Wait + Abort + RandomSource + AllocGlobal + Copy + Send + Sync,
-    B: Books + Send + Sync,
-    requires { blanks ≡ B.names }
+    B: CounterNames + Send + Sync,
+    requires { counters ≡ B.names }
 {
-    let Ok((reader, writer)) = split_journalled::<R, VecCursor, B>(rt, journal, blanks) else {
+    let Ok((reader, writer)) = split_journalled::<R, VecCursor, B>(rt, journal, counters) else {
         return Err(Fail::from("memory"));
     };
     let (reads, wrote) = (Vec::new(rt.alloc()), Vec::new(rt.alloc()));
@@ -224,5 +224,5 @@ fn two_threads_leave_one_history(rt: HostRuntime) -> Result<(), Fail> {
         bytes.push((i % 256) as u8)?;
     }
     let journal = journal_on(rt.alloc(), &bytes)?;
-    two_rounds::<HostRuntime, Brand>(rt, journal, Blanks::new())
+    two_rounds::<HostRuntime, Brand>(rt, journal, NewCounters::new())
 }

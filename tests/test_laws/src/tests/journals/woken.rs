@@ -3,7 +3,7 @@
 ghost use Rattle.std.specs.Prelude.{◌≡◌, ⊤};
 
 use futures_lite::future::block_on;
-use futures_lite::io::{self, AsyncRead, Blanks, Books, Journal, Takings, Tale, split_journalled};
+use futures_lite::io::{self, AsyncRead, NewCounters, CounterNames, Journal, WriteSpec, ReadSpec, split_journalled};
 use futures_lite::{AsyncReadExt, Context, Poll};
 use std::alloc::{AllocError, AllocGlobal};
 use std::marker::Brand;
@@ -17,13 +17,13 @@ struct Paced {
     has_waited: bool,
 }
 
-impl Tale for Paced {
+impl ReadSpec for Paced {
     ghost reads = { λ _ _ _. ⊤ };
 
     ghost read_laws = { record { rests = λ x. tt; follows = λ x y z l m h k. tt } };
 }
 
-impl Takings for Paced {
+impl WriteSpec for Paced {
     ghost writes = { λ _ _ _. ⊤ };
 
     ghost write_laws = { record { rests = λ x. tt; follows = λ x y z l m h k. tt } };
@@ -54,16 +54,16 @@ fn a_wait_for_a_half_goes_on(rt: HostRuntime) -> Result<(), Fail> {
     Ok(())
 }
 
-fn waits_for_a_half<R, B>(rt: R, blanks: Blanks) -> Result<[u8; 3], Fail>
+fn waits_for_a_half<R, B>(rt: R, counters: NewCounters) -> Result<[u8; 3], Fail>
 where
     R: Wait + RandomSource + AllocGlobal + Copy,
-    B: Books,
-    requires { blanks ≡ B.names }
+    B: CounterNames,
+    requires { counters ≡ B.names }
 {
     let Ok(journal) = Journal::new(rt.alloc(), Paced { has_waited: false }) else {
         return Err(AllocError.into());
     };
-    let Ok((mut reader, _writer)) = split_journalled::<R, Paced, B>(rt, journal, blanks) else {
+    let Ok((mut reader, _writer)) = split_journalled::<R, Paced, B>(rt, journal, counters) else {
         return Err(AllocError.into());
     };
     let mut room = [0; 3];
@@ -73,7 +73,7 @@ where
 
 #[test]
 fn a_wait_for_a_journalled_half_goes_on(rt: HostRuntime) -> Result<(), Fail> {
-    let room = waits_for_a_half::<HostRuntime, Brand>(rt, Blanks::new())?;
+    let room = waits_for_a_half::<HostRuntime, Brand>(rt, NewCounters::new())?;
     assert_eq!(rt; room, [7; 3]);
     Ok(())
 }

@@ -3,7 +3,7 @@ ghost use Rattle.futures_lite.specs.Own.{Anything, anything_reads};
 
 use super::bell::Bell;
 use futures_lite::future::{self, BlockOn, Future};
-use futures_lite::io::{self as lite, AsyncRead, Tale};
+use futures_lite::io::{self as lite, AsyncRead, ReadSpec};
 use futures_lite::{Context, Poll, StreamExt, stream};
 use std::io::{self, Read};
 use std::sync::Wait;
@@ -96,7 +96,7 @@ pub(super) struct UntilBell {
     pub(super) bell: Bell,
 }
 
-impl Tale for UntilBell {
+impl ReadSpec for UntilBell {
     ghost reads = { Anything };
 
     ghost read_laws = { anything_reads };

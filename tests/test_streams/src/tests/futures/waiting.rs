@@ -87,8 +87,8 @@ fn one_sleeper_waits_for_many_futures(rt: HostRuntime) -> Result<(), Fail> {
     for i in 0..3u8 {
         assert_eq!(rt; sleeper.block_on(&rt, future::ready(i))?, i);
         sleeper.block_on(&rt, future::yield_now())?;
-        let mut lent = future::ready(i);
-        assert_eq!(rt; sleeper.wait_for(&rt, &mut lent)?, i);
+        let mut buffer_of = future::ready(i);
+        assert_eq!(rt; sleeper.wait_for(&rt, &mut buffer_of)?, i);
     }
     assert!(rt; BlockOn::new(&Refusing { rt }).is_err());
     Ok(())

@@ -16,11 +16,11 @@ fn next(rt: &HostRuntime, script: &mut Script<u8>) -> io::Result<Poll<Option<u8>
 #[test]
 fn take_polls_no_more_after_its_last_item(rt: HostRuntime) -> Result<(), Fail> {
     let mut script = stream::script(vec![in rt.alloc(); item(1u8), item(2), item(3)]?);
-    let lent = &mut script;
-    let got = answers(&rt, &mut lent.take(0), 1)?;
+    let buffer_of = &mut script;
+    let got = answers(&rt, &mut buffer_of.take(0), 1)?;
     assert_eq!(rt; got.as_slice(), [Poll::Ready(None)].as_slice());
-    let lent = &mut script;
-    let got = answers(&rt, &mut lent.take(2), 4)?;
+    let buffer_of = &mut script;
+    let got = answers(&rt, &mut buffer_of.take(2), 4)?;
     let expected = [item(1), item(2), Poll::Ready(None), Poll::Ready(None)];
     assert_eq!(rt; got.as_slice(), expected.as_slice());
     assert_eq!(rt; next(&rt, &mut script)?, item(3));
@@ -30,8 +30,8 @@ fn take_polls_no_more_after_its_last_item(rt: HostRuntime) -> Result<(), Fail> {
 #[test]
 fn fuse_polls_no_more_after_an_end(rt: HostRuntime) -> Result<(), Fail> {
     let mut script = stream::script(vec![in rt.alloc(); item(1u8), Poll::Ready(None), item(2)]?);
-    let lent = &mut script;
-    let got = answers(&rt, &mut lent.fuse(), 3)?;
+    let buffer_of = &mut script;
+    let got = answers(&rt, &mut buffer_of.fuse(), 3)?;
     let expected = [item(1), Poll::Ready(None), Poll::Ready(None)];
     assert_eq!(rt; got.as_slice(), expected.as_slice());
     assert_eq!(rt; next(&rt, &mut script)?, item(2));
@@ -42,8 +42,8 @@ fn fuse_polls_no_more_after_an_end(rt: HostRuntime) -> Result<(), Fail> {
 fn chain_polls_neither_after_its_end(rt: HostRuntime) -> Result<(), Fail> {
     let mut first = stream::script(vec![in rt.alloc(); item(1u8), Poll::Ready(None), item(9)]?);
     let mut second = stream::script(vec![in rt.alloc(); item(2u8), Poll::Ready(None), item(8)]?);
-    let (lent, other) = (&mut first, &mut second);
-    let got = answers(&rt, &mut lent.chain(other), 4)?;
+    let (buffer_of, other) = (&mut first, &mut second);
+    let got = answers(&rt, &mut buffer_of.chain(other), 4)?;
     let expected = [item(1), item(2), Poll::Ready(None), Poll::Ready(None)];
     assert_eq!(rt; got.as_slice(), expected.as_slice());
     assert_eq!(rt; next(&rt, &mut first)?, item(9));
@@ -88,8 +88,8 @@ fn cloned_asks_again_for_a_refused_clone_without_polling(rt: HostRuntime) -> Res
     };
     let list = vec![in rt.alloc(); item(&text), Poll::Ready(None), item(&text)]?;
     let mut script = stream::script(list);
-    let lent = &mut script;
-    let mut texts = lent.cloned().map(|clone: Result<Text, AllocError>| match &clone {
+    let buffer_of = &mut script;
+    let mut texts = buffer_of.cloned().map(|clone: Result<Text, AllocError>| match &clone {
         Ok(copy) => Some(copy.text),
         Err(_) => None,
     });

@@ -5,5 +5,5 @@ use Rattle.framed.proofs.framed_read.FramedRead.fill.Goals as goal
 
 pub invariant_of-self : goal.invariant_of-self
 invariant_of-self g c =
-    let none : g.T.AsyncBufRead.lent c.self.inside.reader ≡ [] = search rules in
+    let none : g.T.AsyncBufRead.buffer_of c.self.inside.reader ≡ [] = search rules in
     still_in_step g.D.Decoder.gives _ c.self.inside.stage c.self.inside.buffer.items _ _ none c.self.invariant

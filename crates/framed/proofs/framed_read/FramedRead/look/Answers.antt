@@ -35,6 +35,6 @@ returns-in-Err-decode g c =
     let was : phase_of c.self.inside.stage ≡ reading = search rules in
     let is : c.decode.result ≡ Err c.in-Err-decode.e = search rules in
     let found = look_refused g.D.Decoder.gives _ (held_at c.self.inside.stage c.self.inside.buffer.items)
-    (g.T.AsyncBufRead.lent c.self.inside.reader) _ _ _ _ (search rules) (rw is at c.decode.ensures) in
+    (g.T.AsyncBufRead.buffer_of c.self.inside.reader) _ _ _ _ (search rules) (rw is at c.decode.ensures) in
     let taken = rw (c.buffer-shown.ensures, whole_taken _) at c.consume-in-Err-decode.ensures.ran in
     rw (← c.self.view_is) (inr (was, _, taken, ([], sym (append-nil _)), inl (refl, (refl, found))))

@@ -5,4 +5,4 @@ use Rattle.framed.proofs.framed_read.FramedRead.new.Goals as goal
 pub invariant_of-result : goal.invariant_of-result
 invariant_of-result g c =
     let empty : c.new.result.items ≡ [] = search rules in
-    (g.T.AsyncBufRead.lent c.args.reader, rw empty refl)
+    (g.T.AsyncBufRead.buffer_of c.args.reader, rw empty refl)

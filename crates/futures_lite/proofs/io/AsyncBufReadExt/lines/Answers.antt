@@ -8,5 +8,5 @@ returns-clause-read g c knows =
     let e = c.lines.ensures in
     rw (← e.reader)
     (pieces_listed 10 _ _ without_return string_bytes (λ xs x h. h)
-    (λ xs x h. h) lines_over _ g.Self.Tale.reads g.Self.Tale.known _ refl
+    (λ xs x h. h) lines_over _ g.Self.ReadSpec.reads g.Self.ReadSpec.known _ refl
     e.empty (rw e.reader knows))

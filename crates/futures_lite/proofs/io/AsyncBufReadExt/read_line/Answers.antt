@@ -8,7 +8,7 @@ pub returns-clause-line : goal.returns-clause-line
 returns-clause-line g c knows =
     let e = c.read_line.ensures in
     rw (← e.text, ← e.reader)
-    (when_less (ReadsLineByRoom g.Self.AsyncBufRead.lent g.Self.Tale.reads)
-    (ReadsLine (λ read. ⊤) g.Self.Tale.reads) _ (λ y l. text_any (line_room g.Self.AsyncBufRead.lent) _ y l)
-    (text_left line_over _ g.Self.Tale.reads g.Self.Tale.known _ _ (rw e.reader knows)
+    (when_less (ReadsLineByRoom g.Self.AsyncBufRead.buffer_of g.Self.ReadSpec.reads)
+    (ReadsLine (λ read. ⊤) g.Self.ReadSpec.reads) _ (λ y l. text_any (line_room g.Self.AsyncBufRead.buffer_of) _ y l)
+    (text_left line_over _ g.Self.ReadSpec.reads g.Self.ReadSpec.known _ _ (rw e.reader knows)
     (λ y v t. read_text_line v _ _ _ _ t e.empty)))

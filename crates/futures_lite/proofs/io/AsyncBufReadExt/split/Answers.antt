@@ -6,5 +6,5 @@ returns-clause-read g c knows =
     let e = c.split.ensures in
     rw (← e.reader, ← e.byte)
     (pieces_listed _ _ _ (λ xs. xs) (λ v. v.items) (λ xs x h. h)
-    (λ xs x h. h) split_over _ g.Self.Tale.reads g.Self.Tale.known _ refl
+    (λ xs x h. h) split_over _ g.Self.ReadSpec.reads g.Self.ReadSpec.known _ refl
     e.empty (rw e.reader knows))

@@ -8,7 +8,7 @@ use Rattle.futures_lite.proofs.io.AsyncReadExt.read_to_end.Goals as goal
 pub returns-clause-all : goal.returns-clause-all
 returns-clause-all g c knows =
     rw c.read_to_end.ensures
-    (when_less (ReadsToEndByRoom g.Self.Tale.reads)
-    (ReadsToEnd ⊤ g.Self.Tale.reads) _ (λ y l. to_end_any _ y l)
-    (gathered_left _ _ _ _ g.Self.Tale.reads g.Self.Tale.known _ _ _ knows (refl, refl)
+    (when_less (ReadsToEndByRoom g.Self.ReadSpec.reads)
+    (ReadsToEnd ⊤ g.Self.ReadSpec.reads) _ (λ y l. to_end_any _ y l)
+    (gathered_left _ _ _ _ g.Self.ReadSpec.reads g.Self.ReadSpec.known _ _ _ knows (refl, refl)
     (λ y s. rw (s.buf, s.reader) (refl, refl)) (λ y v s t. all_read v _ _ _ _ t)))

@@ -8,7 +8,7 @@ pub returns-clause-all : goal.returns-clause-all
 returns-clause-all g c knows =
     let e = c.read_to_string.ensures in
     rw (← e.text, ← e.reader)
-    (when_less (ReadsStringByRoom g.Self.Tale.reads)
-    (ReadsToString (λ read. ⊤) g.Self.Tale.reads) _ (λ y l. text_any string_room _ y l)
-    (text_left all_over _ g.Self.Tale.reads g.Self.Tale.known _ _ (rw e.reader knows)
+    (when_less (ReadsStringByRoom g.Self.ReadSpec.reads)
+    (ReadsToString (λ read. ⊤) g.Self.ReadSpec.reads) _ (λ y l. text_any string_room _ y l)
+    (text_left all_over _ g.Self.ReadSpec.reads g.Self.ReadSpec.known _ _ (rw e.reader knows)
     (λ y v t. all_read_text v _ _ _ _ t e.empty)))

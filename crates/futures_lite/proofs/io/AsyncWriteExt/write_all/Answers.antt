@@ -3,7 +3,7 @@ use Rattle.futures_lite.proofs.io.AsyncWriteExt.write_all.Goals as goal
 
 pub returns-clause-all : goal.returns-clause-all
 returns-clause-all g c stores =
-    rw c.write_all.ensures (written_left g.Self.Takings.writes g.Self.Takings.stored _ stores)
+    rw c.write_all.ensures (written_left g.Self.WriteSpec.writes g.Self.WriteSpec.stored _ stores)
 
 pub returns-clause-accepted : goal.returns-clause-accepted
-returns-clause-accepted g c accepts = rw c.write_all.ensures (accepted_left g.Self.Takings.writes _ accepts)
+returns-clause-accepted g c accepts = rw c.write_all.ensures (accepted_left g.Self.WriteSpec.writes _ accepts)

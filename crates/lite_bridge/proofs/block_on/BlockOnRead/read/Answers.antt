@@ -15,5 +15,5 @@ returns-clause-bound g c =
 pub returns-clause-ran : goal.returns-clause-ran
 returns-clause-ran g c =
     let name = buf_stays _ _ _ c.wait_for.ensures.gave ∙ ap (λ t. t.buf.ghost_name) c.read.ensures in
-    let ran = read_blocks g.T.Tale.read_laws _ _ _ c.wait_for.ensures.gave in
+    let ran = read_blocks g.T.ReadSpec.read_laws _ _ _ c.wait_for.ensures.gave in
     search rules

@@ -9,4 +9,4 @@ pub returns-clause-bound : goal.returns-clause-bound
 returns-clause-bound g c = rw c.write.ensures at (write_within _ _ _ c.wait_for.ensures.gave)
 
 pub returns-clause-ran : goal.returns-clause-ran
-returns-clause-ran g c = rw c.write.ensures at (write_blocks g.T.Takings.write_laws _ _ _ c.wait_for.ensures.gave)
+returns-clause-ran g c = rw c.write.ensures at (write_blocks g.T.WriteSpec.write_laws _ _ _ c.wait_for.ensures.gave)

@@ -1,5 +1,5 @@
 use Rattle.std.specs.Prelude.{◌≡◌, ◌≤◌, ◌<◌, ◌-◌, Ok, length, take, drop}
-use Rattle.lite_buffered.specs.Uses.{rules, arith, length-take-le, subst, common_steps, Ready, read_marks_room, moved}
+use Rattle.lite_buffered.specs.Uses.{rules, arith, length-take-le, subst, common_steps, Ready, read_marks_room, moved_marks}
 use Rattle.lite_buffered.specs.Budgeted.{PacesMarks}
 use Rattle.lite_buffered.proofs.Pacing.{paced_moved}
 use Rattle.lite_buffered.proofs.budgeted.BudgetedAsyncRead.poll_read.Goals.{in-Pending, in-Ready-Err, in-Ready-Ok}
@@ -18,7 +18,7 @@ returns-clause-ran g c = elim c.match-polled.branch [
       let some : 0 < length buf = grind (arith, common_steps) in
       let within : n ≤ left = grind (arith, common_steps) in
       let len : length (take n buf) ≡ n = length-take-le n buf fits in
-      let marks = moved buf (take n buf) in
+      let marks = moved_marks buf (take n buf) in
       rw (got, w.self-is, read_marks_room (Ready (Ok n)) buf more some fits)
       (record {
         came = marks;

@@ -6,5 +6,5 @@ use Rattle.lite_buffered.proofs.buf_writer.BufWriterAsyncWrite.poll_flush.Goals 
 pub returns-in-Ok-clause-ran : goal.returns-in-Ok-clause-ran
 returns-in-Ok-clause-ran g c =
     let got : c.flush_buf.result ≡ Ready (Ok c.in-Ok.field-0) = search rules in
-    then_done g.W.Takings.writes g.W.Takings.write_laws WriteMark.flushed (λ n. (refl, refl, refl)) _ _ _
+    then_done g.W.WriteSpec.writes g.W.WriteSpec.write_laws WriteMark.flushed (λ n. (refl, refl, refl)) _ _ _
     c.poll_flush.result (rw got at c.flush_buf.ensures.ran) c.poll_flush.ensures.ran refl refl

@@ -9,19 +9,19 @@ use Rattle.lite_buffered.proofs.buf_writer.BufWriterAsyncWrite.poll_write.Goals 
 pub returns-clause-ran : goal.returns-clause-ran
 returns-clause-ran g c =
     let got : c.make_room.result ≡ Pending = search rules in
-    room_waits g.W.Takings.writes c.args.self.now c.make_room.new.self _ (rw got at c.make_room.ensures.ran)
+    room_waits g.W.WriteSpec.writes c.args.self.now c.make_room.new.self _ (rw got at c.make_room.ensures.ran)
 
 pub returns-in-Err-clause-ran : goal.returns-in-Err-clause-ran
 returns-in-Err-clause-ran g c =
     let got : c.make_room.result ≡ Ready (Err c.in-Err.e) = search rules in
-    room_fails g.W.Takings.writes c.args.self.now c.make_room.new.self _ (error_kind c.in-Err.e)
+    room_fails g.W.WriteSpec.writes c.args.self.now c.make_room.new.self _ (error_kind c.in-Err.e)
     (rw got at c.make_room.ensures.ran)
 
 pub returns-then-buf-len-clause-ran : goal.returns-then-buf-len-clause-ran
 returns-then-buf-len-clause-ran g c =
     let got : c.make_room.result ≡ Ready (Ok c.in-Ok.field-0) = search rules in
     let ran = rw got at c.make_room.ensures.ran in
-    room_then_past g.W.Takings.writes g.W.Takings.write_laws c.args.self.now c.make_room.new.self _
+    room_then_past g.W.WriteSpec.writes g.W.WriteSpec.write_laws c.args.self.now c.make_room.new.self _
     c.args.buf.now c.poll_write.result ran (search rules) c.poll_write.ensures.ran refl refl
 
 pub returns-2-clause-ran : goal.returns-2-clause-ran
@@ -29,33 +29,33 @@ returns-2-clause-ran g c =
     let got : c.make_room.result ≡ Ready (Ok c.in-Ok.field-0) = search rules in
     let ran = rw got at c.make_room.ensures.ran in
     let e = c.hold.ensures in
-    room_then_hold g.W.Takings.writes g.W.Takings.write_laws c.args.self.now c.make_room.new.self c.hold.new.self
+    room_then_hold g.W.WriteSpec.writes g.W.WriteSpec.write_laws c.args.self.now c.make_room.new.self c.hold.new.self
     c.args.buf.now ran e.inner e.capacity e.held
 
 pub returns-clause-passes : goal.returns-clause-passes
 returns-clause-passes g c long =
     let got : c.make_room.result ≡ Pending = search rules in
-    stops_waiting g.W.Takings.writes c.args.self.now c.make_room.new.self _ c.args.buf.now
+    stops_waiting g.W.WriteSpec.writes c.args.self.now c.make_room.new.self _ c.args.buf.now
     (rw got at c.make_room.ensures.ran)
 
 pub returns-in-Err-clause-passes : goal.returns-in-Err-clause-passes
 returns-in-Err-clause-passes g c long =
     let got : c.make_room.result ≡ Ready (Err c.in-Err.e) = search rules in
-    stops_failing g.W.Takings.writes c.args.self.now c.make_room.new.self _ c.args.buf.now c.in-Err.e
+    stops_failing g.W.WriteSpec.writes c.args.self.now c.make_room.new.self _ c.args.buf.now c.in-Err.e
     (rw got at c.make_room.ensures.ran)
 
 pub returns-then-buf-len-clause-passes : goal.returns-then-buf-len-clause-passes
 returns-then-buf-len-clause-passes g c long =
     let got : c.make_room.result ≡ Ready (Ok c.in-Ok.field-0) = search rules in
     let ran = rw got at c.make_room.ensures.ran in
-    passed_on g.W.Takings.writes g.W.Takings.write_laws c.args.self.now c.make_room.new.self _
+    passed_on g.W.WriteSpec.writes g.W.WriteSpec.write_laws c.args.self.now c.make_room.new.self _
     c.args.buf.now c.poll_write.result ran (search rules) c.poll_write.ensures.ran refl
 
 pub returns-2-clause-passes : goal.returns-2-clause-passes
 returns-2-clause-passes g c long =
     let small : length c.args.buf.now < writer_capacity c.make_room.new.self = search rules in
     let kept : writer_capacity c.make_room.new.self ≡ writer_capacity c.args.self.now =
-    room_capacity g.W.Takings.writes c.args.self.now c.make_room.new.self _ _ c.make_room.ensures.ran in
+    room_capacity g.W.WriteSpec.writes c.args.self.now c.make_room.new.self _ _ c.make_room.ensures.ran in
     absurd (omega (arith, kept, small, long))
 
 pub returns-clause-shown : goal.returns-clause-shown
@@ -84,7 +84,7 @@ returns-2-clause-shown g c none =
     let got : c.make_room.result ≡ Ready (Ok c.in-Ok.field-0) = search rules in
     let small : length c.args.buf.now < writer_capacity c.make_room.new.self = search rules in
     let kept : writer_capacity c.make_room.new.self ≡ writer_capacity c.args.self.now =
-    room_capacity g.W.Takings.writes c.args.self.now c.make_room.new.self _ _ e.ran in
+    room_capacity g.W.WriteSpec.writes c.args.self.now c.make_room.new.self _ _ e.ran in
     let shown = rw got at (e.shown (λ fits. none (fits, rw kept at small))) in
     c.hold.ensures.buffered ∙ ap (λ l. l ++ c.args.buf.now) shown ∙ sym c.hold.ensures.held
 
@@ -92,6 +92,6 @@ pub returns-then-buf-len-clause-whole : goal.returns-then-buf-len-clause-whole
 returns-then-buf-len-clause-whole g c small =
     let m = c.make_room.new.self in
     let kept : writer_capacity m ≡ writer_capacity c.args.self.now =
-    room_capacity g.W.Takings.writes c.args.self.now m _ _ c.make_room.ensures.ran in
+    room_capacity g.W.WriteSpec.writes c.args.self.now m _ _ c.make_room.ensures.ran in
     let large : writer_capacity m ≤ length c.args.buf.now = search rules in
     absurd (omega (arith, kept, large, small))

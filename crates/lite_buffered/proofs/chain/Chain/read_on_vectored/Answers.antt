@@ -5,7 +5,7 @@ use Rattle.lite_buffered.proofs.chain.Chain.read_on_vectored.Goals as goal
 
 pub returns-2-clause-ran : goal.returns-2-clause-ran
 returns-2-clause-ran g c =
-    let first = g.R1.Tale.reads in
+    let first = g.R1.ReadSpec.reads in
     let p = c.poll_read_vectored in
     let h = p.ensures.ran in
     let bufs = c.args.bufs.now in
@@ -17,6 +17,6 @@ returns-2-clause-ran g c =
     let b = c.read_within.ensures.ran bufs within in (
       b.0,
       b.1,
-      crossed first g.R2.Tale.reads c.args.self.now _ (read_marks c.read_within.result b.0) g.R1.Tale.read_laws
+      crossed first g.R2.ReadSpec.reads c.args.self.now _ (read_marks c.read_within.result b.0) g.R1.ReadSpec.read_laws
           c.requires.first refl ended b.2,
     )

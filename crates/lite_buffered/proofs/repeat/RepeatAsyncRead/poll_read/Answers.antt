@@ -1,5 +1,5 @@
 use Rattle.std.specs.Prelude.{◌≡◌, ℕ, zero, suc, length, replicate}
-use Rattle.lite_buffered.specs.Uses.{refl, take_all, bytes, moved}
+use Rattle.lite_buffered.specs.Uses.{refl, take_all, bytes, moved_marks}
 use Rattle.std.proofs.Common.{le_refl}
 use Rattle.lite_buffered.specs.declared.repeat.Repeat.{Repeat}
 use Rattle.lite_buffered.specs.Repeat.{RepeatsByte}
@@ -9,7 +9,7 @@ all_same : (x : Repeat) (n : ℕ) → RepeatsByte x (bytes (replicate n x.byte))
 all_same x zero = refl
 all_same x (suc n) = (refl, all_same x n)
 
-filled : (x : Repeat) (n : ℕ) → RepeatsByte x (moved (replicate n x.byte) (replicate n x.byte)) x
+filled : (x : Repeat) (n : ℕ) → RepeatsByte x (moved_marks (replicate n x.byte) (replicate n x.byte)) x
 filled x zero = refl
 filled x (suc n) = all_same x (suc n)
 

@@ -1,5 +1,5 @@
 use Rattle.std.specs.Prelude.{◌≡◌, ◌≤◌, ◌<◌, ◌-◌, [], Ok, length, take, drop}
-use Rattle.lite_buffered.specs.Uses.{rules, arith, sym, ◌∙◌, append-nil, length-take-le, subst, common_steps, Ready, read_marks_room, moved}
+use Rattle.lite_buffered.specs.Uses.{rules, arith, sym, ◌∙◌, append-nil, length-take-le, subst, common_steps, Ready, read_marks_room, moved_marks}
 use Rattle.lite_buffered.specs.Take.{WithinLimit}
 use Rattle.lite_buffered.proofs.Limits.{fits_moved}
 use Rattle.lite_buffered.proofs.take.TakeAsyncRead.poll_read.Goals as goal
@@ -18,11 +18,11 @@ returns-in-Ok-clause-ran g c =
     let len : length (take n buf) ≡ n = length-take-le n buf fits in
     let above : 0 < limit = grind (arith, common_steps) in
     record {
-      front = moved buf (take n buf);
+      front = moved_marks buf (take n buf);
       ends = [];
-      cut = read_marks_room (Ready (Ok n)) buf more some fits ∙ sym (append-nil (moved buf (take n buf)));
+      cut = read_marks_room (Ready (Ok n)) buf more some fits ∙ sym (append-nil (moved_marks buf (take n buf)));
       ran = ran;
-      fits = subst (λ k. WithinLimit limit (moved buf (take n buf)) (limit - k)) len
+      fits = subst (λ k. WithinLimit limit (moved_marks buf (take n buf)) (limit - k)) len
           (fits_moved limit buf (take n buf) (omega (arith, len)) (omega arith) some);
       used_up = tt;
       still = λ none. absurd (omega (arith, none, above));

@@ -10,7 +10,7 @@ invariant_of-self g c =
     let r = c.poll_read-polled.result in
     let buf = c.poll_read-polled.new.buf in
     let entries = c.push_reserved.new.self in
-    sound_push g.T.Tale.reads g.T.Takings.writes g.T.Clone.is_clone {gs = entries.items}
+    sound_push g.T.ReadSpec.reads g.T.WriteSpec.writes g.T.Clone.is_clone {gs = entries.items}
     {rest = vec_capacity entries - vec_len entries} _ (read_note r buf) c.self.invariant
     refl c.push_reserved.ensures.items (ap Request.room (omega (arith, c.poll_read-polled.auto.buf)))
     c.read_answer-answer.ensures (read_note_fits r buf c.poll_read-polled.ensures.bound) (read_note_part r buf)

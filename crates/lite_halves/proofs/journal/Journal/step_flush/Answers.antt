@@ -6,6 +6,6 @@ use Rattle.lite_halves.proofs.journal.Journal.step_flush.Goals as goal
 
 pub invariant_of-self-2 : goal.invariant_of-self-2
 invariant_of-self-2 g c =
-    sound_push g.T.Tale.reads g.T.Takings.writes g.T.Clone.is_clone _ (flush_note _) c.self.invariant
+    sound_push g.T.ReadSpec.reads g.T.WriteSpec.writes g.T.Clone.is_clone _ (flush_note _) c.self.invariant
     c.reserve.ensures.items c.push_reserved.ensures.items refl c.done_answer-answer.ensures (done_fits _)
     (done_note_part WriteMark.flushed _) c.poll_flush-polled.ensures.ran (omega arith)

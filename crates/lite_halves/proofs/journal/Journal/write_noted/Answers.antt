@@ -11,7 +11,7 @@ invariant_of-self g c =
     let r = c.poll_write-polled.result in
     let buf = c.args.buf.now in
     let entries = c.push_reserved.new.self in
-    sound_push g.T.Tale.reads g.T.Takings.writes g.T.Clone.is_clone {gs = entries.items}
+    sound_push g.T.ReadSpec.reads g.T.WriteSpec.writes g.T.Clone.is_clone {gs = entries.items}
     {rest = vec_capacity entries - vec_len entries} _ (write_note r buf) c.self.invariant
     refl c.push_reserved.ensures.items (ap Request.offer (search rules))
     c.write_answer-answer.ensures (write_note_fits r buf c.poll_write-polled.ensures.bound) (write_note_part r buf)

@@ -4,7 +4,7 @@ use Rattle.lite_halves.proofs.journal.JournalClone.clone.Goals as goal
 
 pub invariant_of-result : goal.invariant_of-result
 invariant_of-result g c =
-    sound_clone g.T.Tale.reads g.T.Takings.writes g.T.Clone.is_clone _ _ c.self.invariant c.in_ok-start.ensures.cases
+    sound_clone g.T.ReadSpec.reads g.T.WriteSpec.writes g.T.Clone.is_clone _ _ c.self.invariant c.in_ok-start.ensures.cases
     c.in_ok-stream.ensures.cases (entries_clone _ _ c.in_ok-entries.ensures.cases.0)
 
 pub returns : goal.returns

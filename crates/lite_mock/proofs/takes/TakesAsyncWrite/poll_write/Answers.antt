@@ -5,7 +5,7 @@ use Rattle.std.proofs.lemmas.Grind.{common_steps}
 use Rattle.std.specs.Prelude.{◌⊎◌}
 use Rattle.futures.specs.declared.task.Poll.TheVariants.{Ready}
 use Rattle.lite_mock.specs.declared.takes.Order.TheVariants.{AtMost}
-use Rattle.lite_io_base.specs.Takings.{write_marks}
+use Rattle.lite_io_base.specs.WriteMarks.{write_marks}
 use Rattle.lite_mock.specs.Takes.{AllObey, Orders}
 use Rattle.lite_mock.proofs.takes.TakesAsyncWrite.poll_write.Goals as goal
 

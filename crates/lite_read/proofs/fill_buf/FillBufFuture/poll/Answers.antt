@@ -4,10 +4,10 @@ use Rattle.lite_read.specs.FillBuf.{FillsOnce, held_after}
 use Rattle.lite_read.specs.declared.fill_buf.FillBuf.{FillBuf}
 use Rattle.lite_read.proofs.fill_buf.FillBufFuture.poll.Goals as goal
 
-filled_once : {R : Type 0} {reads : Runs ReadMark R} {lent : R → List ℕ} {x y : FillBuf R} (reader : MutBor R)
+filled_once : {R : Type 0} {reads : Runs ReadMark R} {buffer_of : R → List ℕ} {x y : FillBuf R} (reader : MutBor R)
     (filled : R) (c : Poll (Result (Bor (List ℕ)) Error)) → x.reader ≡ Some reader
-    → reads reader.now (fill_marks c (lent filled)) filled → LendsFront c (lent filled)
-    → y.reader ≡ held_after c (record reader { now = filled }) → FillsOnce reads lent x c y
+    → reads reader.now (fill_marks c (buffer_of filled)) filled → LendsFront c (buffer_of filled)
+    → y.reader ≡ held_after c (record reader { now = filled }) → FillsOnce reads buffer_of x c y
 filled_once reader filled c held came lends after =
     record { reader = reader; filled = filled; held = held; came = came; lends = lends; after = after }
 

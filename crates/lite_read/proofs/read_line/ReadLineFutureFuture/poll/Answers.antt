@@ -5,14 +5,14 @@ use Rattle.lite_read.proofs.read_line.ReadLineFutureFuture.poll.Goals as goal
 
 pub returns-clause-ran : goal.returns-clause-ran
 returns-clause-ran g c =
-    let lent = g.R.AsyncBufRead.lent in
-    (text_ran line_over read_line_fold (LineLacksMemory lent) (line_room lent) g.R.Tale.read_laws
+    let buffer_of = g.R.AsyncBufRead.buffer_of in
+    (text_ran line_over read_line_fold (LineLacksMemory buffer_of) (line_room buffer_of) g.R.ReadSpec.read_laws
     c.drive.ensures.stepped).0
 
 pub returns-clause-again : goal.returns-clause-again
 returns-clause-again g c =
-    let lent = g.R.AsyncBufRead.lent in
-    text_on line_over read_line_fold (LineLacksMemory lent) g.met.R.CountedRead.counting c.args.self.now c.drive.new.t
+    let buffer_of = g.R.AsyncBufRead.buffer_of in
+    text_on line_over read_line_fold (LineLacksMemory buffer_of) g.met.R.CountedRead.counting c.args.self.now c.drive.new.t
     c.drive.result c.requires.0
-    (text_ran line_over read_line_fold (LineLacksMemory lent) (line_room lent) g.R.Tale.read_laws
+    (text_ran line_over read_line_fold (LineLacksMemory buffer_of) (line_room buffer_of) g.R.ReadSpec.read_laws
     c.drive.ensures.stepped)

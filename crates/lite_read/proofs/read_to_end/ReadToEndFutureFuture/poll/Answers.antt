@@ -10,8 +10,8 @@ returns-clause-ran g c =
     let z = c.drive-answer.new.t in
     let all = c.len-self.ensures ∙ x.buf.now.ok.0 in
     let cut = c.truncate.ensures in
-    let told = to_end_full g.R.Tale.read_laws c.drive-answer.ensures.stepped in
-    let ran = cut_off _ g.R.Tale.read_laws x z c.len-self.result c.truncate.new.self c.drive-answer.result all
+    let told = to_end_full g.R.ReadSpec.read_laws c.drive-answer.ensures.stepped in
+    let ran = cut_off _ g.R.ReadSpec.read_laws x z c.len-self.result c.truncate.new.self c.drive-answer.result all
     cut.items told.0.gathered in
     let long = ap length cut.items ∙ length-take-le z.filled z.buf.now.items told.1 in
     record {
@@ -24,7 +24,7 @@ returns-clause-again g c =
     let x = c.args.self.now in
     let z = c.drive-answer.new.t in
     let all = c.len-self.ensures ∙ x.buf.now.ok.0 in
-    let told = to_end_full g.R.Tale.read_laws c.drive-answer.ensures.stepped in
-    let next = polls_on _ g.R.Tale.read_laws g.met.R.CountedRead.counting x z c.drive-answer.result c.len-self.result
+    let told = to_end_full g.R.ReadSpec.read_laws c.drive-answer.ensures.stepped in
+    let next = polls_on _ g.R.ReadSpec.read_laws g.met.R.CountedRead.counting x z c.drive-answer.result c.len-self.result
     all c.requires.0 c.requires.1 told.0.gathered in
     rw c.truncate.ensures.items next

@@ -13,7 +13,7 @@ returns-then-is_err-clause-stepped g c =
     let filled : w.filled ≡ x.filled = λ i. (m.same i).filled in
     let full : vec_capacity x.buf.now < x.filled + max 32 x.room = search (rules, common_steps) in
     gives_value x w m.within
-    (refused _ g.R.Tale.read_laws x w c.into.result (0, omega (arith, filled), omega (arith, filled, full)) m.same
+    (refused _ g.R.ReadSpec.read_laws x w c.into.result (0, omega (arith, filled), omega (arith, filled, full)) m.same
     m.front c.into.ensures)
 
 pub returns-in-Ready-Ok-clause-stepped : goal.returns-in-Ready-Ok-clause-stepped
@@ -21,7 +21,7 @@ returns-in-Ready-Ok-clause-stepped g c =
     let m = c.make_room.ensures in
     let e = c.poll_read.ensures in
     let is : c.poll_read.result ≡ Ready (Ok c.in-Ready-Ok.n) = search rules in
-    read_some _ g.R.Tale.reads c.args.self.now c.make_room.new.self c.poll_read.new.self c.deref_mut.result.now
+    read_some _ g.R.ReadSpec.reads c.args.self.now c.make_room.new.self c.poll_read.new.self c.deref_mut.result.now
     c.poll_read.new.buf c.in-Ready-Ok.n _ m.same m.front m.within c.deref_mut.ensures.value c.poll_read.auto.buf
     (rw is at e.bound) (omega (arith, c.in-Ready-Ok.n-test)) (rw is at e.ran) m.grows
     (omega arith)
@@ -42,7 +42,7 @@ returns-in-Ready-Ok-eq0-clause-stepped g c =
     omega (arith, front, ap length m.front, start, c.requires.started, held) in
     let made = room_made x w new.self old new.buf m.same m.within c.deref_mut.ensures.value c.poll_read.auto.buf m.grows in
     gives_value x _ made.within
-    (read_none _ g.R.Tale.reads x w new.self old new.buf (ReadMark.end ∷ [])
+    (read_none _ g.R.ReadSpec.reads x w new.self old new.buf (ReadMark.end ∷ [])
     (Ready (Ok (w.filled - w.start))) m.same m.front m.within c.deref_mut.ensures.value c.poll_read.auto.buf
     (count, refl) (rw (is, end) at c.poll_read.ensures.ran))
 
@@ -53,7 +53,7 @@ returns-in-Ready-Err-clause-stepped g c =
     let made = room_made c.args.self.now c.make_room.new.self c.poll_read.new.self c.deref_mut.result.now c.poll_read.new.buf
     m.same m.within c.deref_mut.ensures.value c.poll_read.auto.buf m.grows in
     gives_value c.args.self.now _ made.within
-    (read_none _ g.R.Tale.reads c.args.self.now c.make_room.new.self c.poll_read.new.self c.deref_mut.result.now
+    (read_none _ g.R.ReadSpec.reads c.args.self.now c.make_room.new.self c.poll_read.new.self c.deref_mut.result.now
     c.poll_read.new.buf _ (Ready (Err c.in-Ready-Err.e)) m.same m.front m.within c.deref_mut.ensures.value
     c.poll_read.auto.buf (refl, refl) (rw is at c.poll_read.ensures.ran))
 
@@ -63,6 +63,6 @@ returns-in-Pending-clause-stepped g c =
     gives_pending c.args.self.now _
     (room_made c.args.self.now c.make_room.new.self c.poll_read.new.self c.deref_mut.result.now c.poll_read.new.buf
     m.same m.within c.deref_mut.ensures.value c.poll_read.auto.buf m.grows)
-    (read_none _ g.R.Tale.reads c.args.self.now c.make_room.new.self c.poll_read.new.self c.deref_mut.result.now
+    (read_none _ g.R.ReadSpec.reads c.args.self.now c.make_room.new.self c.poll_read.new.self c.deref_mut.result.now
     c.poll_read.new.buf (ReadMark.pending ∷ []) Pending m.same m.front m.within c.deref_mut.ensures.value
     c.poll_read.auto.buf (refl, tt, refl) (rw c.in-Pending.is at c.poll_read.ensures.ran))

@@ -8,7 +8,7 @@ use Rattle.lite_read.proofs.read_until.ReadUntilFuturePollSteps.poll_step.Goals 
 pub returns-in-Ready-Err-clause-stepped : goal.returns-in-Ready-Err-clause-stepped
 returns-in-Ready-Err-clause-stepped g c =
     let is : c.find_byte.result ≡ Ready (Err c.in-Ready-Err.e) = search rules in
-    until_fails g.R.Tale.read_laws c.args.self.now _ refl refl refl refl c.requires.1 (le_refl _) refl
+    until_fails g.R.ReadSpec.read_laws c.args.self.now _ refl refl refl refl c.requires.1 (le_refl _) refl
     c.in-Ready-Err.e (rw is at c.find_byte.ensures.ran)
 
 pub returns-in-Ok-clause-stepped : goal.returns-in-Ok-clause-stepped
@@ -16,7 +16,7 @@ returns-in-Ok-clause-stepped g c =
     let is : c.find_byte.result ≡ Ready (Ok (Some c.in-Ready-Ok-Some.at)) = search rules in
     let e = c.in-Ok.ensures in
     let long : c.len.result ≡ length c.append.new.buf.items = search (rules, common_steps) in
-    until_found g.R.Tale.read_laws c.args.self.now _ refl refl refl refl c.requires.1 e.room _ _
+    until_found g.R.ReadSpec.read_laws c.args.self.now _ refl refl refl refl c.requires.1 e.room _ _
     (rw is at c.find_byte.ensures.ran) c.in-Ready-Ok-Some.at _
     (rw is at c.find_byte.ensures.found) e.ok e.taken (ap (λ n. n - c.args.self.now.start) long)
 
@@ -24,17 +24,17 @@ pub returns-in-Err-clause-stepped : goal.returns-in-Err-clause-stepped
 returns-in-Err-clause-stepped g c =
     let is : c.find_byte.result ≡ Ready (Ok (Some c.in-Ready-Ok-Some.at)) = search rules in
     let e = c.in-Err.ensures in
-    until_refused g.R.Tale.read_laws c.args.self.now _ refl refl refl refl c.requires.1 e.room e.held
+    until_refused g.R.ReadSpec.read_laws c.args.self.now _ refl refl refl refl c.requires.1 e.room e.held
     c.in-Err.e _ _ (rw is at c.find_byte.ensures.ran) (search (rules, common_steps)) e.refused e.unread
-    (lacks_through c.args.self.now.byte g.R.AsyncBufRead.lent e.unread e.held
+    (lacks_through c.args.self.now.byte g.R.AsyncBufRead.buffer_of e.unread e.held
     (through_found c.args.self.now.byte _ c.in-Ready-Ok-Some.at (rw is at c.find_byte.ensures.found)) e.full)
 
 pub returns-then-amount-eq0-clause-stepped : goal.returns-then-amount-eq0-clause-stepped
 returns-then-amount-eq0-clause-stepped g c =
     let is : c.find_byte.result ≡ Ready (Ok None) = search rules in
     let long : c.len-then-amount-eq0.result ≡ length c.args.self.now.buf.now.items = search (rules, common_steps) in
-    let none : g.R.AsyncBufRead.lent c.find_byte.new.reader ≡ [] = search (rules, common_steps) in
-    until_ends g.R.Tale.read_laws c.args.self.now _ refl refl refl refl c.requires.1 (le_refl _) refl _
+    let none : g.R.AsyncBufRead.buffer_of c.find_byte.new.reader ≡ [] = search (rules, common_steps) in
+    until_ends g.R.ReadSpec.read_laws c.args.self.now _ refl refl refl refl c.requires.1 (le_refl _) refl _
     (ap (λ n. n - c.args.self.now.start) long)
     (rw (is, none) at c.find_byte.ensures.ran)
 
@@ -42,9 +42,9 @@ pub returns-in-Ok-append-clause-stepped : goal.returns-in-Ok-append-clause-stepp
 returns-in-Ok-append-clause-stepped g c =
     let is : c.find_byte.result ≡ Ready (Ok None) = search rules in
     let e = c.in-Ok-append.ensures in
-    let shown = g.R.AsyncBufRead.lent c.find_byte.new.reader in
+    let shown = g.R.AsyncBufRead.buffer_of c.find_byte.new.reader in
     let all = ap (λ l. take (length l) shown) c.buffer-amount.ensures ∙ take_whole shown in
-    until_more g.R.Tale.read_laws c.args.self.now _ refl refl refl refl c.requires.1 e.room _ _
+    until_more g.R.ReadSpec.read_laws c.args.self.now _ refl refl refl refl c.requires.1 e.room _ _
     (rw is at c.find_byte.ensures.ran)
     (rw is at c.find_byte.ensures.found) (search (rules, common_steps)) (rw all at e.ok) (rw all at e.taken)
 
@@ -52,12 +52,12 @@ pub returns-in-Err-append-clause-stepped : goal.returns-in-Err-append-clause-ste
 returns-in-Err-append-clause-stepped g c =
     let is : c.find_byte.result ≡ Ready (Ok None) = search rules in
     let e = c.in-Err-append.ensures in
-    until_refused g.R.Tale.read_laws c.args.self.now _ refl refl refl refl c.requires.1 e.room e.held
+    until_refused g.R.ReadSpec.read_laws c.args.self.now _ refl refl refl refl c.requires.1 e.room e.held
     c.in-Err-append.e _ _ (rw is at c.find_byte.ensures.ran) (search (rules, common_steps)) e.refused e.unread
-    (lacks_through c.args.self.now.byte g.R.AsyncBufRead.lent e.unread e.held
+    (lacks_through c.args.self.now.byte g.R.AsyncBufRead.buffer_of e.unread e.held
     (through_none c.args.self.now.byte _ (rw is at c.find_byte.ensures.found)) (rw c.buffer-amount.ensures at e.full))
 
 pub returns-in-Pending-clause-stepped : goal.returns-in-Pending-clause-stepped
 returns-in-Pending-clause-stepped g c =
-    until_waits g.R.Tale.read_laws c.args.self.now _ refl refl refl refl c.requires.1 (le_refl _) refl
+    until_waits g.R.ReadSpec.read_laws c.args.self.now _ refl refl refl refl c.requires.1 (le_refl _) refl
     (rw c.in-Pending.is at c.find_byte.ensures.ran)

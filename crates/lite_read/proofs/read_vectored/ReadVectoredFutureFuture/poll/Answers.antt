@@ -6,7 +6,7 @@ use Rattle.lite_read.proofs.read_vectored.ReadVectoredFutureFuture.poll.Goals as
 pub returns-clause-ran : goal.returns-clause-ran
 returns-clause-ran g c =
     let e = c.poll_read_vectored-answer.ensures in
-    polled_one (ReadsVectored g.R.Tale.reads)
+    polled_one (ReadsVectored g.R.ReadSpec.reads)
     (record {
       bufs = c.in-Some.bufs;
       after = c.poll_read_vectored-answer.new.bufs;

@@ -4,4 +4,4 @@ use Rattle.lite_write.proofs.close.CloseFutureFuture.poll.Goals as goal
 
 pub returns-clause-ran : goal.returns-clause-ran
 returns-clause-ran g c =
-    polled_one (Closes g.W.Takings.writes) (record { came = c.poll_close.ensures.ran; stays = refl })
+    polled_one (Closes g.W.WriteSpec.writes) (record { came = c.poll_close.ensures.ran; stays = refl })

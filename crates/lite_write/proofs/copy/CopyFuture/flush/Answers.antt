@@ -6,6 +6,6 @@ use Rattle.lite_write.proofs.copy.CopyFuture.flush.Goals as goal
 pub returns-in-Ready-Ok-clause-ran : goal.returns-in-Ready-Ok-clause-ran
 returns-in-Ready-Ok-clause-ran g c =
     let is : c.poll_flush.result ≡ Ready (Ok tt) = search rules in
-    writer_is_flushed g.R.Tale.reads g.W.Takings.writes g.R.Tale.read_laws g.W.Takings.write_laws c.args.self.now _ refl
+    writer_is_flushed g.R.ReadSpec.reads g.W.WriteSpec.writes g.R.ReadSpec.read_laws g.W.WriteSpec.write_laws c.args.self.now _ refl
     refl refl c.requires.phase
     (rw is at c.poll_flush.ensures.ran)

@@ -4,4 +4,4 @@ use Rattle.lite_write.proofs.flush.FlushFutureFuture.poll.Goals as goal
 
 pub returns-clause-ran : goal.returns-clause-ran
 returns-clause-ran g c =
-    polled_one (Flushes g.W.Takings.writes) (record { came = c.poll_flush.ensures.ran; stays = refl })
+    polled_one (Flushes g.W.WriteSpec.writes) (record { came = c.poll_flush.ensures.ran; stays = refl })

@@ -5,4 +5,4 @@ use Rattle.lite_write.proofs.write_vectored.WriteVectoredFutureFuture.poll.Goals
 pub returns-clause-ran : goal.returns-clause-ran
 returns-clause-ran g c =
     let e = c.poll_write_vectored.ensures in
-    polled_one (WritesVectored g.W.Takings.writes) (record { came = e.ran; bound = e.bound; stays = refl })
+    polled_one (WritesVectored g.W.WriteSpec.writes) (record { came = e.ran; bound = e.bound; stays = refl })

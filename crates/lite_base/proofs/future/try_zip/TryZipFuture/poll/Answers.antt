@@ -2,7 +2,7 @@ use Rattle.std.specs.Prelude.{[], ◌∷◌, refl, Ok, Err}
 use Rattle.lite_base.specs.Uses.{inl, inr, arith, Ready}
 use Rattle.lite_base.specs.Future.TryZip.{try_pair}
 use Rattle.lite_base.specs.Laws.FutureLaws.{future_runs_of}
-use Rattle.lite_base.specs.Laws.Future.Half.{stands_rest}
+use Rattle.lite_base.specs.Laws.Future.Side.{stands_rest}
 use Rattle.lite_base.specs.Laws.Future.Together.{together_row}
 use Rattle.lite_base.proofs.future.try_zip.TryZipFuture.poll.Goals as goal
 

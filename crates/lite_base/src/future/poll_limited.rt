@@ -1,0 +1,71 @@
+//! A future that is polled a limited number of times.
+ghost use Rattle.std.specs.Prelude.{◌<◌, ⊤};
+ghost use Rattle.lite_base.specs.Uses.{Lasting};
+ghost use Rattle.lite_base.specs.Future.PollLimited.{BudgetsPolls};
+ghost use Rattle.lite_base.specs.Laws.Future.PollLimited.{budgets_calm, budgets_laws};
+
+use super::{CalmFuture, Future};
+use crate::{Context, Poll};
+
+/// A future was polled as often as its budget allows, and has no value.
+///
+/// # Examples
+///
+/// ```
+/// use futures_lite::future::{self, Exhausted};
+/// use futures_lite::FutureExt;
+///
+/// let waiting = future::pending::<u8>().with_poll_limit(1);
+/// assert_eq!(rt; future::block_on(&rt, waiting)?, Err(Exhausted));
+/// ```
+#[derive(Debug, Clone, Copy, PartialEq, Eq)]
+pub struct Exhausted;
+
+/// A future that polls its inner future a limited number of times.
+///
+/// Returned by [`with_poll_limit`](super::make::with_poll_limit).
+#[derive(Debug, Drop)]
+pub struct PollLimited<F> {
+    pub(crate) inner: F,
+    // How many polls are left.
+    pub(crate) left: usize,
+}
+
+impl<F: Future> Future for PollLimited<F> {
+    type Output = Result<F::Output, Exhausted>;
+
+    ghost can_poll = { λ x. 0 < x.left → F.can_poll x.inner };
+
+    ghost run = { BudgetsPolls F.run };
+
+    ghost registers = { λ x. F.registers x.inner };
+
+    ghost laws = { budgets_laws F.laws };
+
+    fn poll(&mut self, cx: &mut Context<'_>) -> Poll<Self::Output> {
+        if self.left == 0 {
+            return Poll::Ready(Err(Exhausted));
+        }
+        match self.inner.poll(cx) {
+            Poll::Ready(value) => Poll::Ready(Ok(value)),
+            Poll::Pending => {
+                self.left -= 1;
+                if self.left == 0 {
+                    return Poll::Ready(Err(Exhausted));
+                }
+                Poll::Pending
+            }
+        }
+    }
+}
+
+impl<F: CalmFuture> CalmFuture for PollLimited<F> {
+    ghost is_calm = { λ x. F.is_calm x.inner };
+
+    ghost calm = { budgets_calm F.calm };
+}
+
+/// States what a future with a budget has registered.
+pub fn tells_of_budgeted<F: Future>(poll_limited: &PollLimited<F>)
+    ensures { (fact : Lasting) → F.registers poll_limited.now.inner fact → ⟦<PollLimited<F> as Future>⟧.registers poll_limited.now fact }
+{}

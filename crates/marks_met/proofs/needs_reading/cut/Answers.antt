@@ -1,9 +1,0 @@
-use Rattle.lite_read.proofs.Ample.{lines_ample}
-use Rattle.marks_met.proofs.Unrefused.{split_ample}
-use Rattle.marks_met.proofs.needs_reading.cut.Goals as goal
-
-pub returns-clause-ample_lines : goal.returns-clause-ample_lines
-returns-clause-ample_lines g c = lines_ample
-
-pub returns-clause-ample_split : goal.returns-clause-ample_split
-returns-clause-ample_split g c = split_ample

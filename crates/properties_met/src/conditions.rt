@@ -1,0 +1,89 @@
+//! What the others ask of closures, iterators and streams of streams is met: by closures that catch nothing, and by scripts.
+use crate::consuming::consumers_are_alike;
+use crate::future_marks::{futures_are_alike, futures_are_calm};
+use crate::merges::{
+    clones_have_marks, inner_streams_are_alike, inner_streams_are_calm, merges_are_alike,
+    merges_are_calm,
+};
+use crate::sources::{calls_are_alike, calls_are_calm};
+use crate::streams::adapters_are_alike;
+use lite_base::future::make::ready;
+use lite_base::{Context, Poll};
+use lite_merge::Drain;
+use lite_source::make::once;
+use lite_source::{Once, Script};
+use rand_core::Rng;
+use std::vec::IntoIter;
+
+/// Closures that catch nothing agree with themselves.
+pub fn closures_agree(script: &Script<u8>) {
+    let (mix, keep) = (|x: u8| x ^ 1, |x: u8| Some(x));
+    let (is_small, show) = (|x: &u8| *x < 100, |_x: &u8| ());
+    let latest = |state: &mut u8, x: u8| {
+        *state = x;
+        Some(x)
+    };
+    adapters_are_alike(
+        script, script, 1, &0u8, &mix, &keep, &is_small, &show, &latest,
+    );
+}
+
+/// So do those that consume items.
+pub fn folding_closures_agree(script: &Script<u8>) {
+    let (is_one, keep, is_small) = (|x: u8| x == 1, |x: u8| Some(x), |x: &u8| *x < 100);
+    let (fold, take) = (|sum: u8, x: u8| sum ^ x, |_x: u8| ());
+    let fail = |x: u8| -> Result<(), u8> { Err(x) };
+    consumers_are_alike(
+        script, script, &0u8, &is_one, &keep, &is_small, &fold, &take, &fail,
+    );
+}
+
+/// Closures that make streams and futures of items make the same of the same ones, and calm ones.
+pub fn making_closures_agree<R: Rng>(rng: &R) {
+    let (x, other) = (once(1u8), once(2u8));
+    let (to_stream, to_future) = (|x: u8| once(x), |x: u8| ready(x));
+    merges_are_alike(&x, &x, &other, &other, &to_stream, &to_future);
+    merges_are_calm(&x, &other, &to_stream, &to_future, rng, &ready(3u8));
+}
+
+/// Inner streams are alike to themselves, and calm; clones of a byte are equal.
+pub fn inner_streams_agree(drained: &Drain<'_, Once<Once<u8>>>) {
+    let (outer, byte) = (once(once(1u8)), 2u8);
+    inner_streams_are_alike(&outer, &outer);
+    inner_streams_are_calm(&outer, drained);
+    let buffer_of = once(&byte);
+    clones_have_marks(&buffer_of, &buffer_of);
+}
+
+/// A closure that is polled answers the same each time, without a pending; and those that unfold make the same futures.
+pub fn polled_closures_agree(bytes: &IntoIter<u8>) {
+    let answer = |_cx: &mut Context<'_>| Poll::Ready(Some(1u8));
+    let repeat = || 1u8;
+    let unfold = |x: u8| ready(Some((x, x)));
+    let try_unfold = |x: u8| {
+        let pair: Result<Option<(u8, u8)>, u16> = Ok(Some((x, x)));
+        ready(pair)
+    };
+    let future = ready(Some((1u8, 1u8)));
+    calls_are_alike(
+        &future,
+        &future,
+        &2u8,
+        bytes,
+        &answer,
+        &repeat,
+        &unfold,
+        &try_unfold,
+    );
+    calls_are_calm(&future, &2u8, &answer, &unfold, &try_unfold);
+}
+
+/// So does one that is polled as a future is.
+pub fn polled_futures_agree<R: Rng>(rng: &R) {
+    let answer = |_cx: &mut Context<'_>| Poll::Ready(Some(1u8));
+    let (x, other, value) = (ready(Some(1u8)), ready(Some(2u8)), Some(3u8));
+    let good: Result<Option<u8>, char> = Ok(value);
+    let tried = ready(good);
+    futures_are_alike(&x, &x, &other, &other, &value, &answer);
+    futures_are_calm(&x, &other, &tried, &tried, rng, &value, &answer);
+}
