@@ -275,7 +275,7 @@ class TwoModules(unittest.TestCase):
 
     def test_a_mark_stands_with_the_bounds_of_its_impl_in_the_entry_of_the_type(self):
         self.assertIn("each with its impl:\n\n- `Counted`: `impl<S: Counted, T> Counted for Or<S, T>`\n", self.entry("stream", "struct `Or`"))
-        self.assertIn("Type of the result, with its marks: [`Or`](#struct-or).", self.entry("future", "fn `or`"))
+        self.assertIn("Type of the result, with its properties: [`Or`](#struct-or).", self.entry("future", "fn `or`"))
 
     def test_a_mark_of_the_tables_without_an_impl_is_named(self):
         told = [what for _, what in Reference(self.sources).faults()]

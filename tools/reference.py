@@ -34,7 +34,7 @@ GROUPS = {
         ),
         "Making a future": tuple(f"lite_base/src/future/{it}.rt" for it in ("pending", "poll_fn", "ready", "yield_now")),
         "Combining futures": tuple(
-            f"lite_base/src/future/{it}.rt" for it in ("budgeted", "either", "fuse", "or", "poll_once", "race", "zip", "try_zip")
+            f"lite_base/src/future/{it}.rt" for it in ("either", "fuse", "or", "poll_limited", "poll_once", "race", "zip", "try_zip")
         ),
     },
     "stream": {

@@ -3,7 +3,7 @@ use Rattle.std.proofs.Common.{◌≡◌, ◌≤◌, ◌<◌, ◌+◌, ℕ, suc, 
 use Rattle.std.proofs.Common.{arith, refl}
 use Rattle.std.specs.List.{AllByRecursion, cons_option, filter_map}
 use Rattle.futures_lite.specs.Answers.{Gives, Poll, Waiting}
-use Rattle.futures_lite.specs.Futures.{BudgetsPolls, SpendsPolls}
+use Rattle.futures_lite.specs.Futures.{LimitsPolls, SpendsPolls}
 use Rattle.futures_lite.specs.Own.{Runs}
 use Rattle.futures_lite.specs.declared.future.PollLimited.{PollLimited}
 use Rattle.futures_lite.specs.declared.future.Exhausted.{Exhausted}
@@ -36,7 +36,7 @@ module _ {A : Type 0} where
 
 module _ {F A : Type 0} (run : Runs (Poll A) F) (polls : ℕ) where
   outcome_of : (x : F) (y : PollLimited F) (l : List (Poll (Result A Exhausted))) (r : Result A Exhausted)
-      → BudgetsPolls run (record { inner = x; left = polls }) l y → Gives l r
+      → LimitsPolls run (record { inner = x; left = polls }) l y → Gives l r
       → OutcomeWithin run polls x r
   outcome_of x y l (Ok v) h g = let spent = value_within v h.2 g in (h.0, y.inner, h.1, spent.0, spent.1)
   outcome_of x y l (Err e) h g = let spent = all_spent e h.2 g in (h.0, y.inner, h.1, spent.0, spent.1)
@@ -57,7 +57,7 @@ module _ {F A : Type 0} (run : Runs (Poll A) F) (polls : ℕ) where
   counted (Some r) n m less = omega (arith, less)
 
   at_most : (xs : List F) (ys : List (Task (PollLimited F) (Result A Exhausted)))
-      → EachRan (BudgetsPolls run) (map (task_within polls) xs) ys
+      → EachRan (LimitsPolls run) (map (task_within polls) xs) ys
       → finished ys ≤ length xs
   at_most [] [] h = omega arith
   at_most (x ∷ xs) (y ∷ ys) h = counted y.value (finished ys) (length xs) (at_most xs ys h.1)
@@ -66,7 +66,7 @@ module _ {F A : Type 0} (run : Runs (Poll A) F) (polls : ℕ) where
 
   one_outcome : (x : F) (y : PollLimited F) (xs : List F) (rest : List (Result A Exhausted)) (n : ℕ)
       → (v : Option (Result A Exhausted))
-      → (l : List (Poll (Result A Exhausted))) × BudgetsPolls run (record { inner = x; left = polls }) l y × AnsweredBy v l
+      → (l : List (Poll (Result A Exhausted))) × LimitsPolls run (record { inner = x; left = polls }) l y × AnsweredBy v l
       → n ≤ length xs → one_if_some v + n ≡ suc (length xs) → (n ≡ length xs → EachOutcome run polls xs rest)
       → EachOutcome run polls (x ∷ xs) (cons_option v rest)
   one_outcome x y xs rest n None ran less sum others = absurd (omega (arith, less, sum))
@@ -74,7 +74,7 @@ module _ {F A : Type 0} (run : Runs (Poll A) F) (polls : ℕ) where
       (outcome_of x y ran.0 r ran.1 ran.2, others (omega (arith, sum)))
 
   pub each_outcome : (xs : List F) (ys : List (Task (PollLimited F) (Result A Exhausted)))
-      → EachRan (BudgetsPolls run) (map (task_within polls) xs) ys → finished ys ≡ length xs
+      → EachRan (LimitsPolls run) (map (task_within polls) xs) ys → finished ys ≡ length xs
       → EachOutcome run polls xs (filter_map (λ task. task.value) ys)
   each_outcome [] [] h all = tt
   each_outcome (x ∷ xs) (y ∷ ys) h all =

@@ -7,4 +7,4 @@ pub use Rattle.lite_base.specs.Future.Together.{Together}
 pub use Rattle.lite_base.specs.Future.Picks.{Picks}
 pub use Rattle.lite_laws.specs.Both.{OneValue}
 -- what a budget of polls makes of a future's results
-pub use Rattle.lite_base.specs.Future.PollLimited.{BudgetsPolls, SpendsPolls}
+pub use Rattle.lite_base.specs.Future.PollLimited.{LimitsPolls, SpendsPolls}

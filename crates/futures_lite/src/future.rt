@@ -470,7 +470,7 @@ pub trait FutureExt: Future {
     /// first poll, and this future is not polled.
     ///
     /// Do not poll the future after its value. A future that nothing wakes is polled once by `block_on`, so it
-    /// does not come to the end of a larger budget.
+    /// does not reach a higher limit.
     ///
     /// # Examples
     ///

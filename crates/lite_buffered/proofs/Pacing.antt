@@ -25,18 +25,18 @@ paced_moved budget left (b ∷ buf) [] fits some room =
     inr (λ none. omega (arith, none, some), [], refl, (refl, rw whole refl))
 
 -- the first n of the bytes that are lent, up to what is left of the budget, are consumed
-module _ (left n : ℕ) (buffer_of : List ℕ) (fits : n ≤ length (take left buffer_of)) where
-  pub consumed_bytes : (budget : ℕ) → (take n (take left buffer_of) ≡ take n buffer_of)
-      × PacesMarks (budget, left) (bytes (take n buffer_of)) (bytes (take n buffer_of)) (budget, left - n)
+module _ (left n : ℕ) (shown : List ℕ) (fits : n ≤ length (take left shown)) where
+  pub consumed_bytes : (budget : ℕ) → (take n (take left shown) ≡ take n shown)
+      × PacesMarks (budget, left) (bytes (take n shown)) (bytes (take n shown)) (budget, left - n)
   consumed_bytes budget =
-      let within : n ≤ length buffer_of = omega (arith, fits, length-take left buffer_of) in
-      let len : length (take n buffer_of) ≡ n = length-take-le n buffer_of within in (
+      let within : n ≤ length shown = omega (arith, fits, length-take left shown) in
+      let len : length (take n shown) ≡ n = length-take-le n shown within in (
         grind (arith, take-take, length-take),
-        subst (λ k. PacesMarks (budget, left) (bytes (take n buffer_of)) (bytes (take n buffer_of)) (budget, left - k)) len
-            (paced_bytes budget left (take n buffer_of) (omega (arith, len, fits, length-take left buffer_of))),
+        subst (λ k. PacesMarks (budget, left) (bytes (take n shown)) (bytes (take n shown)) (budget, left - k)) len
+            (paced_bytes budget left (take n shown) (omega (arith, len, fits, length-take left shown))),
       )
 
-  pub consumed_rest : take (left - n) (drop n buffer_of) ≡ drop n (take left buffer_of)
+  pub consumed_rest : take (left - n) (drop n shown) ≡ drop n (take left shown)
   consumed_rest =
-      let whole : n + (left - n) ≡ left = omega (arith, fits, length-take left buffer_of) in
-      sym (drop-take n (left - n) buffer_of) ∙ ap (λ k. drop n (take k buffer_of)) whole
+      let whole : n + (left - n) ≡ left = omega (arith, fits, length-take left shown) in
+      sym (drop-take n (left - n) shown) ∙ ap (λ k. drop n (take k shown)) whole

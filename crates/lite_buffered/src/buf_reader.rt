@@ -652,14 +652,10 @@ impl<R: AsyncSeek> BufReader<R> {
         ensures context { Keeps cx.old cx.new }
     {
         let ahead = self.offset_ahead();
-        if let Some(less) = offset.checked_sub(bytes_ahead) {
+        if let Some(less) = offset.checked_sub(ahead) {
             return self.seek_once(cx, SeekFrom::Current(less));
         }
-        self.seek_twice(
-            cx,
-            SeekFrom::Current(-bytes_ahead),
-            SeekFrom::Current(offset),
-        )
+        self.seek_twice(cx, SeekFrom::Current(-ahead), SeekFrom::Current(offset))
     }
 
     // Seeks the inner reader, and once more if that succeeds.

@@ -51,8 +51,8 @@ pub fn inner_streams_agree(drained: &Drain<'_, Once<Once<u8>>>) {
     let (outer, byte) = (once(once(1u8)), 2u8);
     inner_streams_are_alike(&outer, &outer);
     inner_streams_are_calm(&outer, drained);
-    let buffer_of = once(&byte);
-    clones_have_marks(&buffer_of, &buffer_of);
+    let lent = once(&byte);
+    clones_have_marks(&lent, &lent);
 }
 
 /// A closure that is polled answers the same each time, without a pending; and those that unfold make the same futures.

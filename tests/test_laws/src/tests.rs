@@ -1,2 +1,2 @@
 mod journals;
-mod marks;
+mod properties;

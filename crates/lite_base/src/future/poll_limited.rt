@@ -1,13 +1,13 @@
 //! A future that is polled a limited number of times.
 ghost use Rattle.std.specs.Prelude.{◌<◌, ⊤};
 ghost use Rattle.lite_base.specs.Uses.{Lasting};
-ghost use Rattle.lite_base.specs.Future.PollLimited.{BudgetsPolls};
-ghost use Rattle.lite_base.specs.Laws.Future.PollLimited.{budgets_calm, budgets_laws};
+ghost use Rattle.lite_base.specs.Future.PollLimited.{LimitsPolls};
+ghost use Rattle.lite_base.specs.Laws.Future.PollLimited.{limits_calm, limits_laws};
 
 use super::{CalmFuture, Future};
 use crate::{Context, Poll};
 
-/// A future was polled as often as its budget allows, and has no value.
+/// A future was polled as often as its limit allows, and has no value.
 ///
 /// # Examples
 ///
@@ -36,11 +36,11 @@ impl<F: Future> Future for PollLimited<F> {
 
     ghost can_poll = { λ x. 0 < x.left → F.can_poll x.inner };
 
-    ghost run = { BudgetsPolls F.run };
+    ghost run = { LimitsPolls F.run };
 
     ghost registers = { λ x. F.registers x.inner };
 
-    ghost laws = { budgets_laws F.laws };
+    ghost laws = { limits_laws F.laws };
 
     fn poll(&mut self, cx: &mut Context<'_>) -> Poll<Self::Output> {
         if self.left == 0 {
@@ -62,10 +62,10 @@ impl<F: Future> Future for PollLimited<F> {
 impl<F: CalmFuture> CalmFuture for PollLimited<F> {
     ghost is_calm = { λ x. F.is_calm x.inner };
 
-    ghost calm = { budgets_calm F.calm };
+    ghost calm = { limits_calm F.calm };
 }
 
-/// States what a future with a budget has registered.
-pub fn tells_of_budgeted<F: Future>(poll_limited: &PollLimited<F>)
+/// States what a future with a limit of polls has registered.
+pub fn tells_of_poll_limited<F: Future>(poll_limited: &PollLimited<F>)
     ensures { (fact : Lasting) → F.registers poll_limited.now.inner fact → ⟦<PollLimited<F> as Future>⟧.registers poll_limited.now fact }
 {}

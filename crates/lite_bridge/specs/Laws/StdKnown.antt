@@ -218,7 +218,7 @@ pub seek_moves : (p q s : Option ℕ) (x y z : Option (List ℕ)) (to : SeekFrom
     → Keeps y z → MovesKnown p s x z to (by_kind (Ready r))
 seek_moves (Some at) q s x y z to (Ok n) stays k h l =
     let moved = rw stays at h in
-    ((target_kept at x y to n k moved_marks.0, moved_marks.1), keeps_trans x y z k l)
+    ((target_kept at x y to n k moved.0, moved.1), keeps_trans x y z k l)
 seek_moves (Some at) q s x y z to (Err e) stays k h l =
     (rw stays at h, keeps_trans x y z k l)
 seek_moves None q s x y z to (Ok n) stays k h l = (tt, keeps_trans x y z k l)

@@ -9,15 +9,15 @@ use Rattle.lite_buffered.specs.Budgeted.{left_behind_mark, left_noted, lent_note
 use Rattle.lite_buffered.specs.declared.budgeted.Budgeted.{Budgeted}
 
 -- The bytes that may be shown of the inner reader's are the first to be passed on.
-paced_shows : (p q : ℕ × ℕ) (buffer_of : List ℕ) (i o : List ReadMark) → PacesMarks p i o q → Comparable (bytes buffer_of) i
-    → Comparable (bytes (take p.1 buffer_of)) o
-paced_shows (budget, suc n) q (b ∷ buffer_of) i (m ∷ o) (inl h) c = absurd (omega (arith, h.0))
-paced_shows (budget, suc n) q (b ∷ buffer_of) i (m ∷ o) (inr h) c =
+paced_shows : (p q : ℕ × ℕ) (shown : List ℕ) (i o : List ReadMark) → PacesMarks p i o q → Comparable (bytes shown) i
+    → Comparable (bytes (take p.1 shown)) o
+paced_shows (budget, suc n) q (b ∷ shown) i (m ∷ o) (inl h) c = absurd (omega (arith, h.0))
+paced_shows (budget, suc n) q (b ∷ shown) i (m ∷ o) (inr h) c =
     let e = rw h.2 at c in
     let one : suc n - 1 ≡ n = omega arith in
     let rest = subst (λ a. PacesMarks (budget, left_behind_mark budget a (suc n)) h.1 o q) (sym e.0) h.3 in
-    (e.0, paced_shows (budget, n) q buffer_of h.1 o (subst (λ k. PacesMarks (budget, k) h.1 o q) one rest) e.1)
-paced_shows p q buffer_of i o h c = tt
+    (e.0, paced_shows (budget, n) q shown h.1 o (subst (λ k. PacesMarks (budget, k) h.1 o q) one rest) e.1)
+paced_shows p q shown i o h c = tt
 
 -- Marks of only bytes and errors use as much of the budget.
 paced_falls : (p q : ℕ × ℕ) (i o : List ReadMark) → PacesMarks p i o q → AllGiven o → q.1 + length o ≡ p.1

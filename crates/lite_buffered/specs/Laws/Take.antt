@@ -30,14 +30,14 @@ ends_gone c [] h g = refl
 ends_gone c (e ∷ l) h g = absurd (subst (λ m. AllGiven (m ∷ [])) h.1 (g.0, tt)).0
 
 -- Bytes shown of the inner reader's agree with its marks through the limit and the ends behind them.
-fits_show : (limit rest : ℕ) (buffer_of : List ℕ) (front ends : List ReadMark) → WithinLimit limit front rest
-    → LimitEnds rest ends → Comparable (bytes buffer_of) front → Comparable (bytes (take limit buffer_of)) (front ++ ends)
-fits_show limit rest buffer_of [] [] f e h = comparable_none (bytes _)
-fits_show limit rest buffer_of [] (m ∷ ends) f e h = let none : limit ≡ 0 = omega (arith, f, e.0) in rw none tt
-fits_show zero rest buffer_of (m ∷ front) ends f e h = absurd f
+fits_show : (limit rest : ℕ) (shown : List ℕ) (front ends : List ReadMark) → WithinLimit limit front rest
+    → LimitEnds rest ends → Comparable (bytes shown) front → Comparable (bytes (take limit shown)) (front ++ ends)
+fits_show limit rest shown [] [] f e h = comparable_none (bytes _)
+fits_show limit rest shown [] (m ∷ ends) f e h = let none : limit ≡ 0 = omega (arith, f, e.0) in rw none tt
+fits_show zero rest shown (m ∷ front) ends f e h = absurd f
 fits_show (suc n) rest [] (m ∷ front) ends f e h = tt
-fits_show (suc n) rest (b ∷ buffer_of) (ReadMark.byte c ∷ front) ends f e h = (h.0, fits_show n rest buffer_of front ends f e h.1)
-fits_show (suc n) rest (b ∷ buffer_of) (m ∷ front) ends f e h = absurd (cc h.0)
+fits_show (suc n) rest (b ∷ shown) (ReadMark.byte c ∷ front) ends f e h = (h.0, fits_show n rest shown front ends f e h.1)
+fits_show (suc n) rest (b ∷ shown) (m ∷ front) ends f e h = absurd (cc h.0)
 
 module _ {R : Type 0} {reads : Runs ReadMark R} where
   still : (x y z : Take R) (l m : List ReadMark) → ReadsWithin reads x l y → ReadsWithin reads y m z → x.limit ≡ 0 → z ≡ x

@@ -3,7 +3,7 @@ use Rattle.std.specs.Prelude.{◌≡◌, ◌≤◌, ◌<◌, ◌-◌, ℕ, zero,
 use Rattle.lite_base.specs.Uses.{arith, Pending, Poll, Ready}
 use Rattle.lite_base.specs.Answers.{Waiting, strip}
 use Rattle.lite_base.specs.Calm.{CalmLaws, NoPending}
-use Rattle.lite_base.specs.Future.PollLimited.{BudgetsPolls, SpendsPolls}
+use Rattle.lite_base.specs.Future.PollLimited.{LimitsPolls, SpendsPolls}
 use Rattle.lite_base.specs.FutureLaws.{FutureLaws, WaitsOn}
 use Rattle.lite_base.specs.Runs.{Runs}
 use Rattle.lite_base.specs.declared.future.poll_limited.PollLimited.{PollLimited}
@@ -62,36 +62,36 @@ module _ {F A : Type 0} {run : Runs (Poll A) F} where
   spent_on on f g w c came (SpendsPolls.value n v) some = absurd w
 
   -- The inner future may be polled while a poll is left.
-  budgets_on : {can_poll : F → Type 0} → WaitsOn can_poll run
-      → WaitsOn (λ (x : PollLimited F). 0 < x.left → can_poll x.inner) (BudgetsPolls run)
-  budgets_on on x y l w c h = spent_on on x.inner y.inner w c h.1 h.2
+  limits_on : {can_poll : F → Type 0} → WaitsOn can_poll run
+      → WaitsOn (λ (x : PollLimited F). 0 < x.left → can_poll x.inner) (LimitsPolls run)
+  limits_on on x y l w c h = spent_on on x.inner y.inner w c h.1 h.2
 
-  pub budgets_calm : {is_calm : F → Type 0} → CalmLaws run is_calm → CalmLaws (BudgetsPolls run) (λ x. is_calm x.inner)
-  budgets_calm c =
+  pub limits_calm : {is_calm : F → Type 0} → CalmLaws run is_calm → CalmLaws (LimitsPolls run) (λ x. is_calm x.inner)
+  limits_calm c =
       record {
         no_pending = λ x y l k h. spent_calm h.2 (c.no_pending x.inner y.inner h.0 k h.1);
         calm_on = λ x y l k h. c.calm_on x.inner y.inner h.0 k h.1;
       }
 
 module _ {F A : Type 0} {can_poll : F → Type 0} {run : Runs (Poll A) F} (laws : FutureLaws can_poll run) where
-  budget_stays : (x y : PollLimited F) → BudgetsPolls run x [] y → y ≡ x
-  budget_stays x y h =
+  limit_stays : (x y : PollLimited F) → LimitsPolls run x [] y → y ≡ x
+  limit_stays x y h =
       let none = nothing_spent h.2 refl in
       let inner = laws.stays x.inner y.inner (rw none.0 at h.1) in
       rw (inner, none.1) refl
 
-  pub budgets_laws : FutureLaws (λ x. 0 < x.left → can_poll x.inner) (BudgetsPolls run)
-  budgets_laws =
+  pub limits_laws : FutureLaws (λ x. 0 < x.left → can_poll x.inner) (LimitsPolls run)
+  limits_laws =
       record {
         rests = λ x. ([], laws.rests x.inner, SpendsPolls.nothing x.left);
-        stays = budget_stays;
+        stays = limit_stays;
         follows = λ x y z l m w h k. (
           h.0 ++ k.0,
           laws.follows x.inner y.inner z.inner h.0 k.0 (waiting_in h.2 w) h.1 k.1,
           spent_both h.2 w k.2,
         );
         once = λ x y l h. spent_once h.2;
-        waits_on = budgets_on laws.waits_on;
+        waits_on = limits_on laws.waits_on;
       }
 
 -- What one poll makes.

@@ -6,5 +6,5 @@ pub returns-clause-read : goal.returns-clause-read
 returns-clause-read g c =
     let begins = c.read_to_end.ensures in
     let waited = c.wait_for.ensures in
-    let buffer_of = lent_on g.T.ReadSpec.reads _ _ _ _ _ begins (waited.gave, waited.unchanged) in
+    let lends = lent_on g.T.ReadSpec.reads _ _ _ _ _ begins (waited.gave, waited.unchanged) in
     read_up g.T.ReadSpec.reads _ _ _ _ _ begins (waited.gave, waited.unchanged) _ _ (search rules) (search rules)

@@ -7,6 +7,6 @@ returns g c =
     let w = c.wait_for.ensures in
     let begun = ap (λ z. z.filled) c.read_exact.ensures in
     let h = rw c.read_exact.ensures at (exact_waited g.T.ReadSpec.read_laws _ _ _ begun (w.gave, w.unchanged)) in
-    let buffer_of = h.1 in
+    let lends = h.1 in
     let told = told_at (ToldByExact g.T.ReadSpec.reads _ _ _) (search rules) (search rules) h.0 in
     record { told = told.0; room = told.1; waited = w.waited }

@@ -6,15 +6,15 @@ use Rattle.lite_buffered.proofs.budgeted.BudgetedAsyncBufRead.consume.Goals as g
 pub returns-clause-ran : goal.returns-clause-ran
 returns-clause-ran g c =
     let n = c.args.amount in
-    let buffer_of = g.R.AsyncBufRead.buffer_of c.args.self.now.reader in
-    let fits : n ≤ length (take c.in-Some.left buffer_of) = rw c.in-Some.is at c.requires in
-    let s = consumed_bytes c.in-Some.left n buffer_of fits c.args.self.now.budget in
-    rw (c.in-Some.is, s.0) (record { came = bytes (take n buffer_of); ran = c.consume.ensures.ran; paced = s.1 })
+    let shown = g.R.AsyncBufRead.buffer_of c.args.self.now.reader in
+    let fits : n ≤ length (take c.in-Some.left shown) = rw c.in-Some.is at c.requires in
+    let s = consumed_bytes c.in-Some.left n shown fits c.args.self.now.budget in
+    rw (c.in-Some.is, s.0) (record { came = bytes (take n shown); ran = c.consume.ensures.ran; paced = s.1 })
 
 pub returns-clause-rest : goal.returns-clause-rest
 returns-clause-rest g c =
     let n = c.args.amount in
     let left = c.in-Some.left in
-    let buffer_of = g.R.AsyncBufRead.buffer_of c.args.self.now.reader in
-    let fits : n ≤ length (take left buffer_of) = rw c.in-Some.is at c.requires in
-    rw c.in-Some.is (ap (take (left - n)) c.consume.ensures.rest ∙ consumed_rest left n buffer_of fits)
+    let shown = g.R.AsyncBufRead.buffer_of c.args.self.now.reader in
+    let fits : n ≤ length (take left shown) = rw c.in-Some.is at c.requires in
+    rw c.in-Some.is (ap (take (left - n)) c.consume.ensures.rest ∙ consumed_rest left n shown fits)

@@ -6,8 +6,8 @@ use Rattle.lite_buffered.proofs.buf_reader.BufReader.seek_on.Goals as goal
 
 pub returns-clause-sought : goal.returns-clause-sought
 returns-clause-sought g c =
-    let ahead_is = c.offset_ahead-bytes_ahead.ensures in
-    let count = to_z_known c.offset_ahead-bytes_ahead.result _ ahead_is.count ahead_is.small in
+    let ahead_is = c.offset_ahead-ahead.ensures in
+    let count = to_z_known c.offset_ahead-ahead.result _ ahead_is.count ahead_is.small in
     let same = to_z_offset c.args.offset (search rules) in
     let far = rw (same, count) at c.in_default.ensures in
     let back = to_z_back (length (bytes_ahead c.args.self.now)) ahead_is.small in

@@ -8,19 +8,19 @@ pub returns-clause-ran : goal.returns-clause-ran
 returns-clause-ran g c =
     let n = c.args.amount in
     let limit = c.args.self.now.limit in
-    let buffer_of = g.R.AsyncBufRead.buffer_of c.args.self.now.inner in
-    let fits : n ≤ limit = omega (arith, c.requires, length-take limit buffer_of) in
-    let within : n ≤ length buffer_of = omega (arith, c.requires, length-take limit buffer_of) in
-    let same : take n (take limit buffer_of) ≡ take n buffer_of = grind (arith, take-take) in
-    let len : length (take n buffer_of) ≡ n = length-take-le n buffer_of within in
+    let shown = g.R.AsyncBufRead.buffer_of c.args.self.now.inner in
+    let fits : n ≤ limit = omega (arith, c.requires, length-take limit shown) in
+    let within : n ≤ length shown = omega (arith, c.requires, length-take limit shown) in
+    let same : take n (take limit shown) ≡ take n shown = grind (arith, take-take) in
+    let len : length (take n shown) ≡ n = length-take-le n shown within in
     rw same
     (record {
-      front = bytes (take n buffer_of);
+      front = bytes (take n shown);
       ends = [];
-      cut = sym (append-nil (bytes (take n buffer_of)));
+      cut = sym (append-nil (bytes (take n shown)));
       ran = c.consume.ensures.ran;
-      fits = subst (λ k. WithinLimit limit (bytes (take n buffer_of)) (limit - k)) len
-          (fits_bytes limit (take n buffer_of) (omega (arith, len)));
+      fits = subst (λ k. WithinLimit limit (bytes (take n shown)) (limit - k)) len
+          (fits_bytes limit (take n shown) (omega (arith, len)));
       used_up = tt;
       still = λ none. absurd (omega (arith, none, fits, c.if-amount-eq0.false));
     })
@@ -29,7 +29,7 @@ pub returns-clause-rest : goal.returns-clause-rest
 returns-clause-rest g c =
     let n = c.args.amount in
     let limit = c.args.self.now.limit in
-    let buffer_of = g.R.AsyncBufRead.buffer_of c.args.self.now.inner in
-    let whole : n + (limit - n) ≡ limit = omega (arith, c.requires, length-take limit buffer_of) in
-    ap (take (limit - n)) c.consume.ensures.rest ∙ sym (drop-take n (limit - n) buffer_of)
-    ∙ ap (λ k. drop n (take k buffer_of)) whole
+    let shown = g.R.AsyncBufRead.buffer_of c.args.self.now.inner in
+    let whole : n + (limit - n) ≡ limit = omega (arith, c.requires, length-take limit shown) in
+    ap (take (limit - n)) c.consume.ensures.rest ∙ sym (drop-take n (limit - n) shown)
+    ∙ ap (λ k. drop n (take k shown)) whole
