@@ -12,6 +12,7 @@ import speed
 import vocabulary
 from reference import Reference
 from repository import TOP, files_of, read_text
+from words import WRITTEN
 
 # The folders in which every file is generated.
 WHOLE = ("docs/api", "docs/pictures", *(f"crates/{it}/src" for it in examples.PROVED.values()))
@@ -22,18 +23,25 @@ def files():
     yield from Reference().pages()
     yield speed.PLOT, speed.plot()
     yield pictures.FILE, pictures.by_item()[pictures.SHOWN].svg()
-    yield vocabulary.PAGE, vocabulary.glossary()
     yield original_examples.PAGE, original_examples.page()
     for file, text in examples.proofs().items():
         yield f"crates/{file}", text
     parts_of = {
         originals.PAGE: {**originals.tables(), **originals.added()},
         properties.PAGE: properties.tables(),
+        vocabulary.PAGE: vocabulary.list_of_calls(),
         speed.PAGE: {"speed": speed.table()},
         lookup.EXAMPLE_PAGE: {"find": lookup.example()},
     }
     for page, parts in parts_of.items():
         yield page, markers.filled(read_text(f"{TOP}/{page}"), parts)
+
+
+def word_counts(pages):
+    """Returns how many words of these pages tools write, and how many a hand wrote, its code left out."""
+    texts = [read_text(f"{TOP}/{it}") for it in pages]
+    parts = [("", it) if it.startswith(WRITTEN) else (markers.outside(it), markers.inside(it)) for it in texts]
+    return sum(len(it.split()) for _, it in parts), sum(len(markers.without_code(it).split()) for it, _ in parts)
 
 
 def faults():
