@@ -1,5 +1,6 @@
 """The files that are generated, whole or in part."""
 import os
+import re
 
 import examples
 import lookup
@@ -37,11 +38,16 @@ def files():
         yield page, markers.filled(read_text(f"{TOP}/{page}"), parts)
 
 
+def count_words(text):
+    """Returns how many words a text has: a word has a letter or a digit, so the bars of a table are none."""
+    return sum(bool(re.search(r"\w", it)) for it in text.split())
+
+
 def word_counts(pages):
     """Returns how many words of these pages tools write, and how many a hand wrote, its code left out."""
     texts = [read_text(f"{TOP}/{it}") for it in pages]
     parts = [("", it) if it.startswith(WRITTEN) else (markers.outside(it), markers.inside(it)) for it in texts]
-    return sum(len(it.split()) for _, it in parts), sum(len(markers.without_code(it).split()) for it, _ in parts)
+    return sum(count_words(it) for _, it in parts), sum(count_words(markers.without_code(it)) for it, _ in parts)
 
 
 def faults():
