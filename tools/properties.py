@@ -59,5 +59,5 @@ def tables():
         there = of_kind(kind)
         lacks = {it: [f"`{name}`" for name, has in there.items() if it not in has] for it in PROPERTIES[kind]}
         lines = [f"- `{it}`: all but {', '.join(names)}." for it, names in lacks.items()]
-        found[kind] = "\n".join(["", "", wrapped(", ".join(f"`{name}`" for name in there) + "."), "", *(wrapped(it, "  ") for it in lines), "", ""])
+        found[kind] = "\n".join(["", "", wrapped(f"Types: {', '.join(f'`{name}`' for name in there)}."), "", *(wrapped(it, "  ") for it in lines), "", ""])
     return found
