@@ -50,6 +50,12 @@ def word_counts(pages):
     return sum(count_words(it) for _, it in parts), sum(count_words(markers.without_code(it)) for it, _ in parts)
 
 
+def stale(there):
+    """Yields each file of the folders in which every file is generated that is not one of these."""
+    for folder in WHOLE:
+        yield from (path for path in (f"{folder}/{file}" for file in files_of(f"{TOP}/{folder}")) if path not in there)
+
+
 def faults():
     """Yields each file that is not what it has to be, each in the folders that nothing writes, and what docs/api does not explain."""
     yield from Reference().faults()
@@ -57,7 +63,5 @@ def faults():
     for path, text in there.items():
         if not os.path.isfile(f"{TOP}/{path}") or read_text(f"{TOP}/{path}") != text:
             yield path, "it is not what tools/documents writes"
-    for folder in WHOLE:
-        for file in files_of(f"{TOP}/{folder}"):
-            if f"{folder}/{file}" not in there:
-                yield f"{folder}/{file}", "tools/documents writes no such file"
+    for path in stale(there):
+        yield path, "tools/documents writes no such file"
