@@ -1,5 +1,5 @@
 //! A word and its count as a line.
-ghost use Rattle.std.specs.Prelude.{◌≡◌, ◌∷◌, ◌++◌, ◌<◌, [], IfOk, IfSome, OnOk, decimal};
+ghost use Rattle.std.specs.Prelude.{◌≡◌, ◌≢◌, ◌∷◌, ◌++◌, ◌<◌, [], IfOk, IfSome, List, MatchOption, OnOk, decimal, ℕ};
 ghost use Rattle.example_words.specs.Records.{record_line};
 
 use crate::fault::LineError;
@@ -50,7 +50,7 @@ pub fn parse_record(line: &[u8]) -> Result<Record<'_>, LineError>
 
 // Returns what is before the newline at the end of the line.
 fn without_newline(line: &[u8]) -> Option<&[u8]>
-    ensures { IfSome result (λ front. line.now ≡ front.now ++ 10 ∷ []) }
+    ensures { MatchOption result ((front : List ℕ) → line.now ≢ front ++ 10 ∷ []) (λ front. line.now ≡ front.now ++ 10 ∷ []) }
 {
     line.strip_suffix(b"\n")
 }
