@@ -56,11 +56,11 @@ fn without_newline(line: &[u8]) -> Option<&[u8]>
 }
 
 // Returns what is before the first tab, and what is behind it.
-fn split_at_tab(record: &[u8]) -> Option<(&[u8], &[u8])>
-    ensures { IfSome result (λ r. record.now ≡ r.0.now ++ 9 ∷ r.1.now) }
+fn split_at_tab(text: &[u8]) -> Option<(&[u8], &[u8])>
+    ensures { IfSome result (λ r. text.now ≡ r.0.now ++ 9 ∷ r.1.now) }
 {
-    let tab = record.iter().position(|byte| *byte == b'\t')?;
-    Some((&record[..tab], &record[tab + 1..]))
+    let tab = text.iter().position(|byte| *byte == b'\t')?;
+    Some((&text[..tab], &text[tab + 1..]))
 }
 
 // Returns the count that these digits are, if it is written as `push_record` writes it, and not 0.
