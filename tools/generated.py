@@ -1,5 +1,6 @@
 """The files that are generated, whole or in part."""
 import os
+import re
 
 import examples
 import lookup
@@ -12,6 +13,7 @@ import speed
 import vocabulary
 from reference import Reference
 from repository import TOP, files_of, read_text
+from words import WRITTEN
 
 # The folders in which every file is generated.
 WHOLE = ("docs/api", "docs/pictures", *(f"crates/{it}/src" for it in examples.PROVED.values()))
@@ -22,18 +24,30 @@ def files():
     yield from Reference().pages()
     yield speed.PLOT, speed.plot()
     yield pictures.FILE, pictures.by_item()[pictures.SHOWN].svg()
-    yield vocabulary.PAGE, vocabulary.glossary()
     yield original_examples.PAGE, original_examples.page()
     for file, text in examples.proofs().items():
         yield f"crates/{file}", text
     parts_of = {
         originals.PAGE: {**originals.tables(), **originals.added()},
         properties.PAGE: properties.tables(),
+        vocabulary.PAGE: vocabulary.list_of_calls(),
         speed.PAGE: {"speed": speed.table()},
         lookup.EXAMPLE_PAGE: {"find": lookup.example()},
     }
     for page, parts in parts_of.items():
         yield page, markers.filled(read_text(f"{TOP}/{page}"), parts)
+
+
+def count_words(text):
+    """Returns how many words a text has: a word has a letter or a digit, so the bars of a table are none."""
+    return sum(bool(re.search(r"\w", it)) for it in text.split())
+
+
+def word_counts(pages):
+    """Returns how many words of these pages tools write, and how many a hand wrote, its code left out."""
+    texts = [read_text(f"{TOP}/{it}") for it in pages]
+    parts = [("", it) if it.startswith(WRITTEN) else (markers.outside(it), markers.inside(it)) for it in texts]
+    return sum(count_words(it) for _, it in parts), sum(count_words(markers.without_code(it)) for it, _ in parts)
 
 
 def faults():

@@ -5,6 +5,7 @@ import unittest.mock
 
 import contracts
 import examples
+import see_also
 import words
 from reference import Reference
 from sources import Sources
@@ -252,7 +253,7 @@ class TwoModules(unittest.TestCase):
         self.assertIn("The future of either. Returned by [`or`](#fn-or).", self.entry("future", "struct `Or`"))
 
     def test_a_type_names_the_fields_that_contracts_name(self):
-        self.assertIn("Fields that contracts name: `first: S`.", self.entry("stream", "struct `Or`"))
+        self.assertIn("Fields in contracts: `first: S`.", self.entry("stream", "struct `Or`"))
 
     def test_the_public_fields_of_a_struct_are_shown(self):
         told = self.entry("stream", "struct `Consume`")
@@ -264,18 +265,18 @@ class TwoModules(unittest.TestCase):
         self.assertEqual(told, ["`future::stray` fits no group of docs/api (GROUPS in tools/reference.py)"])
 
     def test_a_type_with_a_model_names_the_fields_of_the_model(self):
-        self.assertIn("Fields that contracts name: `calls: ℕ`, `bytes: ℕ`, `made: List Note`. They are those of", self.entry("future", "struct `Or`"))
+        self.assertIn("Fields in contracts: `calls: ℕ`, `bytes: ℕ`, `made: List Note`. They are those of", self.entry("future", "struct `Or`"))
 
     def test_an_alias_names_the_fields_that_contracts_name(self):
-        self.assertIn("Fields that contracts name: `folder: Count<u8>`, `stream: S`, `count: N` of its `Count`.", self.entry("stream", "type `CountFuture`"))
+        self.assertIn("Fields in contracts: `folder: Count<u8>`, `stream: S`, `count: N` of its `Count`.", self.entry("stream", "type `CountFuture`"))
 
     def test_an_entry_names_the_fields_that_no_entry_of_the_page_names(self):
         self.assertIn("Field in this contract: `count: N` of `Count`.", self.entry("stream", "fn `count`"))
         self.assertNotIn("in this contract", self.entry("stream", "method `Or::or`"))
 
     def test_a_mark_stands_with_the_bounds_of_its_impl_in_the_entry_of_the_type(self):
-        self.assertIn("each with its impl:\n\n- `Counted`: `impl<S: Counted, T> Counted for Or<S, T>`\n", self.entry("stream", "struct `Or`"))
-        self.assertIn("Type of the result, with its properties: [`Or`](#struct-or).", self.entry("future", "fn `or`"))
+        self.assertIn("Properties:\n\n- `impl<S: Counted, T> Counted for Or<S, T>`\n", self.entry("stream", "struct `Or`"))
+        self.assertIn("Result: [`Or`](#struct-or).", self.entry("future", "fn `or`"))
 
     def test_a_mark_of_the_tables_without_an_impl_is_named(self):
         told = [what for _, what in Reference(self.sources).faults()]
@@ -283,7 +284,7 @@ class TwoModules(unittest.TestCase):
         self.assertNotIn("the impl of Counted for `stream::Or` is not found", told)
 
     def test_a_method_that_returns_its_own_type_has_a_link_to_it(self):
-        self.assertIn("Type of the result: [`Or`](#struct-or).", self.entry("stream", "method `Or::or`"))
+        self.assertIn("Result: [`Or`](#struct-or).", self.entry("stream", "method `Or::or`"))
 
     def test_a_type_has_links_to_the_laws_that_name_it(self):
         self.assertIn("\nMore is proved by [`laws::collect_or`](../laws/collect_or.md#fn-collect_or).\n", self.entry("stream", "struct `Or`"))
@@ -292,6 +293,7 @@ class TwoModules(unittest.TestCase):
     def test_a_link_leads_to_the_page_that_has_the_item(self):
         self.assertIn("an [`or`](#fn-or). It needs no [`Other`](../future/other.md#trait-other).", self.entry("stream", "method `Or::first`"))
         self.assertIn("In the signature: [`future::Other`](../future/other.md#trait-other).", self.entry("stream", "fn `or`"))
+        self.assertNotIn("In the signature", self.entry("stream", "method `Or::first`"))
         self.assertNotIn("In the signature", self.entry("future", "fn `or`"))
 
     def test_a_page_has_a_call_and_the_type_that_it_returns(self):
@@ -311,14 +313,43 @@ class TwoModules(unittest.TestCase):
             self.assertIn(link, told)
         self.assertNotIn("Or::first", told)
 
-    def test_a_definition_stands_with_its_module_and_links_to_others(self):
-        told = " ".join(self.pages["docs/api/words/lite_views.md"].partition("\n### `ListsAs`\n")[2].split())
+    def test_a_definition_that_pages_share_stands_with_its_module_and_links_to_others(self):
+        every = Reference(self.sources).every
+        word = next(it for it in every.values() if it.name == "ListsAs")
+        pages = dict(Words(every, {"a.md": [word], "b.md": [word]}, {}).pages())
+        told = " ".join(pages["docs/api/words/lite_views.md"].partition("\n### `ListsAs`\n")[2].split())
         self.assertTrue(told.startswith("(`Lists`) The items of `s` are `xs`, as [`Lists`](#lists) says it:"))
+
+    def test_a_definition_that_one_page_needs_stands_on_that_page_alone(self):
+        word = Word("Reading", "lite_read", "Texts", "It says.")
+        pages = Words({("lite_read", "Texts", "Reading"): word}, {"docs/api/io/a.md": [word, word]}, {})
+        self.assertTrue(pages.is_alone(word))
+        self.assertEqual(pages.told_alone(word, "docs/api/io/a.md"), "[`Reading`](../../../crates/lite_read/specs/Texts.antt): It says.")
+        self.assertNotIn("docs/api/words/lite_read.md", dict(pages.pages()))
+
+    def test_a_definition_that_another_names_has_a_place_to_link_to(self):
+        named, naming = Word("Named", "lite_read", "Texts", "It says."), Word("Naming", "lite_read", "Texts", "As `Named`.")
+        every = {("lite_read", "Texts", it.name): it for it in (named, naming)}
+        pages = Words(every, {"docs/api/io/a.md": [named, naming]}, {})
+        self.assertEqual([pages.is_alone(it) for it in (named, naming)], [False, True])
+        self.assertIn("As [`Named`](../words/lite_read.md#named).", pages.told_alone(naming, "docs/api/io/a.md"))
 
     def test_words_that_differ_in_their_case_have_anchors_of_their_own(self):
         every = {("lite_read", "Texts", it): Word(it, "lite_read", "Texts", "It says.") for it in ("Reading", "reading")}
-        pages = Words(every, every.values(), {})
+        pages = Words(every, {it: every.values() for it in ("a.md", "b.md")}, {})
         self.assertEqual([pages.link(it, words.STD).partition("#")[2] for it in every.values()], ["reading)", "reading-1)"])
+
+    def test_an_entry_has_the_links_of_the_list(self):
+        told = {"stream::or": ["laws::collect_or", "guide/21-codec.md", "future::or"]}
+        with unittest.mock.patch("see_also.targets", lambda: told):
+            pages = dict(Reference(self.sources).pages())
+        shown = " ".join(pages["docs/api/stream/or.md"].split())
+        codec = f"[{see_also.title_of('guide/21-codec.md')}](../../guide/21-codec.md)"
+        self.assertIn(f"See also: [`laws::collect_or`](../laws/collect_or.md#fn-collect_or), {codec}, [`future::or`](../future/or.md#fn-or).", shown)
+
+    def test_a_link_of_the_list_to_nothing_is_named(self):
+        with unittest.mock.patch("see_also.targets", lambda: {"stream::or": ["laws::none", "guide/none.md"]}):
+            self.assertEqual([what for _, what in see_also.faults({"stream::or"})], ["there is no laws::none", "there is no guide/none.md"])
 
     def test_an_index_has_each_call_with_a_sentence_and_its_type(self):
         told = self.pages["docs/api/stream/README.md"]

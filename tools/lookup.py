@@ -447,6 +447,11 @@ def examples_of(names):
         yield kind, found
 
 
+def words_in_name(name):
+    """Returns the words that a name is made of, as `Codec` and `Laws` of `CodecLaws`."""
+    return re.findall(r"[A-Z]?[a-z0-9]+|[A-Z]+(?![a-z])", name)
+
+
 def near(asked):
     """Returns names that are like the words."""
     names = {it.names[0].casefold(): it.names[0] for it in entries()}
@@ -474,8 +479,10 @@ def answer(words):
     """Returns whether an entry has the words, and the lines that tell it."""
     asked, found = " ".join(words), fitting(words)
     if not found:
-        told = ", ".join(near(asked))
-        return False, [f"nothing has {asked}{f'; names like it are {told}' if told else ''}", "`rt lemma` looks in all of std"]
+        told, parts = ", ".join(near(asked)), words_in_name(asked)
+        having = [it for _, it in fitting(parts)] if len(parts) > 1 else []
+        lines = [f"nothing has {asked}{f'; names like it are {told}' if told else ''}", "`rt lemma` looks in all of std"]
+        return False, [*lines, *listed(f"What has its parts, {' and '.join(parts)}", having, MOST_NAMED)]
     named = [(rank, it) for rank, it in found if rank < CODE]
     exact = [it for rank, it in named if rank == named[0][0] <= EXACT_FOLDED]
     whole = exact or [it for _, it in named if len(named) == 1]

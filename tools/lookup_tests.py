@@ -134,10 +134,11 @@ class LookUps(unittest.TestCase):
             for path, text in (("crates.txt", "own: futures_lite\n"), ("crates/own/specs/Kept.antt", SPEC)):
                 with open(f"{other}/{path}", "w", encoding="utf-8") as file:
                     file.write(text)
-            ran = [subprocess.run([f"{other}/tools/find", it], capture_output=True, encoding="utf-8") for it in ("IsTwice", "IsTwcie")]
-        self.assertEqual([it.returncode for it in ran], [0, 1])
+            ran = [subprocess.run([f"{other}/tools/find", it], capture_output=True, encoding="utf-8") for it in ("IsTwice", "IsTwcie", "NumberTwice")]
+        self.assertEqual([it.returncode for it in ran], [0, 1, 1])
         self.assertIn("  use Rattle.own.specs.Kept.{IsTwice}\n", ran[0].stdout)
         self.assertIn("names like it are IsTwice", ran[1].stdout)
+        self.assertIn("What has its parts, Number and Twice:\n  use Rattle.own.specs.Kept.{IsTwice}", ran[2].stdout)
 
 
 def faults():

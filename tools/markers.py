@@ -4,6 +4,24 @@ import re
 from repository import stop
 
 
+ANY = re.compile(r"<!-- begin [^>]* -->(.*?)<!-- end [^>]* -->", re.S)
+CODE = re.compile(r"^```.*?^```$", re.M | re.S)
+
+
+def inside(text):
+    """Returns the parts of a text that tools write."""
+    return "\n".join(ANY.findall(text))
+
+
+def outside(text):
+    """Returns a text without the parts that tools write."""
+    return ANY.sub("", text)
+
+
+def without_code(text):
+    return CODE.sub("", text)
+
+
 def filled(text, parts):
     """Returns a text with these parts, by the names of their markers, each of which stands in it once."""
     for name, part in parts.items():

@@ -7,6 +7,7 @@ import re
 
 from repository import TOP, read_text
 from sources import Sources
+from vocabulary import wrapped
 
 PAGE = "docs/FROM-FUTURES-LITE.md"
 LINE = re.compile(r"(?P<module>future|stream|io)::(?P<title>\w+(?:::\w+)?)(?:: (?P<note>.*))?")
@@ -30,18 +31,21 @@ def link_to(item):
     return sources().link_to(item, PAGE, f"`{item.title}`")
 
 
-def row(item, title, note):
-    """Returns a row of a table, with a link to the item's entry if it is here."""
-    return f"| `{title}` | {link_to(item) if item else '-'} | {note or ''} |"
-
-
 def tables():
-    """Returns the table of each module, by the name of its marker."""
+    """Returns of each module, by the name of its marker, the table of what differs, and the names that are as in the original."""
     found = {}
     for module, title, note in lines():
         if module:
-            found.setdefault(module, []).append(row(sources().items_of(module).get(title), title, note))
-    return {module: "\n".join(["\n\n| futures-lite | Here | What differs |", "|---|---|---|", *rows]) + "\n\n" for module, rows in found.items()}
+            item = sources().items_of(module).get(title)
+            found.setdefault(module, []).append((link_to(item) if item else f"`{title}`", note))
+    return {module: part(rows) for module, rows in found.items()}
+
+
+def part(rows):
+    """Returns the table of the names that have a note, each a link if it is here, and the names without one."""
+    told = [f"| {name} | {note} |" for name, note in rows if note]
+    same = wrapped(f"The same as there: {', '.join(name for name, note in rows if not note)}.")
+    return "\n".join(["\n\n| futures-lite | What differs |", "|---|---|", *told, "", f"{same}\n\n"])
 
 
 def added():
@@ -50,7 +54,7 @@ def added():
     found = {}
     for module in ("future", "stream", "io"):
         items = [it for title, it in sources().items_of(module).items() if not it.owner and (module, title) not in there]
-        found[f"{module} added"] = ", ".join(map(link_to, items))
+        found[f"{module} added"] = f"\n{wrapped(', '.join(map(link_to, items)))}\n"
     return found
 
 

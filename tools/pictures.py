@@ -11,7 +11,7 @@ from repository import TOP, read_text
 
 CASES = f"{TOP}/cases/pictures.txt"
 # The item of which README.md has a picture.
-SHOWN, FILE = "stream::StreamExt::zip", "docs/pictures/stream_stream_ext_zip.svg"
+SHOWN, FILE = "stream::StreamExt::filter", "docs/pictures/stream_stream_ext_filter.svg"
 # The line over a case says which item it shows, and how its nest is written as a call.
 ABOUT = re.compile(r"# (?P<item>\w+::[\w:]+): `(?P<call>.*)`")
 ANSWER = re.compile(r"(\S+?),\(((?:\d+,)*)\)")

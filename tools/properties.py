@@ -1,9 +1,10 @@
-"""Which properties each public type of the library has, read from the impls in its sources; the tables of docs/TABLES.md."""
+"""Which properties each public type of the library has, read from the impls in its sources; the lists of docs/TABLES.md."""
 import functools
 import glob
 import re
 
 from repository import FACADE, TOP, crates_in, read_text, with_below
+from vocabulary import wrapped
 
 PAGE = "docs/TABLES.md"
 # The trait that makes a type one of a kind, and the properties of that kind.
@@ -52,10 +53,11 @@ def rows(kind):
 
 
 def tables():
-    """Returns the table of each kind, by the name of its markers in the page."""
+    """Returns of each kind, by the name of its markers in the page, its types, and those that lack a property."""
     found = {}
     for kind in PROPERTIES:
-        heads, *others = rows(kind)
-        lines = [f"| {' | '.join(row)} |" for row in others]
-        found[kind] = "\n".join(["", "", f"| {' | '.join(heads)} |", "|---" * len(heads) + "|", *lines, "", ""])
+        there = of_kind(kind)
+        lacks = {it: [f"`{name}`" for name, has in there.items() if it not in has] for it in PROPERTIES[kind]}
+        lines = [f"- `{it}`: all but {', '.join(names)}." for it, names in lacks.items()]
+        found[kind] = "\n".join(["", "", wrapped(", ".join(f"`{name}`" for name in there) + "."), "", *(wrapped(it, "  ") for it in lines), "", ""])
     return found

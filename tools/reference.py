@@ -7,8 +7,9 @@ import textwrap
 
 import pictures
 import properties
+import see_also
 import words
-from contracts import IN_WORDS, clauses_of, in_a_row, sentences
+from contracts import clauses_of, in_a_row, sentences
 from examples import CLAUSES, GHOST
 from legend import FIELDS, LEGEND, NAME, PHASES, WITH_MEANING, arguments, fields, legend, members, text_of, unexplained
 from repository import FACADE, TOP, read_text, version
@@ -80,8 +81,9 @@ def laid_out(comment):
 
 
 ABOUT_MARKS = (
-    "A property is a trait that states something of a type. A type's entry has the impl of each of its properties, whose bounds the type's arguments must meet. The"
-    " entry of a property says what it means. [TABLES](../TABLES.md#which-properties-a-type-has) says more, and has the rows of std's types."
+    "`Result` names the type that a call returns. A property is a trait that states something of a type. A type's entry has the impl"
+    " of each of its properties, whose bounds the type's arguments must meet. The entry of a property says what it means, and"
+    " [TABLES](../TABLES.md#which-properties-a-type-has) which types lack it. In a table of polls `P` is `Pending`, and `E` the end of the stream."
 )
 # Words that stand in most contracts, so that no page lists them.
 IN_MOST = ("requires", "ensures", "result", "Self", "record", "entry", "old", "new", "now")
@@ -100,7 +102,8 @@ ABOUT_CONTRACTS = "\n".join(
             " clause on what is written through a reference is a sentence below the contract.",
             "A sentence under \"In words\" says what a clause says. In it, the items of a stream are those before its end, if it ends, and the value of a"
             " future is what a wait for it returns, if it returns `Ok`. `bytes` are those that a reader will give, and `kept` those that a writer keeps.",
-            "Below the entries of a page stand its words, with links to their definitions. A definition names its arguments as its own source does.",
+            "Below the entries of a page are its words. A definition that no other page needs is there in full; the others are links. A word in brackets is the"
+            f" module of `{FACADE}` from which a program imports the definition, which names its arguments as its own source does.",
         ),
     )
 )
@@ -225,23 +228,28 @@ class Reference:
 
     @functools.cached_property
     def words(self):
-        """The pages of words: the definitions that entries name, and the words that are none."""
-        found = [it for module in MODULES for item in self.shown(module) for it in self.told(item).items()]
-        others = {name: says for name, says in found if isinstance(says, str)}
-        return Words(self.every, [it for _, it in found if isinstance(it, Word)], others)
+        """The pages of words: the definitions that pages need, and the words that are none."""
+        needed, others = {}, {}
+        for module in MODULES:
+            for item in self.shown(module):
+                told = self.told(item)
+                needed.setdefault(self.sources.page_of(item, module), []).extend(it for it in told.values() if isinstance(it, Word))
+                others |= {name: says for name, says in told.items() if isinstance(says, str)}
+        return Words(self.every, needed, others)
 
     def legend_of(self, page):
-        """Yields the words of a page: definitions with their first sentences, then those that "In words" says, and the words of std and of the language."""
+        """Yields the words of a page: the definitions that it alone needs, whole, and links to the others."""
         told = dict(sorted((it for item in page.items for it in self.told(item).items()), key=lambda it: (it[0].lower(), it[0])))
-        own = [it for name, it in told.items() if isinstance(it, Word) and name not in IN_WORDS]
+        own = [it for it in told.values() if isinstance(it, Word) and self.words.is_alone(it)]
         if own:
-            yield "\n".join(bullet(f"{self.words.link(it, page.file)}: {first_sentence(it.says)}") for it in own)
+            yield "\n".join(bullet(self.words.told_alone(it, page.file)) for it in own)
         if others := [self.words.link_from(page.file, name, it) for name, it in told.items() if it and it not in own and name not in IN_MOST]:
             yield wrapped(f"{'Also ' if own else ''}{', '.join(others)}.")
 
     def faults(self):
         """Yields each word of a contract that nothing explains, each explanation that is of no word, and what an entry or an index would lack."""
         yield from self.faults_of_words()
+        yield from see_also.faults({f"{module}::{it.title}" for module in MODULES for it in self.shown(module)})
         for module in MODULES:
             for item in self.shown(module):
                 for what in self.faults_of_item(item, module):
@@ -305,10 +313,11 @@ class Reference:
         marks = {mark for rows in self.tables.values() for _, marks in rows for mark in marks}
         return {name: it for name, it in self.sources.items_of("laws").items() if name in marks}
 
-    def mark_link(self, mark, page):
-        """Returns a link from a page to the entry of a mark."""
+    def mark_link(self, mark, page, text=None):
+        """Returns a link from a page to the entry of a mark, with its name or the text."""
         items = {name: it for module in MODULES for name, it in self.sources.items_of(module).items()}
-        return mark in items and self.link_from(page, items[mark], f"`{mark}`") or f"`{mark}`"
+        shown = f"`{text or mark}`"
+        return mark in items and self.link_from(page, items[mark], shown) or shown
 
     @functools.cache
     def makers(self, item, module):
@@ -400,23 +409,21 @@ class Reference:
         """Yields a link from a call's entry to that of the type that it returns, which has the type's marks."""
         made = self.sources.made_by(item)
         if made and made.kind in ("struct", "type") and self.pages_with(made):
-            marks = ", with its properties" if self.marks_of(made) and made is not item.owner else ""
-            yield f"Type of the result{marks}: {self.link_from(page, made, f'`{made.name}`')}."
+            yield f"Result: {self.link_from(page, made, f'`{made.name}`')}."
 
     def about_marks(self, item, page):
         """Yields which marks a type may have, each with the impl."""
         marks, base = self.marks_of(item), self.based(item)
         if marks and self.pages_with(base):
-            about = page.link(INDEX, "Marks", "how-to-read-an-entry")
             links = ", ".join(self.mark_link(it, page) for it in marks)
             heads = [(mark, head) for mark in marks for head in self.heads.get((mark, base), ())]
             if base is not item:
-                yield wrapped(f"{about}: {links}, as {self.link_from(page, base, f'`{base.name}`')} has them, whose alias it is.")
+                yield wrapped(f"Properties: {links}, as {self.link_from(page, base, f'`{base.name}`')} has them.")
             elif "<" not in base.head:
-                yield wrapped(f"{about}: {links}.")
+                yield wrapped(f"Properties: {links}.")
             else:
-                yield f"{about}, each with its impl:"
-                yield "\n".join(f"- {self.mark_link(mark, page)}: `{head}`" for mark, head in heads)
+                yield "Properties:"
+                yield "\n".join(f"- {self.mark_link(mark, page, head)}" for mark, head in heads)
 
     def about_fields(self, item, page):
         """Yields the fields of a type that contracts of the module name; of a type that has a model, the model's."""
@@ -424,11 +431,11 @@ class Reference:
         if model:
             told = ", ".join(f"`{name}: {of}`" for name, of in fields_of_record(model).items())
             there = f"`{model.name}` ({page.link(model.path, model.module)})"
-            yield wrapped(f"Fields that contracts name: {told}. They are those of its model {there}: {model.says}")
+            yield wrapped(f"Fields in contracts: {told}. They are those of its model {there}: {model.says}")
             return
         told = self.fields_of_alias(item, page) if item.kind == "type" else self.fields_named(item, page.module)
         if told:
-            yield wrapped(f"Fields that contracts name: {', '.join(told)}.")
+            yield wrapped(f"Fields in contracts: {', '.join(told)}.")
 
     def fields_named(self, item, module):
         """Returns the fields of a type that contracts of a module name."""
@@ -473,10 +480,25 @@ class Reference:
 
     def about_types(self, item, page):
         """Yields links to the types and the traits on other pages that an item's signature names, but the type of its result."""
-        others = [it for it in self.named_by(item) if it not in page.items and it is not self.sources.made_by(item) and self.pages_with(it)]
-        links = [self.link_from(page, it, f"`{'' if page.module in self.pages_with(it) else f'{self.pages_with(it)[0]}::'}{it.title}`") for it in others]
+        said = (*page.items, self.sources.made_by(item), self.based(item))
+        others = [it for it in self.named_by(item) if it not in said and self.pages_with(it)]
+        comment = self.with_links(self.says_of(item, page.module), item, page)
+        links = [it for it in (self.named_link(page, it) for it in others) if it.partition("](")[2] not in comment]
         if links:
             yield wrapped(f"In the signature: {', '.join(links)}.")
+
+    def named_link(self, page, item):
+        """Returns a link from a page to an item's entry, with its title, and its module if that is another."""
+        modules = self.pages_with(item)
+        return self.link_from(page, item, f"`{'' if page.module in modules else f'{modules[0]}::'}{item.title}`")
+
+    def about_others(self, item, page):
+        """Yields links to what tools/see-also.txt names beside an item, but those to the same page."""
+        told = see_also.targets().get(f"{page.module}::{item.title}", ())
+        items = {f"{module}::{it.title}": it for module in MODULES for it in self.shown(module)}
+        links = [page.link(f"docs/{it}", see_also.title_of(it)) if see_also.is_page(it) else self.named_link(page, items[it]) for it in told if it in items or see_also.is_page(it)]
+        if links:
+            yield wrapped(f"See also: {', '.join(links)}.")
 
     def about_laws(self, item, page):
         """Yields links from a type to the calls of `laws` whose signatures name it: their contracts say more of it."""
@@ -509,20 +531,21 @@ class Reference:
         parts += [laid_out(self.with_links(self.says_of(item, page.module), item, page))] if item.says else []
         parts += self.about_result(item, page) if item.kind == "fn" else self.about_fields(item, page)
         parts += [*self.about_marks(item, page), *self.about_laws(item, page)] if item.kind != "fn" else []
+        parts += self.about_others(item, page)
         others = [self.link_from(page, it, f"`{it.name}`") for it in self.parts_of(item, page.module) if it not in page.items]
         parts += [wrapped(f"Methods: {', '.join(others)}.")] if others else []
         parts += [f"Example:\n\n{code([it], 'rust')}" for it in item.examples]
         polls = self.pictures.get(f"{page.module}::{item.title}")
-        parts += [f"Polled so (`P` is `Pending`, `E` the end of the stream):\n\n{code(polls.lines())}"] if polls else []
+        parts += [f"Polled so:\n\n{code(polls.lines())}"] if polls else []
         if clauses := clauses_of(item):
             parts += ["\n".join(["In words:\n", *map(bullet, sentences(item))])] if sentences(item) else []
             parts += [f"Contract:\n\n{code(clauses)}"]
         parts += [*self.about_borrows(item), *self.about_words(item, page)]
-        return "\n\n".join([*parts, f"Code: {page.link(item.path, item.path)}."])
+        return "\n\n".join([*parts, f"{page.link(item.path, 'Code')}."])
 
     def page(self, page):
         """Returns the text of a page."""
-        index, about = page.link(index_of(page.module), "Index"), page.link(INDEX, "How to read an entry", "how-to-read-an-entry")
+        index, about = page.link(index_of(page.module), "Index"), page.link(INDEX, "Legend", "how-to-read-an-entry")
         parts = [WRITTEN.rstrip(), f"# `{called(page.module)}`: {page.name}", f"{index}. {about}."]
         parts += [self.entry(it, page) for it in page.items]
         words = list(self.legend_of(page))

@@ -7,11 +7,13 @@ from contracts import printed
 from repository import TOP, read_text
 
 ENTRY = re.compile(r"^## (?P<kind>\w+) `(?P<title>[\w:]+)`\n(?P<text>.*?)(?=^## |\Z)", re.M | re.S)
-CODE = re.compile(r"^Code: \[(crates/[\w/.]+)\]", re.M)
+CODE = re.compile(r"^\[Code\]\((?:\.\./)+(crates/[\w/.]+)\)", re.M)
 EXAMPLE = re.compile(r"^Example:\n\n```rust\n(.*?)^```$", re.M | re.S)
 CONTRACT = re.compile(r"^Contract:\n\n```text\n(.*?)^```$", re.M | re.S)
 # A word of a page, and its definition on the page that the link leads to.
-WORD = re.compile(r"\[`(?P<name>[^`]+)`\]\((?P<file>\.\./words/(?!std\.)\w+\.md)#[^)]*\)(?::\s(?P<says>(?:.*(?:\n  .*)*)))?")
+WORD = re.compile(r"\[`(?P<name>[^`]+)`\]\((?P<file>\.\./words/(?!std\.)\w+\.md)#[^)]*\)", re.M)
+# A definition that a page tells itself, and the file that it names.
+OWN_WORD = re.compile(r"^- \[`(?P<name>[^`]+)`\]\((?:\.\./)+(?P<path>crates/[^)]*)\): (?:\(`[\w.]+`\)\s)?(?P<says>.*(?:\n  .*)*)", re.M)
 DEFINITION = re.compile(r"^### `(?P<name>[^`]+)`\n\n(?:\(`[\w.]+`\)\s)?(?P<says>.*?)\n(?=\n##|\Z)", re.M | re.S)
 # The part of a page of definitions on one file, and that file.
 PART = re.compile(r"^## `specs/.*?(?=^## |\Z)", re.M | re.S)
@@ -91,12 +93,17 @@ def definitions(text):
         yield from ((found, source["path"] if source else "") for found in DEFINITION.finditer(part))
 
 
+def is_so(found, file):
+    """Tells whether a definition stands in a file as a page tells it."""
+    spec, name = read_text(f"{TOP}/{file}") if file and os.path.isfile(f"{TOP}/{file}") else "", re.escape(found["name"])
+    above = re.search(rf"((?:^ *--.*\n)*)^ *(?:pub )?(?:abbrev|unfoldable|record|data) (?:pub )?(?:record |data )?{name}(?=[\s:({{])", spec, re.M)
+    return bool(above) and " ".join(line.lstrip(" -") for line in above[1].splitlines()) == unlinked(found["says"])
+
+
 def faults_of_words(path, text):
     """Yields each definition of a page that does not stand so in the file that the page names."""
     for found, file in definitions(text):
-        spec, name = read_text(f"{TOP}/{file}") if file and os.path.isfile(f"{TOP}/{file}") else "", re.escape(found["name"])
-        above = re.search(rf"((?:^ *--.*\n)*)^ *(?:pub )?(?:abbrev|unfoldable|record|data) (?:pub )?(?:record |data )?{name}(?=[\s:({{])", spec, re.M)
-        if not above or " ".join(line.lstrip(" -") for line in above[1].splitlines()) != unlinked(found["says"]):
+        if not is_so(found, file):
             yield path, f"{found['name']} does not stand so in the file that it names"
 
 
@@ -106,15 +113,22 @@ def faults_of_page(path, text):
     for entry in entries:
         for what in entry.faults():
             yield path, f"{entry.title}: {what}"
-    for found in WORD.finditer(text.partition("\n## Words\n")[2]):
+    yield from faults_of_legend(path, text.partition("\n## Words\n")[2], entries)
+
+
+def faults_of_legend(path, text, entries):
+    """Yields each word of a page that no entry means, and each definition that is not so."""
+    told = {it["name"]: it["path"] for it in OWN_WORD.finditer(text)}
+    for found in WORD.finditer(OWN_WORD.sub("", text)):
         file = os.path.normpath(os.path.join(os.path.dirname(path), found["file"]))
         there = read_text(f"{TOP}/{file}") if os.path.isfile(f"{TOP}/{file}") else ""
-        told = {it["name"]: (unlinked(it["says"]), source) for it, source in definitions(there)}
-        says, source = told.get(found["name"], ("", ""))
-        if not source or not any(it.means(found["name"], source) for it in entries):
-            yield path, f"the word {found['name']} is not one that a contract or an example here means"
-        elif not says.startswith(unlinked(found["says"] or "").rstrip(".:")):
-            yield path, f"the word {found['name']} is told otherwise in {file}"
+        told[found["name"]] = next((source for it, source in definitions(there) if it["name"] == found["name"]), "")
+    for name, source in told.items():
+        if not source or not any(it.means(name, source) for it in entries):
+            yield path, f"the word {name} is not one that a contract or an example here means"
+    for found in OWN_WORD.finditer(text):
+        if not is_so(found, found["path"]):
+            yield path, f"{found['name']} does not stand so in the file that it names"
 
 
 def faults():

@@ -246,7 +246,6 @@ def functions():
 
 KIND = {"Stream": "stream", "Future": "future", "Folder": "consuming", "ReadSpec": "reading", "WriteSpec": "writing", "AsyncSeek": "seeking"}
 PAGE = "docs/GLOSSARY.md"
-HEAD_ENDS = "## Calls\n"
 
 
 def link(path, text):
@@ -265,33 +264,22 @@ def snake(name):
     return re.sub(r"(?<!^)(?=[A-Z])", "_", name).lower()
 
 
-def rows_of_calls():
+def line_of_call(names, kind, crate, file, defined, laws):
+    """Returns the line of a call: its code, its definition and its laws."""
+    code = link(f"crates/{crate}/src/{file}", f"{crate}/{os.path.splitext(file)[0]}")
+    told = ", ".join(link(module_path(*it), it[1].removeprefix("Laws.").replace(".", "/")) for it in laws)
+    return f"- {', '.join(f'`{it}`' for it in names)}, {kind}: {code}, {defined_at(defined)}{f'; laws {told}' if told else ''}."
+
+
+def lines_of_calls():
     for crate, made, name, trait, file, defined, laws in calls():
         # (a method that consumes a stream is called as its folder is)
         named = made or [snake(name) if trait == "Folder" else name]
-        yield [
-            ", ".join(f"`{it}`" for it in sorted(named, key=len)),
-            KIND[trait],
-            link(f"crates/{crate}/src/{file}", f"{crate} {os.path.splitext(file)[0]}"),
-            defined_at([defined]),
-            ", ".join(link(module_path(*it), it[1].removeprefix("Laws.").replace(".", "/")) for it in laws) or "-",
-        ]
+        yield line_of_call(sorted(named, key=len), KIND[trait], crate, file, [defined], laws)
     for crate, name, file, defined in functions():
         modules = dict.fromkeys(it[:2] for it in defined)
         laws = [(it[0], f"Laws.{it[1]}") for it in modules if os.path.exists(f"{TOP}/{module_path(it[0], f'Laws.{it[1]}')}")]
-        yield [
-            f"`{name}`",
-            "function",
-            link(f"crates/{crate}/src/{file}", f"{crate} {os.path.splitext(file)[0]}"),
-            defined_at(defined),
-            ", ".join(link(module_path(*it), it[1].removeprefix("Laws.").replace(".", "/")) for it in laws) or "-",
-        ]
-
-
-def head_of(path):
-    """Returns what a file of specs/ says of itself in its first lines."""
-    lines = itertools.takewhile(lambda it: it.startswith("--"), read_text(f"{TOP}/{path}").splitlines())
-    return " ".join(line.lstrip(" -") for line in lines)
+        yield line_of_call([name], "function", crate, file, defined, laws)
 
 
 def about_crate(crate):
@@ -300,15 +288,10 @@ def about_crate(crate):
     return " ".join(line.removeprefix("//! ") for line in lines)
 
 
-def table(head, rows):
-    lines = [head, ["---"] * len(head), *rows]
-    return "".join(f"| {' | '.join(row)} |\n" for row in lines).replace("| --- |", "|---|").replace(" --- |", "---|")
-
-
-def glossary():
-    """Returns what the page has to be: its head as it stands, and the table of calls."""
-    head = read_text(f"{TOP}/{PAGE}").partition(HEAD_ENDS)[0]
-    return f"{head}{HEAD_ENDS}\n<!-- tools/documents writes this table. -->\n\n{table(['Call', 'Kind', 'Code', 'Definition', 'Laws'], sorted(rows_of_calls()))}"
+def list_of_calls():
+    """Returns the list of calls, by the name of its markers in the page."""
+    lines = "\n".join(sorted(lines_of_calls()))
+    return {"calls": f"\n\n{lines}\n\n"}
 
 
 def faults():

@@ -1,4 +1,5 @@
-"""The pages of docs/api/words: each definition that a contract or a program can name, a page for each crate, and the words of std and of the language."""
+"""The words of contracts in docs/api. A definition that one page alone needs is told on that page. The others have docs/api/words: a page for each
+crate, and one for the words of std and of the language."""
 import collections
 import functools
 import itertools
@@ -6,18 +7,18 @@ import re
 
 from repository import FACADE, TOP, read_text
 from sources import relative
-from vocabulary import PAGE as GLOSSARY, about_crate, bullet, head_of, imported, libraries, module_for_programs, wrapped
+from vocabulary import PAGE as GLOSSARY, about_crate, bullet, imported, libraries, module_for_programs, wrapped
 
 FOLDER = "docs/api/words"
 INDEX, STD = f"{FOLDER}/README.md", f"{FOLDER}/std.md"
 # What a page of docs/api begins with.
-WRITTEN = "<!-- tools/documents writes this file. -->\n"
+WRITTEN = "<!--written by tools/documents-->\n"
 NAMED = re.compile(r"`([\w'-]+)`")
 ABOUT_STD = "Words of std, of the language and of the traits of the library, as contracts and the clauses of examples have them."
 ABOUT = (
-    "The definitions that contracts name, and those that a program can import, by their crates and their files. `tools/find` also knows the others."
-    f" A word in brackets is the module of `{FACADE}` from which a program imports the definition. The [glossary]({relative(INDEX, GLOSSARY)}) says how"
-    " definitions are written, and which words a call has."
+    "The definitions that more than one page of the reference needs, by their crates. A definition that one page alone needs is on that page. `tools/find"
+    f" NAME` tells each definition in full. A word in brackets is the module of `{FACADE}` from which a program imports the definition. The"
+    f" [glossary]({relative(INDEX, GLOSSARY)}) says how definitions are written."
 )
 
 
@@ -29,6 +30,11 @@ def file_of(word):
 def heading_of(path):
     """Returns the heading of the part of a page on a file of specs/."""
     return f"`{path.split('/', 2)[2]}`"
+
+
+def place_of(word):
+    """Returns the crate, the module and the name of a definition."""
+    return word.crate, word.module, word.name
 
 
 def anchor_of(name):
@@ -43,44 +49,63 @@ def named_in(word):
 
 
 class Words:
-    """The definitions that have a place in these pages, by their crates, modules and names; and what is said of the words that are none."""
+    """The definitions that pages need, by their crates, modules and names; and what is said of the words that are none."""
 
-    def __init__(self, every, cited, others):
-        found, left = {}, [*cited, *(it for it in every.values() if module_for_programs(it))]
+    def __init__(self, every, needed, others):
+        """Takes all definitions, those that each page needs by its file, and what is said of other words."""
+        self.others, self.by_place = others, {}
+        left, users, named = [it for words in needed.values() for it in words], collections.defaultdict(set), set()
+        for file, words in needed.items():
+            for word in words:
+                users[place_of(word)].add(file)
         while left:
             word = left.pop()
-            if (word.crate, word.module, word.name) not in found:
-                found[word.crate, word.module, word.name] = word
-                left += [every[it] for it in named_in(word).values() if it in every]
-        self.by_place = {place: word for place, word in every.items() if place in found}
-        self.others = others
+            if place_of(word) not in self.by_place:
+                self.by_place[place_of(word)] = word
+                others_named = [every[it] for it in named_in(word).values() if it in every and every[it] is not word]
+                named.update(map(place_of, others_named))
+                left += others_named
+        self.alone = {place: file for place, (file, *more) in users.items() if not more and place not in named}
         # The headings of a page that differ in their case alone have other anchors.
         self.anchors, counts = {}, collections.Counter()
-        for place, word in self.by_place.items():
-            anchor = file_of(word), anchor_of(word.name)
+        for place in (it for it in every if it in self.by_place and it not in self.alone):
+            anchor = file_of(self.by_place[place]), anchor_of(place[2])
             self.anchors[place] = f"{anchor[1]}{f'-{counts[anchor]}' if counts[anchor] else ''}"
             counts[anchor] += 1
 
     def link(self, word, here):
-        """Returns a link from a file to a definition."""
-        return f"[`{word.name}`]({relative(here, file_of(word), self.anchors[word.crate, word.module, word.name])})"
+        """Returns a link from a file to a definition that has a place in these pages."""
+        return f"[`{word.name}`]({relative(here, file_of(word), self.anchors[place_of(word)])})"
 
     def link_from(self, here, name, told):
         """Returns a link from a file to a word, which is a definition, or one of std or of the language."""
         return f"[`{name}`]({relative(here, STD, anchor_of(name))})" if isinstance(told, str) else self.link(told, here)
 
-    def says(self, word):
-        """Returns a definition's comment with links to the definitions that it names, and the module from which a program imports it."""
-        there, module = {name: self.by_place.get(place) for name, place in named_in(word).items()}, module_for_programs(word)
-        text = NAMED.sub(lambda it: self.link(there[it[1]], file_of(word)) if there[it[1]] not in (None, word) else it[0], word.says)
-        return wrapped(f"(`{module}`) {text}" if module else text)
+    def is_alone(self, word):
+        """Tells whether one page alone needs a definition."""
+        return place_of(word) in self.alone
+
+    def told_alone(self, word, here):
+        """Returns a definition whole, as the page tells it that alone needs it."""
+        return f"[`{word.name}`]({relative(here, word.path)}): {self.says(word, here)}"
+
+    def says(self, word, here):
+        """Returns the module from which a program imports a definition, and the comment, with links to the definitions that it names."""
+        module, named = module_for_programs(word), named_in(word)
+
+        def linked(found):
+            place = named.get(found[1])
+            return self.link(self.by_place[place], here) if place in self.anchors and place != place_of(word) else found[0]
+
+        text = NAMED.sub(linked, word.says)
+        return f"(`{module}`) {text}" if module else text
 
     def page(self, file, words):
         """Returns the page of a crate, of which each module has a part."""
-        parts = [WRITTEN.rstrip(), f"# Words of `{words[0].crate}`", wrapped(about_crate(words[0].crate))]
+        parts = [WRITTEN.rstrip(), f"# Words of `{words[0].crate}`"]
         for path, there in itertools.groupby(words, key=lambda it: it.path):
-            parts += [f"## {heading_of(path)}", wrapped(f"{head_of(path)} [Source]({relative(file, path)}).".strip())]
-            parts += [f"### `{it.name}`\n\n{self.says(it)}" for it in there]
+            parts += [f"## {heading_of(path)}", f"[Source]({relative(file, path)})."]
+            parts += [f"### `{it.name}`\n\n{wrapped(self.says(it, file))}" for it in there]
         return "\n\n".join(parts) + "\n"
 
     def std(self):
@@ -90,23 +115,16 @@ class Words:
 
     def index(self, files):
         """Returns the list of the pages."""
-        parts = [WRITTEN.rstrip(), "# Words of contracts", wrapped(ABOUT), wrapped(f"[Words of std and of the language]({relative(INDEX, STD)}).")]
-        for file, words in files.items():
-            modules = itertools.groupby(words, key=lambda it: it.path)
-            rows = [f"[{heading_of(path)}]({relative(INDEX, file, anchor_of(heading_of(path)))}): {in_a_line(there)}" for path, there in modules]
-            parts.append("\n\n".join([f"## `{words[0].crate}`", wrapped(about_crate(words[0].crate)), "\n".join(map(bullet, rows))]))
-        return "\n\n".join(parts) + "\n"
+        rows = [f"[Words of std and of the language]({relative(INDEX, STD)})"]
+        rows += [f"[`{words[0].crate}`]({relative(INDEX, file)}): {about_crate(words[0].crate)}" for file, words in files.items()]
+        return "\n\n".join([WRITTEN.rstrip(), "# Words of contracts", wrapped(ABOUT), "\n".join(map(bullet, rows))]) + "\n"
 
     def pages(self):
         """Yields the path of each page, and its text."""
         files = {}
-        for word in sorted(self.by_place.values(), key=lambda it: (libraries().index(it.crate), it.module)):
+        for word in sorted((self.by_place[it] for it in self.anchors), key=lambda it: (libraries().index(it.crate), it.module)):
             files.setdefault(file_of(word), []).append(word)
         yield INDEX, self.index(files)
         yield STD, self.std()
         for file, words in files.items():
             yield file, self.page(file, words)
-
-
-def in_a_line(words):
-    return ", ".join(f"`{it.name}`" for it in words)
