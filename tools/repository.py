@@ -19,6 +19,8 @@ BESIDE = ("framed",)
 TESTS, TEST_LINES = "tests", "tests/lines.txt"
 # The suffixes in a crate of those of a program beside the crates: `rt ci` takes a file of a crate's kind in a crate alone.
 IN_A_CRATE = {".rs": ".rt", ".txt": ".antt"}
+# In the root of a program: its `main`, and where each module is declared.
+MAIN, MODULE = re.compile(r"^fn main\(.*?^\}\n", re.M | re.S), re.compile(r"^(?=mod )", re.M)
 
 # What a check prints of an error; indented lines below it belong to it.
 ERROR = re.compile(r"(?:\S+: )?error\b")
@@ -158,8 +160,18 @@ def lay_crates(copy):
         hand_on(name, TOP, copy)
 
 
+def make_library(copy, name):
+    """Makes a library of a program in the copy: it has no `main` there, and its modules are public. A library stays as it is."""
+    program, library = (f"{copy}/crates/{name}/src/{it}.rt" for it in ("main", "lib"))
+    if os.path.isfile(program):
+        with open(library, "w", encoding="utf-8") as write:
+            write.write(MODULE.sub("pub ", MAIN.sub("", read_text(program))))
+        os.remove(program)
+
+
 def lay_texts(copy, texts, line):
-    """Writes a crate that stands beside the others, by its line for crates.txt and its files, into the copy; returns its folder there."""
+    """Writes a crate that stands beside the others, by its line for crates.txt and its files, into the copy; returns its folder there. What it uses is a
+    library there, also a program."""
     at = f"{copy}/crates/{Crate(line).name}"
     for file, text in texts.items():
         stem, suffix = os.path.splitext(file)
@@ -169,6 +181,8 @@ def lay_texts(copy, texts, line):
             write.write(text)
     with open(f"{copy}/crates.txt", "a", encoding="utf-8") as lines:
         lines.write(f"{line}\n")
+    for name in Crate(line).below:
+        make_library(copy, name)
     return at
 
 

@@ -64,7 +64,7 @@ impl AsyncRead for Lender {
 }
 
 impl AsyncBufRead for Lender {
-    ghost lent = { ? };
+    ghost buffer_of = { ? };
 
     ghost shows = { ? };
 

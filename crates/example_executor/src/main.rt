@@ -15,7 +15,7 @@ fn main(rt: HostRuntime) -> io::Result<()> {
     let numbers = stream::iter_vec(vec![in rt.alloc(); 1u8, 2, 3, 4]?);
     // It is pending after each number, and wakes its own task.
     let sum = numbers
-        .with_poll_limit(1)
+        .with_budget(1)
         .fold(0u8, |sum: u8, x: u8| sum.wrapping_add(x));
     // It is pending at each poll, and wakes its own task.
     let endless = future::poll_fn(|cx| cx.yield_now::<u8>());

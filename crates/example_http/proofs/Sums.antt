@@ -4,6 +4,7 @@ use Rattle.std.specs.List.{FoldsTo}
 use Rattle.std.specs.declared.io.Error.{Error}
 use Rattle.std.proofs.Common.{ap, append-nil, arith, append_assoc, inl, inr, subst, sym, take-append-drop, ◌∙◌}
 use Rattle.std.proofs.lemmas.Bool.{ne_eqb}
+use Rattle.std.proofs.lemmas.List.{map-append}
 use Rattle.futures_lite.specs.Laws.Taken.{taken_both}
 use Rattle.futures_lite.specs.Laws.Told.{told_follow, told_none}
 use Rattle.futures_lite.specs.Marks.{ReadMark, WriteMark, bytes, bytes_taken}
@@ -24,19 +25,15 @@ use Rattle.example_http.specs.declared.http_error.HttpError.TheVariants.{Input, 
 
 -- Marks.
 
-bytes_both : (xs ys : List ℕ) → bytes (xs ++ ys) ≡ bytes xs ++ bytes ys
-bytes_both [] ys = refl
-bytes_both (x ∷ xs) ys = ap (λ l. ReadMark.byte x ∷ l) (bytes_both xs ys)
-
 -- The bytes of two parts, of which the second has one more mark.
 bytes_then : (xs ys : List ℕ) (l k last : List ReadMark) → l ≡ bytes xs → k ≡ bytes ys ++ last
     → l ++ k ≡ bytes (xs ++ ys) ++ last
 bytes_then xs ys l k last h j =
     ap (λ t. t ++ k) h ∙ ap (λ t. bytes xs ++ t) j ∙ sym (append_assoc (bytes xs) (bytes ys) last)
-    ∙ ap (λ t. t ++ last) (sym (bytes_both xs ys))
+    ∙ ap (λ t. t ++ last) (sym (map-append ReadMark.byte xs ys))
 
 bytes_alone : (xs ys : List ℕ) (l k : List ReadMark) → l ≡ bytes xs → k ≡ bytes ys → l ++ k ≡ bytes (xs ++ ys)
-bytes_alone xs ys l k h j = rw (h, j) (sym (bytes_both xs ys))
+bytes_alone xs ys l k h j = rw (h, j) (sym (map-append ReadMark.byte xs ys))
 
 tells_none : (was : Bool) → Tells was was [] []
 tells_none true = (refl, refl, refl)

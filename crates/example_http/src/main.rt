@@ -20,8 +20,6 @@ mod http_error;
 mod moves;
 mod server;
 mod session;
-#[cfg(test)]
-mod tests;
 
 use echo::Echo;
 use fault::ProgramError;

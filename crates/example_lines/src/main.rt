@@ -11,8 +11,6 @@ mod fault;
 mod request;
 mod session;
 mod store;
-#[cfg(test)]
-mod tests;
 
 use fault::Fault;
 use framed::{FramedRead, LineDelimited};

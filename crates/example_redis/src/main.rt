@@ -19,8 +19,6 @@ mod requests;
 mod service;
 mod session;
 mod store;
-#[cfg(test)]
-mod tests;
 mod verb;
 mod word;
 

@@ -1,6 +1,7 @@
 -- The steps of reading and writing, and how a run ends.
 use Rattle.std.proofs.Common.{◌≡◌, ℕ, ◌+◌, ◌<◌, ◌∙◌, Bool, true, false, inl, inr, List, [], ◌∷◌, ◌++◌, ap, append-nil, append_assoc, arith, length, length-append, map, refl, sym}
 use Rattle.std.proofs.lemmas.Grind.{common_steps, flat_map-append}
+use Rattle.std.proofs.lemmas.List.{map-append}
 use Rattle.std.proofs.lemmas.List.Elements.{All-nil}
 use Rattle.std.specs.Cmp.Lexicographic.{slice_cmp}
 use Rattle.std.specs.List.{All}
@@ -14,24 +15,20 @@ use Rattle.futures_lite.specs.Own.{MarkLaws, Runs}
 use Rattle.futures_lite.specs.Readers.{ToldStripped, Without}
 use Rattle.example_words.specs.Laws.{counts_append, counts_none, shards_make_whole, total_none}
 use Rattle.example_words.specs.Records.{Counted, TableSoFar, IsTable, counted_records, pending, record_line, record_lines, total_count}
-use Rattle.example_words.specs.Runs.{HasCounted, MapsText, ReadsAll, ReadsOneLine, Reduces, WritesFlushed, WritesText}
+use Rattle.example_words.specs.Runs.{HasCounted, MapsText, ReadsWholeText, ReadsOneLine, Reduces, WritesFlushed, WritesText}
 use Rattle.example_words.specs.Words.{WholeLines, occurrences}
 use Rattle.example_words.specs.declared.counts.Counts.{Counts}
 use Rattle.example_words.specs.declared.sum.Sum.{Sum}
 
-bytes_both : (xs ys : List ℕ) → bytes (xs ++ ys) ≡ bytes xs ++ bytes ys
-bytes_both [] ys = refl
-bytes_both (x ∷ xs) ys = ap (λ l. ReadMark.byte x ∷ l) (bytes_both xs ys)
-
 module _ {T : Type 0} (reads : Runs ReadMark T) (laws : MarkLaws reads) where
   more_told : (x y z : T) (text line : List ℕ) → ToldStripped reads x (bytes text) y → ToldStripped reads y (bytes line) z
       → ToldStripped reads x (bytes (text ++ line)) z
-  more_told x y z text line h k = rw (bytes_both text line) (told_follow laws x y z (bytes text) (bytes line) h k)
+  more_told x y z text line h k = rw (map-append ReadMark.byte text line) (told_follow laws x y z (bytes text) (bytes line) h k)
 
-  last_told : (x y z : T) (text line : List ℕ) → ToldStripped reads x (bytes text) y → ReadsAll reads y line z
-      → ReadsAll reads x (text ++ line) z
+  last_told : (x y z : T) (text line : List ℕ) → ToldStripped reads x (bytes text) y → ReadsWholeText reads y line z
+      → ReadsWholeText reads x (text ++ line) z
   last_told x y z text line h k =
-      rw (bytes_both text line, append_assoc (bytes text) (bytes line) (ReadMark.end ∷ []))
+      rw (map-append ReadMark.byte text line, append_assoc (bytes text) (bytes line) (ReadMark.end ∷ []))
       (told_follow laws x y z (bytes text) (bytes line ++ ReadMark.end ∷ []) h k)
 
 -- Whole lines were read, and their words are what was counted.
@@ -170,7 +167,7 @@ module _ {T O : Type 0} (reads : Runs ReadMark T) (writes : Runs WriteMark O) (l
         (more_wrote writes rules w u v (record_lines so_far.done) (record_lines more) so_far.wrote (rw f at wrote));
   }
 
-  end_told : (y z : T) (line : List ℕ) (whole : Bool) → length line ≡ 0 → ReadsOneLine reads y line whole z → ReadsAll reads y [] z
+  end_told : (y z : T) (line : List ℕ) (whole : Bool) → length line ≡ 0 → ReadsOneLine reads y line whole z → ReadsWholeText reads y [] z
   end_told y z [] true e read = absurd (no_newline read.1.0 read.1.1)
   end_told y z [] false e read = read.0
   end_told y z (b ∷ line) whole e read = absurd (omega arith)

@@ -3,7 +3,7 @@ use Rattle.std.proofs.Common.{◌≡◌, ap₂, ℕ, ◌+◌, ◌<◌, ◌-◌, 
 use Rattle.std.proofs.lemmas.Cmp.{nat_list_cmp_total}
 use Rattle.std.proofs.lemmas.Grind.{common_steps}
 use Rattle.std.proofs.lemmas.List.Elements.{All-append, All-cons, All-from_recursion, All-nil, filter-append, recursion_from_All}
-use Rattle.std.proofs.lemmas.List.{map-append, take-append-drop, take_rest}
+use Rattle.std.proofs.lemmas.List.{map-append, take_rest}
 use Rattle.std.proofs.lemmas.List.Sorted.{sum_by-IsPermutation}
 use Rattle.std.proofs.lemmas.List.Sums.{prefix_len-le-length, sum_by-append}
 use Rattle.std.proofs.lemmas.Str.Ascii.{trim_ascii_start_is}
@@ -14,7 +14,6 @@ use Rattle.std.specs.List.Sorted.{IsPermutation, IsStrictlySortedBy}
 use Rattle.std.proofs.lemmas.Map.Text.{is_eq-slice_cmp}
 use Rattle.std.proofs.lemmas.Slice.Eq.{bytes_eq-Decides}
 use Rattle.std.specs.Ordering.{is_eq, nat_cmp, ordering_reverse}
-use Rattle.std.proofs.Common.{Bor, IfSome, MatchOption, Option}
 use Rattle.std.specs.declared.cmp.Ordering.{Ordering}
 use Rattle.std.specs.declared.cmp.Ordering.TheVariants.{Equal, Greater, Less}
 use Rattle.std.specs.Prelude.{count_by, decimal, if◌then◌else◌, nat_lt}
@@ -287,9 +286,6 @@ same_total done read word n m w h =
     let one = split_total word n m w in
     omega (arith, h, one, total_append done ((word, n + m) ∷ []) w, total_append done ((word, n) ∷ []) w, total_append read ((word, m) ∷ []) w)
 
-held_none : (word : List ℕ) → held_record word 0 ≡ []
-held_none word = refl
-
 table_more : (done read : List Counted) (next : List ℕ) (m : ℕ) → 0 < m
     → IsStrictlySortedBy (slice_cmp nat_cmp) (map (λ r. r.0) (done ++ (next, m) ∷ [])) → IsTable (total_count read) done
     → IsTable (total_count (read ++ (next, m) ∷ [])) (done ++ (next, m) ∷ [])
@@ -338,20 +334,6 @@ holds_next done read word next n m some_yet some_more less h =
 pub record_cut : (line front word digits : List ℕ) (n : ℕ) → line ≡ front ++ 10 ∷ [] → front ≡ word ++ 9 ∷ digits
     → digits ≡ decimal n → line ≡ record_line (word, n)
 record_cut line front word digits n e f g = rw (e, f, g) (grind (arith, common_steps))
-
-newline_at_end : (line front : List ℕ) → bytes_eq (drop (length line - 1) line) (10 ∷ []) ≡ true → front ≡ take (length line - 1) line
-    → line ≡ front ++ 10 ∷ []
-newline_at_end line front e f =
-    let end = (bytes_eq-Decides (drop (length line - 1) line) (10 ∷ [])).0 e in
-    rw f (sym (take-append-drop (length line - 1) line) ∙ ap (λ k. take (length line - 1) line ++ k) end)
-
--- What `strip_suffix` leaves of a line that ends in a newline.
-pub newline_left : (line : List ℕ) (r : Option (Bor (List ℕ)))
-    → MatchOption r (bytes_eq (drop (length line - 1) line) (10 ∷ []) ≡ false)
-    (λ x. (bytes_eq (drop (length line - 1) line) (10 ∷ []) ≡ true) × (x.now ≡ take (length line - 1) line) × (length x.now + 1 ≡ length line))
-    → IfSome r (λ front. line ≡ front.now ++ 10 ∷ [])
-newline_left line None h = tt
-newline_left line (Some x) h = newline_at_end line x.now h.0 h.1
 
 pub words_equal : (a b : List ℕ) → slice_cmp nat_cmp a b ≡ Equal → a ≡ b
 words_equal a b h = (bytes_eq-Decides a b).0 (sym (is_eq-slice_cmp a b) ∙ ap is_eq h)

@@ -11,18 +11,18 @@ use Rattle.example_words.specs.Words.{CutAtLines, occurrences}
 
 module _ {T : Type 0} (reads : Runs ReadMark T) where
   -- The reader gave just the bytes of a text, and then the end of file.
-  abbrev pub ReadsAll : T → List ℕ → T → Type 0
-  ReadsAll x text y = ToldStripped reads x (bytes text ++ ReadMark.end ∷ []) y
+  abbrev pub ReadsWholeText : T → List ℕ → T → Type 0
+  ReadsWholeText x text y = ToldStripped reads x (bytes text ++ ReadMark.end ∷ []) y
 
   -- The reader gave the bytes of a line. If it has no newline, the end of file came behind it.
   abbrev pub ReadsOneLine : T → List ℕ → Bool → T → Type 0
   ReadsOneLine x line true y = ToldStripped reads x (bytes line) y × ((front : List ℕ) × (line ≡ front ++ 10 ∷ []))
-  ReadsOneLine x line false y = ReadsAll x line y × Without 10 line
+  ReadsOneLine x line false y = ReadsWholeText x line y × Without 10 line
 
   -- The reader gave the bytes of a text and the end of file, and the words of the text are what was counted.
   pub record HasCounted (x : T) (cs : Counts) (y : T) : Type 0 where
     pub text : List ℕ
-    pub read : ReadsAll x text y
+    pub read : ReadsWholeText x text y
     pub positive : All (λ r. 0 < r.1) (counted_records cs)
     pub right : (word : List ℕ) → total_count (counted_records cs) word ≡ occurrences text word
 
@@ -45,7 +45,7 @@ module _ {T O : Type 0} (reads : Runs ReadMark T) (writes : Runs WriteMark O) wh
   pub record MapsText (x : T) (w : O) (y : T) (v : O) : Type 0 where
     pub text : List ℕ
     pub table : List Counted
-    pub read : ReadsAll reads x text y
+    pub read : ReadsWholeText reads x text y
     pub is_table : IsTable (occurrences text) table
     pub written : WritesFlushed writes w (record_lines table) v
 
@@ -54,7 +54,7 @@ module _ {T O : Type 0} (reads : Runs ReadMark T) (writes : Runs WriteMark O) wh
   pub record Reduces (x : T) (w : O) (y : T) (v : O) : Type 0 where
     pub records : List Counted
     pub table : List Counted
-    pub read : ReadsAll reads x (record_lines records) y
+    pub read : ReadsWholeText reads x (record_lines records) y
     pub is_table : IsTable (total_count records) table
     pub written : WritesFlushed writes w (record_lines table) v
     pub whole : (shards : List (List ℕ)) → CutAtLines shards → MergesShards shards records

@@ -16,8 +16,6 @@ mod output;
 mod record;
 mod reduce;
 mod sum;
-#[cfg(test)]
-mod tests;
 mod words;
 
 use fault::WordsError;

@@ -1,5 +1,5 @@
 //! A word and its count as a line.
-ghost use Rattle.std.specs.Prelude.{◌≡◌, ◌∷◌, ◌++◌, ◌<◌, [], IfOk, IfSome, OnOk, decimal};
+ghost use Rattle.std.specs.Prelude.{◌≡◌, ◌≢◌, ◌∷◌, ◌++◌, ◌<◌, [], IfOk, IfSome, List, MatchOption, OnOk, decimal, ℕ};
 ghost use Rattle.example_words.specs.Records.{record_line};
 
 use crate::fault::LineError;
@@ -50,17 +50,17 @@ pub fn parse_record(line: &[u8]) -> Result<Record<'_>, LineError>
 
 // Returns what is before the newline at the end of the line.
 fn without_newline(line: &[u8]) -> Option<&[u8]>
-    ensures { IfSome result (λ front. line.now ≡ front.now ++ 10 ∷ []) }
+    ensures { MatchOption result ((front : List ℕ) → line.now ≢ front ++ 10 ∷ []) (λ front. line.now ≡ front.now ++ 10 ∷ []) }
 {
     line.strip_suffix(b"\n")
 }
 
 // Returns what is before the first tab, and what is behind it.
-fn split_at_tab(record: &[u8]) -> Option<(&[u8], &[u8])>
-    ensures { IfSome result (λ r. record.now ≡ r.0.now ++ 9 ∷ r.1.now) }
+fn split_at_tab(text: &[u8]) -> Option<(&[u8], &[u8])>
+    ensures { IfSome result (λ r. text.now ≡ r.0.now ++ 9 ∷ r.1.now) }
 {
-    let tab = record.iter().position(|byte| *byte == b'\t')?;
-    Some((&record[..tab], &record[tab + 1..]))
+    let tab = text.iter().position(|byte| *byte == b'\t')?;
+    Some((&text[..tab], &text[tab + 1..]))
 }
 
 // Returns the count that these digits are, if it is written as `push_record` writes it, and not 0.

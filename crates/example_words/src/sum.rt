@@ -25,17 +25,17 @@ impl Sum {
         }
     }
 
-    /// Adds a record. If it begins another word, the line of the word before is appended to `text`.
-    pub fn add(&mut self, record: Record<'_>, text: &mut Vec<u8>) -> Result<(), LineError>
+    /// Adds the next record. If it begins another word, the line of the word before is appended to `text`.
+    pub fn add(&mut self, next: Record<'_>, text: &mut Vec<u8>) -> Result<(), LineError>
         ensures { OnOk result ((more : List Counted) × (text.new.items ≡ text.old.items ++ record_lines more)
-            × ((done read : List Counted) → 0 < record.entry.count → TableSoFar done self.old.word.items self.old.count read
-            → TableSoFar (done ++ more) self.new.word.items self.new.count (read ++ (record.entry.word.now, record.entry.count) ∷ []))) }
+            × ((done read : List Counted) → 0 < next.entry.count → TableSoFar done self.old.word.items self.old.count read
+            → TableSoFar (done ++ more) self.new.word.items self.new.count (read ++ (next.entry.word.now, next.entry.count) ∷ []))) }
     {
         if self.count > 0 {
-            match record.word.cmp(self.word.as_slice()) {
+            match next.word.cmp(self.word.as_slice()) {
                 Ordering::Less => return Err(LineError::OutOfOrder),
                 Ordering::Equal => {
-                    let Some(count) = self.count.checked_add(record.count) else {
+                    let Some(count) = self.count.checked_add(next.count) else {
                         return Err(LineError::TooLarge);
                     };
                     self.count = count;
@@ -45,8 +45,8 @@ impl Sum {
             }
         }
         self.word.clear();
-        self.word.extend_from_slice(record.word)?;
-        self.count = record.count;
+        self.word.extend_from_slice(next.word)?;
+        self.count = next.count;
         Ok(())
     }
 

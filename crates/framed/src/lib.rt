@@ -1,4 +1,6 @@
 //! Frames on the bytes of a reader and a writer, by `tokio_util`'s `Decoder` and `Encoder`.
+//!
+//! Chapter 21 of the guide (`docs/guide/21-codec.md`) writes a codec from nothing.
 #![tactic(auto)]
 
 mod bytes_codec;

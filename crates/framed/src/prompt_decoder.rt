@@ -13,6 +13,9 @@ use tokio_util::codec::Decoder;
 /// - `owed`: a frame of no bytes lowers `owes`, so the decoder gives finitely many of them.
 /// - `waits`: a decoder that needs more bytes owes no frame.
 /// - `last`: a frame that is given only because the input ends takes bytes.
+///
+/// A codec of your own implements `Decoder` and this trait, and for replies `Encoder`. If the frames of its
+/// encoder are to be read back, it also implements [`RoundTrip`](crate::RoundTrip).
 pub trait PromptDecoder: Decoder {
     /// How many frames the decoder may give of no bytes.
     ghost owes: { Self → ℕ } = { λ _. 0 };

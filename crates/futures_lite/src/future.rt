@@ -256,9 +256,9 @@ where
 /// Returns a future that resolves to the pair of both values, once both futures are ready. Do not poll it after
 /// that.
 ///
-/// Each poll polls each future that is not ready yet once, the first before the second. A future is dropped
-/// when its value is there. The values have to be `Drop`. The result is a `Future` only if both futures are
-/// `Drop`, too.
+/// It waits for both at once: each poll polls each future that is not ready yet, the first before the second. A
+/// future is dropped when its value is there. The values have to be `Drop`. The result is a `Future` only if
+/// both futures are `Drop`, too.
 ///
 /// The contract says that the value is the pair of the two values.
 ///
@@ -293,7 +293,7 @@ where
     make::zip(future1, future2)
 }
 
-/// Returns a future that resolves to the pair of both values, or to the first error.
+/// Returns a future that resolves to the pair of both values, or to the first error. Do not poll it after that.
 ///
 /// Each poll polls each future that is not ready yet once, the first before the second. If the first future
 /// fails, the second is not polled in that poll. The values have to be `Drop`. The result is a `Future` only

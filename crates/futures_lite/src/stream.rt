@@ -488,7 +488,8 @@ where
 ///
 /// Each poll polls `stream1`, unless it has ended. If this gives no item, the poll then polls `stream2`,
 /// unless it has ended. The result ends when both streams have ended. It returns `Pending` if there is no
-/// item and one of them has not ended. Size hint: `(0, None)`.
+/// item and one of them has not ended. No item is lost or repeated, and the items of each stream keep their
+/// order. Size hint: `(0, None)`.
 ///
 /// # Examples
 ///
@@ -548,7 +549,7 @@ where
 /// Each poll takes a word from `rng`. If its lowest bit is 1, it polls `stream1` first, otherwise `stream2`.
 /// If this gives no item, the poll then polls the other stream. A stream that has ended is not polled. The
 /// result ends when both streams have ended. It returns `Pending` if there is no item and one of them has not
-/// ended.
+/// ended. No item is lost or repeated, and the items of each stream keep their order.
 ///
 /// The result is `Counted` if both streams are; its `ranks.counts` then requires `ranks.firm` of both. Unlike
 /// futures-lite, the generator is an argument. Size hint: `(0, None)`.
@@ -1163,7 +1164,8 @@ pub trait StreamExt: Stream {
     ///
     /// Each poll polls this stream, unless it has ended. If this gives no item, the poll then polls `other`,
     /// unless it has ended. The result ends when both streams have ended. It returns `Pending` if there is no
-    /// item and one of them has not ended. Size hint: `(0, None)`.
+    /// item and one of them has not ended. No item is lost or repeated, and the items of each stream keep their
+    /// order. Size hint: `(0, None)`.
     ///
     /// # Examples
     ///
@@ -1223,7 +1225,7 @@ pub trait StreamExt: Stream {
     /// Each poll takes a word from `rng`. If its lowest bit is 1, it polls this stream first, otherwise
     /// `other`. If this gives no item, the poll then polls the other stream. A stream that has ended is not
     /// polled. The result ends when both streams have ended. It returns `Pending` if there is no item and one
-    /// of them has not ended.
+    /// of them has not ended. No item is lost or repeated, and the items of each stream keep their order.
     ///
     /// The result is `Counted` if both streams are; its `ranks.counts` then requires `ranks.firm` of both.
     /// Unlike futures-lite, the generator is an argument. Size hint: `(0, None)`.
@@ -1809,7 +1811,9 @@ pub trait StreamExt: Stream {
 
     /// Returns a future of the item number `n`, counted from 0, or of `None` if the stream ends before it.
     ///
-    /// It accepts any stream. The items before that one are dropped, so the items must be `Drop`.
+    /// It accepts any stream. The items before that one are dropped, so the items must be `Drop`. If the stream
+    /// ends first, all its items are dropped, and the value is `None`. Another call polls the stream again, and
+    /// over [`fuse`](StreamExt::fuse) its value is `None` again.
     ///
     /// # Examples
     ///

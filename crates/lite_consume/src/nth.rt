@@ -14,7 +14,7 @@ use lite_base::{SteadyStream, Stream};
 /// before it.
 ///
 /// Returned by [`nth`](crate::make::nth). The number of items to skip is kept while the stream is pending.
-/// The stream is left after that item.
+/// The stream is left after that item, or after its end.
 pub type NthFuture<'a, S> = Consume<&'a mut S, Nth>;
 
 /// Skips `n` items. The next one decides.

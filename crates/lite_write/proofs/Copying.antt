@@ -3,6 +3,7 @@ use Rattle.std.specs.Prelude.{◌≡◌, ◌<◌, ◌+◌, ◌%◌, ◌^◌, ℕ
 use Rattle.lite_write.specs.Uses.{◌∙◌, refl, ap, sym, subst, arith, append-nil, error_kind, Error, WriteZero, Poll, Ready, Pending, ThroughBuffer}
 use Rattle.lite_write.specs.Uses.{bytes_ahead, reader_capacity, ReadMark, bytes, MarkLaws, WriteMark, bytes_taken, write_marks, offered_marks, UpToValue}
 use Rattle.lite_write.specs.Uses.{strip, waits, OneStep, Runs}
+use Rattle.std.proofs.lemmas.List.{map-append}
 use Rattle.lite_base.specs.Laws.Answers.{up_to_one}
 use Rattle.lite_buffered.specs.Laws.BufReader.{passes_some, through_laws}
 use Rattle.lite_buffered.specs.declared.buf_reader.BufReader.{BufReader}
@@ -38,10 +39,6 @@ all_bytes (b ∷ p) came (a ∷ z) e =
     let rest : bytes p ++ came ≡ bytes z = cc e in
     let more = all_bytes p came z rest in
     (more.0, more.1, cc (same, more.2))
-
-bytes_both : (xs ys : List ℕ) → bytes xs ++ bytes ys ≡ bytes (xs ++ ys)
-bytes_both [] ys = refl
-bytes_both (x ∷ xs) ys = ap (λ l. ReadMark.byte x ∷ l) (bytes_both xs ys)
 
 -- a mark that is no byte went out: it came in, and nothing was ahead
 one_mark : (p : List ℕ) (came : List ReadMark) (m : ReadMark) → ((b : ℕ) → ReadMark.byte b ≡ m → ⊥)
@@ -137,7 +134,7 @@ module _ {R W : Type 0} (reads : Runs ReadMark R) (writes : Runs WriteMark W) (r
         let equation =
         passes_some (reader_capacity x.reader) (held_of x) given.came (bytes xs)
         (held_of y) x.buffered given.passes in
-        let came = all_bytes (held_of x) given.came (xs ++ held_of y) (equation ∙ bytes_both xs (held_of y)) in
+        let came = all_bytes (held_of x) given.came (xs ++ held_of y) (equation ∙ sym (map-append ReadMark.byte xs (held_of y))) in
         let all = append-nil xs in
         record {
           moves = record {

@@ -8,8 +8,6 @@ mod fault;
 mod request;
 mod serve;
 mod spelling;
-#[cfg(test)]
-mod tests;
 
 use crate::fault::Fault;
 use crate::serve::{report, serve};

@@ -1,6 +1,6 @@
 //! What the others ask of closures, iterators and streams of streams is met: by closures that catch nothing, and by scripts.
 use crate::consuming::consumers_are_alike;
-use crate::future_marks::{futures_are_alike, futures_are_calm};
+use crate::future_properties::{futures_are_alike, futures_are_calm};
 use crate::merges::{
     clones_have_marks, inner_streams_are_alike, inner_streams_are_calm, merges_are_alike,
     merges_are_calm,

@@ -3,7 +3,7 @@
 
 pub mod conditions;
 pub mod consuming;
-pub mod future_marks;
+pub mod future_properties;
 pub mod merges;
 pub mod needs;
 pub mod needs_collections;

@@ -11,7 +11,8 @@ use crate::{Context, Poll};
 /// A future that resolves to the values of two futures, once both are ready.
 ///
 /// Returned by [`zip`](super::make::zip). Each poll polls each future that has no value yet, the first before
-/// the second. A future is dropped in the poll that returns its value.
+/// the second, so two futures wait at the same time on one thread. A future is dropped in the poll that
+/// returns its value. Do not poll a `Zip` after its value.
 #[derive(Debug, Drop)]
 pub struct Zip<F1: Future<Output: Drop>, F2: Future<Output: Drop>> {
     pub(crate) first: Side<F1, F1::Output>,

@@ -72,7 +72,7 @@ fn futures_are_steady_and_calm(_rt: HostRuntime) -> Result<(), Fail> {
     calm_future(&future::try_zip(future::ready(good), future::ready(bad)));
     let either: Either<Ready<()>, YieldNow> = Either::Right(future::yield_now());
     both_future(&either);
-    calm_future(&future::with_budget(future::ready(1u8), 1));
+    calm_future(&future::with_poll_limit(future::ready(1u8), 1));
     Ok(())
 }
 

@@ -8,32 +8,32 @@ use Rattle.example_words.proofs.sum.Sum.add.Goals.{else-self-gt0, then-self-gt0+
 
 pub returns-in-Equal : goal.returns-in-Equal
 returns-in-Equal c =
-    let is : slice_cmp nat_cmp c.args.record.word.now c.args.self.now.word.items ≡ Equal = search rules in
-    let same = words_equal c.args.record.word.now c.args.self.now.word.items is in (
+    let is : slice_cmp nat_cmp c.args.next.word.now c.args.self.now.word.items ≡ Equal = search rules in
+    let same = words_equal c.args.next.word.now c.args.self.now.word.items is in (
       [],
       sym (append-nil c.args.text.now.items),
       λ done read some_more h. rw (same, c.in-Some.ensures.1)
-          (holds_same done read c.args.self.now.word.items c.args.self.now.count c.args.record.count c.if-self-gt0.true h),
+          (holds_same done read c.args.self.now.word.items c.args.self.now.count c.args.next.count c.if-self-gt0.true h),
     )
 
 pub returns : goal.returns
 returns c =
-    let word : c.extend_from_slice.new.self.items ≡ c.args.record.word.now =
-    c.in_ok-extend_from_slice.ensures.items ∙ ap (λ k. k ++ c.args.record.word.now) c.clear.ensures.items in
+    let word : c.extend_from_slice.new.self.items ≡ c.args.next.word.now =
+    c.in_ok-extend_from_slice.ensures.items ∙ ap (λ k. k ++ c.args.next.word.now) c.clear.ensures.items in
     elim c.if-self-gt0.branch [
       | then-self-gt0+in-Greater+in_ok-push_record-in-Greater w ↦
-          let is : slice_cmp nat_cmp c.args.record.word.now c.args.self.now.word.items ≡ Greater = search rules in
-          let less = words_greater c.args.record.word.now c.args.self.now.word.items is in (
+          let is : slice_cmp nat_cmp c.args.next.word.now c.args.self.now.word.items ≡ Greater = search rules in
+          let less = words_greater c.args.next.word.now c.args.self.now.word.items is in (
             (c.args.self.now.word.items, c.args.self.now.count) ∷ [],
             search rules,
             λ done read some_more h. rw word
-                (holds_next done read c.args.self.now.word.items c.args.record.word.now c.args.self.now.count c.args.record.count w.if-self-gt0.true some_more less h),
+                (holds_next done read c.args.self.now.word.items c.args.next.word.now c.args.self.now.count c.args.next.count w.if-self-gt0.true some_more less h),
           )
       | else-self-gt0 w ↦
           let none : c.args.self.now.count ≡ 0 = omega (arith, w.if-self-gt0.false) in (
             [],
             rw w.text-is (sym (append-nil c.args.text.now.items)),
             λ done read some_more h. rw word
-                (holds_first done read c.args.self.now.word.items c.args.record.word.now c.args.record.count some_more (rw none at h)),
+                (holds_first done read c.args.self.now.word.items c.args.next.word.now c.args.next.count some_more (rw none at h)),
           )
     ]

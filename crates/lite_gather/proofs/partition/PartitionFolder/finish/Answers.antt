@@ -1,6 +1,6 @@
 use Rattle.std.specs.Prelude.{refl}
 use Rattle.lite_gather.specs.Uses.{◌∙◌, ap, sym}
-use Rattle.lite_gather.proofs.partition.PartitionFolder.close.Goals as goal
+use Rattle.lite_gather.proofs.partition.PartitionFolder.finish.Goals as goal
 
 pub returns : goal.returns
 returns g c = (

@@ -1,5 +1,5 @@
 //! Whole sessions over readers and writers that come in pieces, wait, fail and end.
-use crate::session::serve_session;
+use example_lines::session::serve_session;
 use framed::{FrameError, FramedRead, LineDelimited, ServeError};
 use futures_lite::future::BlockOn;
 use futures_lite::io::{AsyncBufRead, AsyncWrite, BufReader, BufWriter, CountedRead};

@@ -1,6 +1,6 @@
-use crate::echo::Echo;
-use crate::http_error::HttpError;
-use crate::session::serve_session;
+use example_http::echo::Echo;
+use example_http::http_error::HttpError;
+use example_http::session::serve_session;
 use futures_lite::future::BlockOn;
 use futures_lite::io::{AsyncWrite, BufReader, BufWriter};
 use http_server::Config;

@@ -1,10 +1,10 @@
 //! Whole sessions over a reader and a writer that come in pieces, wait, fail and end.
-use crate::error::{ReplyError, RequestError};
-use crate::limits::Limits;
-use crate::reply::Replies;
-use crate::requests::Requests;
-use crate::session::serve_session;
-use crate::store::Store;
+use example_redis::error::{ReplyError, RequestError};
+use example_redis::limits::Limits;
+use example_redis::reply::Replies;
+use example_redis::requests::Requests;
+use example_redis::session::serve_session;
+use example_redis::store::Store;
 use framed::{FramedRead, ServeError};
 use futures_lite::future::BlockOn;
 use futures_lite::io::BufReader;

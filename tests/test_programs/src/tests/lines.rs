@@ -1,9 +1,9 @@
 //! What no clause says: whole sessions, byte by byte, and each public function once.
 mod sessions;
 
-use crate::request::{Request, parse};
-use crate::store::Store;
 use bytes::BytesMut;
+use example_lines::request::{Request, parse};
+use example_lines::store::Store;
 use framed::{Answer, LineDelimited, Service};
 use std::alloc::Global;
 use std::test::Fail;

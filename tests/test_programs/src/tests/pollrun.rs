@@ -1,5 +1,5 @@
-use crate::serve::serve;
 use futures::task::{Doorbell, Solo};
+use pollrun::serve::serve;
 use std::io::{self, Error, ErrorKind, Write};
 use std::test::Fail;
 

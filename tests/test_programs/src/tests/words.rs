@@ -1,7 +1,7 @@
 //! What no clause says: which errors are returned, and that shards give what the whole text gives.
-use crate::fault::{LineError, WordsError};
-use crate::map::map;
-use crate::reduce::reduce;
+use example_words::fault::{LineError, WordsError};
+use example_words::map::map;
+use example_words::reduce::reduce;
 use futures_lite::future::BlockOn;
 use futures_lite::io::{BufReader, BufWriter};
 use lite_mock::{Marks, Order, Takes};

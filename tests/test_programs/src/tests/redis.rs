@@ -1,13 +1,13 @@
 //! What no clause says: bytes of real clients, and each public function once.
 mod sessions;
 
-use crate::commands::Outcome;
-use crate::error::{ReplyError, RequestError};
-use crate::limits::Limits;
-use crate::reply::{Replies, Reply};
-use crate::requests::{Request, Requests};
-use crate::store::Store;
 use bytes::BytesMut;
+use example_redis::commands::Outcome;
+use example_redis::error::{ReplyError, RequestError};
+use example_redis::limits::Limits;
+use example_redis::reply::{Replies, Reply};
+use example_redis::requests::{Request, Requests};
+use example_redis::store::Store;
 use std::alloc::Global;
 use std::test::Fail;
 use tokio_util::codec::{Decoder, Encoder};

@@ -1,0 +1,5 @@
+//! Tests of programs.
+#![tactic(auto)]
+
+#[cfg(test)]
+mod tests;

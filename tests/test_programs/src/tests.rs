@@ -1,0 +1,5 @@
+mod http;
+mod lines;
+mod pollrun;
+mod redis;
+mod words;

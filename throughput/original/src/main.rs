@@ -1,0 +1,156 @@
+//! `throughput-original CASE N` runs a case of `throughput` over the original, and prints the same number.
+
+mod bytes;
+mod codecs;
+mod consuming;
+mod journals;
+mod merging;
+mod polled;
+mod sizes;
+mod streams;
+mod texts;
+mod values;
+mod waits;
+
+use std::process::ExitCode;
+use std::task::{Context, Waker};
+
+/// A piece of text of 16 bytes.
+const LETTERS: &[u8] = b"0123456789abcdef";
+
+fn main() -> ExitCode {
+    let words: Vec<String> = std::env::args().skip(1).collect();
+    let [name, size] = words.as_slice() else {
+        return ExitCode::from(2);
+    };
+    let Ok(n) = size.parse() else {
+        return ExitCode::from(2);
+    };
+    let mut cx = Context::from_waker(Waker::noop());
+    match computed(&mut cx, name, n) {
+        Some(number) => println!("{number}"),
+        None => return ExitCode::from(2),
+    }
+    ExitCode::SUCCESS
+}
+
+/// What the case of this name computes at size `n`.
+fn computed(cx: &mut Context<'_>, name: &str, n: u64) -> Option<u64> {
+    Some(match name {
+        "iter" => streams::iter(cx, n, n),
+        "map" => streams::map(cx, n, n),
+        "filter" => streams::filter(cx, n, n),
+        "filter_map" => streams::filter_map(cx, n, n),
+        "skip" => streams::skip(cx, n, n),
+        "step_by" => streams::step_by(cx, n, n),
+        "take" => streams::take(cx, n, n),
+        "take_while" => streams::take_while(cx, n, n),
+        "map_while" => streams::map_while(cx, n, n),
+        "scan" => streams::scan(cx, n, n),
+        "enumerate" => streams::enumerate(cx, n, n),
+        "chain" => streams::chain(cx, n, n),
+        "flat_map" => streams::flat_map(cx, n, n),
+        "then" => streams::then(cx, n, n),
+        "unfold" => streams::unfold(cx, n, n),
+        "nest" => streams::nest(cx, n, n),
+        "nest_of_eight" => streams::nest_of_eight(cx, n, n),
+        "joined" => streams::joined(cx, n, n),
+        "scripts" => streams::scripts(cx, n),
+        "skip_while" => streams::skip_while(cx, n, n),
+        "inspect" => streams::inspect(cx, n, n),
+        "fuse" => streams::fuse(cx, n, n),
+        "flatten" => streams::flatten(cx, n, n),
+        "made_numbers" => streams::made_numbers(n),
+        "copied" => streams::copied(cx, n, n),
+        "cloned" => streams::cloned(cx, n, n),
+        "repeat_with" => streams::repeat_with(cx, n),
+        "poll_fn" => streams::poll_fn(cx, n, n),
+        "last" => consuming::last(cx, n),
+        "nth" => consuming::nth(cx, n),
+        "any" => consuming::any(cx, n),
+        "position" => consuming::position(cx, n),
+        "find_map" => consuming::find_map(cx, n),
+        "for_each" => consuming::for_each(cx, n),
+        "try_for_each" => consuming::try_for_each(cx, n),
+        "try_fold" => consuming::try_fold(cx, n),
+        "try_next" => consuming::try_next(cx, n, n),
+        "try_collect" => consuming::try_collect(cx, n),
+        "partition" => consuming::partition(cx, n),
+        "unzip" => consuming::unzip(cx, n),
+        "try_zip" => values::try_zip(cx, n),
+        "poll_once" => values::poll_once(cx, n),
+        "wait_read" => waits::read(n),
+        "wait_read_exact" => waits::read_exact(n),
+        "wait_read_until" => waits::read_until(n),
+        "wait_read_until_limited" => waits::read_until_limited(n),
+        "wait_write_all" => waits::write_all(n),
+        "wait_frame" => waits::frames(n),
+        "wait_send" => waits::sends(n),
+        "vectored_read" => bytes::vectored_read(cx, n),
+        "seek" => bytes::seek(cx, n),
+        "take_read" => bytes::take_read(cx, n),
+        "asserted_read" => bytes::asserted_read(cx, n),
+        "next" => consuming::next(cx, n, n),
+        "count" => consuming::count(cx, n),
+        "fold" => consuming::fold(cx, n),
+        "find" => consuming::find(cx, n),
+        "all" => consuming::all(cx, n),
+        "collect" => consuming::collect(cx, n),
+        "zip_streams" => merging::zip(cx, n, n),
+        "or_streams" => merging::or(cx, n, n),
+        "race_streams" => merging::race_with_seed(cx, n, n),
+        "cycle" => merging::cycle(cx, n, n),
+        "drain" => merging::drain(cx, n, n),
+        "stop_after_future" => merging::stop_after_future(cx, n, n),
+        "zip" => values::zip(cx, n),
+        "zip_of_eight" => values::zip_of_eight(cx, n),
+        "or" => values::or(cx, n),
+        "race_with_seed" => values::race_with_seed(cx, n),
+        "block_on_ready" | "held_ready" => values::block_on_ready(n),
+        "block_on_yield" | "held_yield" => values::block_on_yield(n),
+        "blocking_next" => consuming::blocking_next(n, n),
+        "blocking_read" => bytes::blocking_read(n),
+        "waits_next" => consuming::waits_next(n, n),
+        "waits_read" => bytes::waits_read(n),
+        "made_noise" => bytes::made_noise(n),
+        "bytes" => bytes::bytes(cx, n),
+        "cursor_read" => bytes::cursor_read(cx, n),
+        "buf_reader" => bytes::buf_reader(cx, n),
+        "chain_read" => bytes::chain_read(cx, n),
+        "fill" => bytes::fill(cx, n),
+        "take_fill" => bytes::take_fill(cx, n),
+        "chain_fill" => bytes::chain_fill(cx, n),
+        "cursor_overwrite" => bytes::cursor_overwrite(cx, n),
+        "cursor_extend" => bytes::cursor_extend(cx, n),
+        "made_text" => texts::made_text(n),
+        "made_lines_8" => texts::made_lines(&texts::narrow_line(7), n),
+        "made_lines_16" => texts::made_lines(LETTERS, n / 16),
+        "made_wide_16" => texts::made_lines(texts::WIDE.as_bytes(), n / 16),
+        "made_values" => texts::made_lines(codecs::VALUE, n),
+        "made_lines_2000" => texts::made_lines(&texts::narrow_line(1999), n),
+        "made_wide_lines_8" => texts::made_lines(&texts::wide_line(3), n),
+        "made_wide_lines_2000" => texts::made_lines(&texts::wide_line(999), n),
+        "lines" => texts::lines(cx, n),
+        "lines_8" => texts::lines_of(cx, &texts::narrow_line(7), n),
+        "lines_2000" => texts::lines_of(cx, &texts::narrow_line(1999), n),
+        "wide_lines_8" => texts::lines_of(cx, &texts::wide_line(3), n),
+        "wide_lines_2000" => texts::lines_of(cx, &texts::wide_line(999), n),
+        "read_to_string" => texts::read_to_string(cx, LETTERS, n),
+        "read_wide_to_string" => texts::read_to_string(cx, texts::WIDE.as_bytes(), n),
+        "split" => texts::split(cx, n),
+        "read_until" => texts::read_until(cx, n),
+        "read_line" => texts::read_line(cx, n),
+        "read_line_growing" => texts::read_line_growing(cx, n),
+        "read_exact" => texts::read_exact(cx, n),
+        "read_to_end" => texts::read_to_end(cx, n),
+        "copy" => texts::copy(cx, n),
+        "write_all" => texts::write_all(cx, n),
+        "buf_writer" => texts::buf_writer(cx, n),
+        "values" | "values_by_hand" => codecs::values_by_hand(cx, n),
+        "served_lines" => codecs::served_lines(n),
+        "journal" => journals::journal(cx, n),
+        "half" => journals::half(cx, n),
+        "size_of" => sizes::size_of_nest(n),
+        _ => return None,
+    })
+}

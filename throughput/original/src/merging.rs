@@ -1,0 +1,43 @@
+//! Adapters that merge two streams, go round one, or stop it. Each case gives `n` items.
+
+use crate::polled::{fold_items, fold_pairs};
+use futures_lite::{future, stream, StreamExt};
+use std::pin::pin;
+use std::task::Context;
+
+#[inline(never)]
+pub fn zip(cx: &mut Context<'_>, n: u64, polls: u64) -> u64 {
+    fold_pairs(pin!(stream::iter(0..n).zip(stream::iter(5..n.wrapping_add(5)))), cx, polls)
+}
+
+/// The items of the first stream, and then those of the second.
+#[inline(never)]
+pub fn or(cx: &mut Context<'_>, n: u64, polls: u64) -> u64 {
+    let half = n / 2;
+    fold_items(pin!(stream::iter(0..half).or(stream::iter(half..n))), cx, polls)
+}
+
+#[inline(never)]
+pub fn race_with_seed(cx: &mut Context<'_>, n: u64, polls: u64) -> u64 {
+    let merged = stream::race_with_seed(stream::iter(0..n), stream::iter(n..n.wrapping_mul(2)), 7);
+    fold_items(pin!(merged), cx, polls)
+}
+
+/// Rounds of 8 items, whose first isn't known to the compiler.
+#[inline(never)]
+pub fn cycle(cx: &mut Context<'_>, n: u64, polls: u64) -> u64 {
+    let first = n % 8;
+    fold_items(pin!(stream::iter(first..first + 8).cycle()), cx, polls)
+}
+
+#[inline(never)]
+pub fn drain(cx: &mut Context<'_>, n: u64, polls: u64) -> u64 {
+    let mut numbers = stream::iter(0..n);
+    fold_items(pin!(numbers.drain()), cx, polls)
+}
+
+#[inline(never)]
+pub fn stop_after_future(cx: &mut Context<'_>, n: u64, polls: u64) -> u64 {
+    let numbers = stream::stop_after_future(stream::iter(0..n), future::pending::<()>());
+    fold_items(pin!(numbers), cx, polls)
+}

@@ -1,0 +1,130 @@
+//! Waits, `n` of each, each by a `block_on`; and frames by hand.
+
+use crate::bytes::BLOCK;
+use crate::codecs::{LINE, MAX, VALUE};
+use crate::texts::{repeated, text};
+use futures_lite::future::block_on;
+use futures_lite::io::{AsyncBufReadExt, AsyncReadExt, AsyncWriteExt};
+
+/// So many blocks, each by one read.
+#[inline(never)]
+pub fn read(n: u64) -> u64 {
+    let bytes = text(n);
+    let mut reader = bytes.as_slice();
+    let mut block = [0u8; BLOCK as usize];
+    let mut sum = 0u64;
+    for _ in 0..n {
+        let Ok(count) = block_on(reader.read(&mut block)) else {
+            break;
+        };
+        sum = sum.wrapping_add(count as u64);
+    }
+    sum
+}
+
+/// So many blocks, each read until it is full.
+#[inline(never)]
+pub fn read_exact(n: u64) -> u64 {
+    let bytes = text(n);
+    let mut reader = bytes.as_slice();
+    let mut block = [0u8; BLOCK as usize];
+    let mut sum = 0u64;
+    for _ in 0..n {
+        let Ok(()) = block_on(reader.read_exact(&mut block)) else {
+            break;
+        };
+        sum = sum.wrapping_add(block[0] as u64);
+    }
+    sum
+}
+
+/// So many lines into one vector, which is emptied before each.
+#[inline(never)]
+pub fn read_until(n: u64) -> u64 {
+    let bytes = text(n);
+    let mut reader = bytes.as_slice();
+    let mut line = Vec::new();
+    let mut sum = 0u64;
+    for _ in 0..n {
+        line.clear();
+        let Ok(count) = block_on(reader.read_until(b'\n', &mut line)) else {
+            break;
+        };
+        sum = sum.wrapping_add(count as u64);
+    }
+    sum
+}
+
+/// As `read_until`, with a limit.
+#[inline(never)]
+pub fn read_until_limited(n: u64) -> u64 {
+    let bytes = text(n);
+    let mut reader = bytes.as_slice();
+    let mut line = Vec::new();
+    let mut sum = 0u64;
+    for _ in 0..n {
+        line.clear();
+        let Ok(count) = block_on((&mut reader).take(LINE as u64).read_until(b'\n', &mut line)) else {
+            break;
+        };
+        sum = sum.wrapping_add(count as u64);
+    }
+    sum
+}
+
+/// So many blocks into a vector with room for them, with a flush behind each.
+#[inline(never)]
+pub fn write_all(n: u64) -> u64 {
+    let mut bytes = Vec::with_capacity((n * BLOCK) as usize);
+    for i in 0..n {
+        let block = [(i & 255) as u8; BLOCK as usize];
+        let Ok(()) = block_on(bytes.write_all(&block)) else {
+            break;
+        };
+        let Ok(()) = block_on(bytes.flush()) else {
+            break;
+        };
+    }
+    bytes.len() as u64
+}
+
+/// The bytes of so many frames, without their numbers.
+#[inline(never)]
+pub fn frames(n: u64) -> u64 {
+    let bytes = repeated(VALUE, n);
+    let mut reader = bytes.as_slice();
+    let mut sum = 0u64;
+    for _ in 0..n {
+        let mut number = [0u8; 4];
+        let Ok(()) = block_on(reader.read_exact(&mut number)) else {
+            break;
+        };
+        let number = u32::from_be_bytes(number);
+        if number > MAX {
+            break;
+        }
+        let mut frame = vec![0u8; number as usize];
+        let Ok(()) = block_on(reader.read_exact(&mut frame)) else {
+            break;
+        };
+        sum = sum.wrapping_add(frame.len() as u64);
+    }
+    sum
+}
+
+/// So many values, each sent as a frame into a vector with room for them.
+#[inline(never)]
+pub fn sends(n: u64) -> u64 {
+    let mut bytes = Vec::with_capacity((n * BLOCK) as usize * 2);
+    let mut out = Vec::new();
+    for i in 0..n {
+        let block = [(i & 255) as u8; BLOCK as usize];
+        out.clear();
+        out.extend_from_slice(&(block.len() as u32).to_be_bytes());
+        out.extend_from_slice(&block);
+        let Ok(()) = block_on(bytes.write_all(&out)) else {
+            break;
+        };
+    }
+    bytes.len() as u64
+}

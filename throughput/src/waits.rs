@@ -1,0 +1,151 @@
+//! Calls that wait, `n` of each, with one `BlockOn` for all.
+
+use crate::bytes::{BLOCK, blocks_len};
+use crate::codecs::{LINE, MAX, VALUE};
+use crate::fault::Fault;
+use crate::texts::{repeated, text};
+use bytes::BytesMut;
+use framed::{FramedRead, LengthDelimited, wait_frame, wait_send};
+use futures_lite::future::BlockOn;
+use futures_lite::io::{wait_read, wait_read_exact, wait_read_until, wait_read_until_limited};
+use futures_lite::io::{wait_flush, wait_write_all};
+use std::alloc::AllocGlobal;
+use std::random::RandomSource;
+use std::sync::Wait;
+
+/// So many blocks, each by one read.
+#[inline(never)]
+pub(crate) fn read<R>(rt: &R, n: u64) -> Result<u64, Fault>
+where
+    R: Wait + RandomSource + AllocGlobal,
+{
+    let bytes = text(rt.alloc(), n)?;
+    let (mut on, mut reader) = (BlockOn::new(rt)?, bytes.as_slice());
+    let mut block = [0u8; BLOCK as usize];
+    let mut sum = 0u64;
+    for _ in 0..n {
+        let Ok(count) = wait_read(&mut on, rt, &mut reader, &mut block)? else {
+            break;
+        };
+        sum = sum.wrapping_add(count as u64);
+    }
+    Ok(sum)
+}
+
+/// So many blocks, each read until it is full.
+#[inline(never)]
+pub(crate) fn read_exact<R>(rt: &R, n: u64) -> Result<u64, Fault>
+where
+    R: Wait + RandomSource + AllocGlobal,
+{
+    let bytes = text(rt.alloc(), n)?;
+    let (mut on, mut reader) = (BlockOn::new(rt)?, bytes.as_slice());
+    let mut block = [0u8; BLOCK as usize];
+    let mut sum = 0u64;
+    for _ in 0..n {
+        let Ok(()) = wait_read_exact(&mut on, rt, &mut reader, &mut block)? else {
+            break;
+        };
+        sum = sum.wrapping_add(block[0] as u64);
+    }
+    Ok(sum)
+}
+
+/// So many lines into one vector, which is emptied before each.
+#[inline(never)]
+pub(crate) fn read_until<R>(rt: &R, n: u64) -> Result<u64, Fault>
+where
+    R: Wait + RandomSource + AllocGlobal,
+{
+    let bytes = text(rt.alloc(), n)?;
+    let (mut on, mut reader) = (BlockOn::new(rt)?, bytes.as_slice());
+    let mut line = Vec::new(rt.alloc());
+    let mut sum = 0u64;
+    for _ in 0..n {
+        line.clear();
+        let Ok(count) = wait_read_until(&mut on, rt, &mut reader, b'\n', &mut line)? else {
+            break;
+        };
+        sum = sum.wrapping_add(count as u64);
+    }
+    Ok(sum)
+}
+
+/// As `read_until`, with a limit.
+#[inline(never)]
+pub(crate) fn read_until_limited<R>(rt: &R, n: u64) -> Result<u64, Fault>
+where
+    R: Wait + RandomSource + AllocGlobal,
+{
+    let bytes = text(rt.alloc(), n)?;
+    let (mut on, mut reader) = (BlockOn::new(rt)?, bytes.as_slice());
+    let mut line = Vec::new(rt.alloc());
+    let mut sum = 0u64;
+    for _ in 0..n {
+        line.clear();
+        let read = wait_read_until_limited(&mut on, rt, &mut reader, b'\n', LINE as u64, &mut line)?;
+        let Ok(count) = read else {
+            break;
+        };
+        sum = sum.wrapping_add(count as u64);
+    }
+    Ok(sum)
+}
+
+/// So many blocks into a vector with room for them, with a flush behind each.
+#[inline(never)]
+pub(crate) fn write_all<R>(rt: &R, n: u64) -> Result<u64, Fault>
+where
+    R: Wait + RandomSource + AllocGlobal,
+{
+    let mut on = BlockOn::new(rt)?;
+    let mut bytes = Vec::with_capacity(rt.alloc(), blocks_len(n)? as usize)?;
+    for i in 0..n {
+        let block = [(i & 255) as u8; BLOCK as usize];
+        let Ok(()) = wait_write_all(&mut on, rt, &mut bytes, &block)? else {
+            break;
+        };
+        let Ok(()) = wait_flush(&mut on, rt, &mut bytes)? else {
+            break;
+        };
+    }
+    Ok(bytes.len() as u64)
+}
+
+/// The bytes of so many frames, without their numbers.
+#[inline(never)]
+pub(crate) fn frames<R>(rt: &R, n: u64) -> Result<u64, Fault>
+where
+    R: Wait + RandomSource + AllocGlobal,
+{
+    let bytes = repeated(rt.alloc(), VALUE, n)?;
+    let mut on = BlockOn::new(rt)?;
+    let mut frames = FramedRead::new(rt.alloc(), bytes.as_slice(), LengthDelimited { max: MAX });
+    let mut sum = 0u64;
+    for _ in 0..n {
+        let Some(Ok(frame)) = wait_frame(&mut on, rt, &mut frames) else {
+            break;
+        };
+        sum = sum.wrapping_add(frame.len() as u64);
+    }
+    Ok(sum)
+}
+
+/// So many values, each sent as a frame into a vector with room for them.
+#[inline(never)]
+pub(crate) fn sends<R>(rt: &R, n: u64) -> Result<u64, Fault>
+where
+    R: Wait + RandomSource + AllocGlobal,
+{
+    let (mut on, mut out) = (BlockOn::new(rt)?, BytesMut::new(rt.alloc()));
+    let mut bytes = Vec::with_capacity(rt.alloc(), (blocks_len(n)? as usize).saturating_mul(2))?;
+    let mut encoder = LengthDelimited { max: MAX };
+    for i in 0..n {
+        let block = [(i & 255) as u8; BLOCK as usize];
+        let sent = wait_send(&mut on, rt, &mut bytes, &mut encoder, block.as_slice(), &mut out);
+        if sent.is_err() {
+            break;
+        }
+    }
+    Ok(bytes.len() as u64)
+}
