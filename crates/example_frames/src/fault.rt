@@ -2,6 +2,7 @@
 
 use crate::entries::EntryError;
 use framed::FrameError;
+use programs::ProgramError;
 use std::alloc::AllocError;
 use std::{fmt, io};
 use tokio_util::codec::LinesCodecError;
@@ -17,6 +18,15 @@ pub enum Fault {
     Io(io::Error),
     /// Memory was refused.
     Memory,
+}
+
+impl ProgramError for Fault {
+    fn is_broken_pipe(&self) -> bool {
+        match self {
+            Fault::Io(e) => e.is_broken_pipe(),
+            _ => false,
+        }
+    }
 }
 
 impl fmt::Display for Fault {

@@ -19,6 +19,7 @@ use framing::{read_all, send_and_read, write_frame};
 use futures_lite::future::BlockOn;
 use futures_lite::io::{BufReader, Cursor};
 use netstring::Netstring;
+use programs::end;
 use std::alloc::AllocGlobal;
 use std::io::BufRead;
 use std::process::ExitCode;
@@ -29,13 +30,7 @@ use std::sync::Wait;
 const LIMIT: u32 = 1 << 16;
 
 fn main(rt: HostRuntime) -> ExitCode {
-    match there_and_back(&rt, &rt) {
-        Ok(()) => ExitCode::from(0),
-        Err(e) => {
-            let _ = eprintln!(rt; "example_frames: {e}");
-            ExitCode::from(1)
-        }
-    }
+    end(&rt, "example_frames", there_and_back(&rt, &rt))
 }
 
 /// Writes the lines as frames, and prints what is read of them. `rt` is the host as one that may wait.

@@ -25,6 +25,15 @@ impl From<HttpError> for ProgramError {
     }
 }
 
+impl programs::ProgramError for ProgramError {
+    fn is_broken_pipe(&self) -> bool {
+        match self {
+            ProgramError::Output(e) => e.is_broken_pipe(),
+            _ => false,
+        }
+    }
+}
+
 impl fmt::Display for ProgramError {
     fn fmt<W: fmt::Write>(&self, f: &mut fmt::Formatter<W>) -> fmt::Result {
         match self {

@@ -27,6 +27,7 @@ use futures_lite::AsyncReadExt;
 use futures_lite::future::BlockOn;
 use futures_lite::io::{AssertAsync, BufReader, BufWriter};
 use http_server::Config;
+use programs::end;
 use session::serve_session;
 use std::alloc::AllocGlobal;
 use std::hash::RandomState;
@@ -38,13 +39,7 @@ use std::sync::Wait;
 const BYTES: usize = 1 << 16;
 
 fn main(rt: HostRuntime) -> ExitCode {
-    match serve_standard(&rt, &rt) {
-        Ok(()) => ExitCode::from(0),
-        Err(e) => {
-            let _ = eprintln!(rt; "example_http: {e}");
-            ExitCode::from(1)
-        }
-    }
+    end(&rt, "example_http", serve_standard(&rt, &rt))
 }
 
 /// Serves standard input. `rt` is the host as one that may wait.

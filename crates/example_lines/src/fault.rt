@@ -1,5 +1,6 @@
 //! Why the program stops.
 use framed::{FrameError, ServeError};
+use programs::ProgramError;
 use std::fmt;
 
 /// Why the program stopped before the end of the session.
@@ -9,6 +10,15 @@ pub enum Fault {
     Served(ServeError<FrameError, FrameError>),
     /// Memory was refused before the first request.
     Memory,
+}
+
+impl ProgramError for Fault {
+    fn is_broken_pipe(&self) -> bool {
+        match self {
+            Fault::Served(ServeError::Output(e)) => e.is_broken_pipe(),
+            _ => false,
+        }
+    }
 }
 
 impl fmt::Display for Fault {

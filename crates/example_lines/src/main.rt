@@ -17,6 +17,7 @@ use framed::{FramedRead, LineDelimited};
 use futures_lite::AsyncReadExt;
 use futures_lite::future::BlockOn;
 use futures_lite::io::{AssertAsync, BufReader, BufWriter};
+use programs::end;
 use session::serve_session;
 use std::alloc::AllocGlobal;
 use std::process::ExitCode;
@@ -30,13 +31,7 @@ const BYTES: usize = 1 << 16;
 const LIMIT: usize = 1 << 16;
 
 fn main(rt: HostRuntime) -> ExitCode {
-    match serve_standard(&rt, &rt) {
-        Ok(()) => ExitCode::from(0),
-        Err(e) => {
-            let _ = eprintln!(rt; "example_lines: {e}");
-            ExitCode::from(1)
-        }
-    }
+    end(&rt, "example_lines", serve_standard(&rt, &rt))
 }
 
 /// Serves standard input. `rt` is the host as one that may wait.

@@ -1,6 +1,7 @@
 //! Why the program stops.
 use crate::error::{ReplyError, RequestError};
 use framed::ServeError;
+use programs::ProgramError;
 use std::fmt;
 
 /// Why the program stopped before the end of the session.
@@ -10,6 +11,15 @@ pub enum Fault {
     Served(ServeError<RequestError, ReplyError>),
     /// Memory was refused before the first request.
     Memory,
+}
+
+impl ProgramError for Fault {
+    fn is_broken_pipe(&self) -> bool {
+        match self {
+            Fault::Served(ServeError::Output(e)) => e.is_broken_pipe(),
+            _ => false,
+        }
+    }
 }
 
 impl fmt::Display for Fault {

@@ -28,6 +28,7 @@ use futures_lite::AsyncReadExt;
 use futures_lite::future::BlockOn;
 use futures_lite::io::{AssertAsync, BufReader, BufWriter};
 use limits::Limits;
+use programs::end;
 use reply::Replies;
 use requests::Requests;
 use session::serve_session;
@@ -44,13 +45,7 @@ const BYTES: usize = 1 << 16;
 const DEPTH: usize = 8;
 
 fn main(rt: HostRuntime) -> ExitCode {
-    match serve_standard(&rt, &rt) {
-        Ok(()) => ExitCode::from(0),
-        Err(e) => {
-            let _ = eprintln!(rt; "example_redis: {e}");
-            ExitCode::from(1)
-        }
-    }
+    end(&rt, "example_redis", serve_standard(&rt, &rt))
 }
 
 /// Serves standard input. `rt` is the host as one that may wait.

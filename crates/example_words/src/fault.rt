@@ -1,6 +1,6 @@
 //! Why the program stops.
+use programs::ProgramError;
 use std::alloc::AllocError;
-use std::io::ErrorKind;
 use std::{fmt, io};
 
 /// Why the program stopped.
@@ -35,11 +35,10 @@ pub enum LineError {
     Memory,
 }
 
-impl WordsError {
-    /// Returns whether nobody reads the output any more.
-    pub fn is_broken_pipe(&self) -> bool {
+impl ProgramError for WordsError {
+    fn is_broken_pipe(&self) -> bool {
         match self {
-            WordsError::Output(e) => e.kind() == ErrorKind::BrokenPipe,
+            WordsError::Output(e) => e.is_broken_pipe(),
             _ => false,
         }
     }

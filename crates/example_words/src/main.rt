@@ -6,6 +6,8 @@
 //!
 //! An error is one line on standard error, and the status 1; bad usage is the status 2. If the output is a pipe that nobody
 //! reads any more, the program ends without a message, with the status 141 that a shell shows for a tool that SIGPIPE ended.
+//!
+//! If standard error is a terminal, it tells there once a second how much it has read, without the word `--quiet`.
 #![tactic(auto)]
 
 mod counts;
@@ -23,13 +25,16 @@ use futures_lite::AsyncReadExt;
 use futures_lite::future::BlockOn;
 use futures_lite::io::{AssertAsync, BufReader, BufWriter};
 use map::map;
+use programs::{Command, Watched, end, misused};
 use reduce::reduce;
 use std::alloc::AllocGlobal;
-use std::env;
-use std::io::ErrorKind;
+use std::io::IsTerminal;
 use std::process::ExitCode;
 use std::random::RandomSource;
 use std::sync::Wait;
+
+/// The name of the program.
+const NAME: &str = "example_words";
 
 /// How many bytes are read in a row before the program yields.
 const BYTES: usize = 1 << 20;
@@ -47,55 +52,39 @@ enum Mode {
 }
 
 fn main(rt: HostRuntime) -> ExitCode {
-    let mode = match mode_of(&rt) {
-        Ok(Some(mode)) => mode,
-        Ok(None) => {
-            let _ = eprintln!(rt; "example_words: usage: example_words map | example_words reduce");
-            return ExitCode::from(2);
-        }
-        Err(e) => return failed(&rt, &e),
+    let command = match Command::of(&rt) {
+        Ok(command) => command,
+        Err(e) => return end(&rt, NAME, Err(e)),
     };
-    match run_standard(&rt, &rt, mode) {
-        Ok(()) => ExitCode::from(0),
-        Err(e) => failed(&rt, &e),
+    match mode_of(&command.words) {
+        Some(mode) => end(&rt, NAME, run_standard(&rt, &rt, mode, command.quiet)),
+        None => misused(
+            &rt,
+            NAME,
+            "example_words map [--quiet] | example_words reduce [--quiet]",
+        ),
     }
 }
 
-/// Reports the error, if it is not that nobody reads the output, and returns the status.
-fn failed(rt: &HostRuntime, error: &WordsError) -> ExitCode {
-    if error.is_broken_pipe() {
-        return ExitCode::from(141);
-    }
-    let _ = eprintln!(rt; "example_words: {error}");
-    ExitCode::from(1)
-}
-
-/// Returns what the arguments ask for. `None` is bad usage.
-fn mode_of(rt: &HostRuntime) -> Result<Option<Mode>, WordsError> {
-    let words = match env::args(rt) {
-        Ok(words) => words,
-        Err(e) if e.kind() == ErrorKind::InvalidData => return Ok(None),
-        Err(_) => return Err(WordsError::Memory),
-    };
-    let mut words = words.skip(1);
-    let (Some(word), None) = (words.next(), words.next()) else {
-        return Ok(None);
-    };
-    Ok(match word.as_str() {
-        "map" => Some(Mode::Map),
-        "reduce" => Some(Mode::Reduce),
+/// Returns what the words ask for. `None` is bad usage.
+fn mode_of(words: &[String]) -> Option<Mode> {
+    match words {
+        [word] if word.as_str() == "map" => Some(Mode::Map),
+        [word] if word.as_str() == "reduce" => Some(Mode::Reduce),
         _ => None,
-    })
+    }
 }
 
 /// Runs from standard input to standard output. `rt` is the host as one that may wait.
-fn run_standard<R>(host: &HostRuntime, rt: &R, mode: Mode) -> Result<(), WordsError>
+fn run_standard<R>(host: &HostRuntime, rt: &R, mode: Mode, quiet: bool) -> Result<(), WordsError>
 where
     R: Wait + RandomSource + AllocGlobal,
 {
     let mut on = BlockOn::new(rt)?;
-    let input = AssertAsync::new(host.stdin()).with_budget(BYTES);
-    let Ok(mut reader) = BufReader::with_capacity(rt.alloc(), BUFFER, input) else {
+    let is_silent = quiet || !host.stderr().is_terminal();
+    let input = AssertAsync::new(Watched::new(host.stdin(), host, NAME, is_silent));
+    let Ok(mut reader) = BufReader::with_capacity(rt.alloc(), BUFFER, input.with_budget(BYTES))
+    else {
         return Err(WordsError::Memory);
     };
     let output = AssertAsync::new(host.stdout());

@@ -1,0 +1,10 @@
+//! What programs share: how they end, and how they tell how much they have read.
+#![tactic(auto)]
+
+mod command;
+mod ending;
+mod watched;
+
+pub use command::Command;
+pub use ending::{BROKEN_PIPE, ProgramError, end, misused};
+pub use watched::Watched;
