@@ -15,6 +15,7 @@ mod streams_here;
 mod table;
 mod tally;
 mod ticks;
+mod total;
 mod upper;
 
 use std::io;

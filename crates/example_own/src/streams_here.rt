@@ -2,6 +2,7 @@
 use crate::counter::Counter;
 use crate::evens::{even_numbers, evens};
 use crate::ticks::Ticks;
+use crate::total::total;
 use futures_lite::future::{block_on, poll_fn};
 use futures_lite::{Doorbell, Solo, Stream, StreamExt, stream};
 use std::alloc::AllocGlobal;
@@ -32,5 +33,6 @@ where
     cx.cancel();
     ran?;
     println!(rt; "{answers:?}")?;
-    println!(rt; "{:?}", evens(rt, Counter { next: 1, end: 10 })?)
+    println!(rt; "{:?}", evens(rt, Counter { next: 1, end: 10 })?)?;
+    println!(rt; "{}", total(rt, vec![in rt.alloc(); 3u64, 4, 5]?)?)
 }

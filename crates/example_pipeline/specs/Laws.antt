@@ -1,22 +1,14 @@
--- Laws of the pipeline: of numbers and their digits, of windows and one more number, of texts and their bytes, and of a
--- writer to which nothing was written.
-use Rattle.std.proofs.Common.{◌≡◌, ◌==◌, ℕ, ◌+◌, ◌^◌, ◌%◌, ◌<◌, ◌≤◌, ◌∙◌, ◌&&◌, Bool, true, false, cond, not}
-use Rattle.std.proofs.Common.{List, [], ◌∷◌, ◌++◌, Option, Some, None, String, Global, ap, ap₂, append-nil}
-use Rattle.std.proofs.Common.{arith, filter, flat_map, if◌then◌else◌, length, lt-ltb}
-use Rattle.std.proofs.Common.{ltb-true, map, nat_lt, refl, string_bytes, sym}
-use Rattle.std.proofs.lemmas.Grind.{flat_map-append}
-use Rattle.std.proofs.lemmas.List.{length-map}
+-- Laws of the pipeline: of numbers and their digits, of windows and one more number, and of the ends of lines.
+use Rattle.std.proofs.Common.{◌≡◌, ◌==◌, ℕ, zero, suc, ◌+◌, ◌^◌, ◌<◌, ◌≤◌, ◌&&◌, Bool, true, false}
+use Rattle.std.proofs.Common.{List, [], ◌∷◌, ◌++◌, Option, Some, None, ap, arith, drop, if◌then◌else◌, length, lt-ltb, ltb-true}
+use Rattle.std.proofs.Common.{eqb-true, refl}
+use Rattle.std.proofs.lemmas.Fmt.{IsAscii-from_digits}
+use Rattle.std.proofs.lemmas.Str.{IsUtf8-from_ascii}
 use Rattle.std.proofs.lemmas.Str.Parse.{IsNumeralModel, numerals_by_value, tells_all_ascii_digits}
-use Rattle.std.specs.List.{prefix_len}
-use Rattle.std.specs.Option.{is_none}
+use Rattle.std.specs.Prelude.{IsAscii, IsUtf8}
 use Rattle.std.specs.Str.{all_ascii_digits}
-use Rattle.std.specs.Str.Parse.{IsNumeral, digits_value}
-use Rattle.futures_lite.specs.Lists.{map_while}
-use Rattle.example_pipeline.specs.Pipeline.{OfWriting, Untouched, digits_number, even_numbers, first_bad, full_sums}
-use Rattle.example_pipeline.specs.Pipeline.{line_number, part_count, part_sum, sum_line, text_bad, text_evens}
-use Rattle.example_pipeline.specs.Pipeline.{window_sums}
-use Rattle.example_pipeline.specs.declared.fault.PipelineError.{PipelineError}
-use Rattle.example_pipeline.specs.declared.fault.PipelineError.TheVariants.{Input, Memory, NotANumber, Output, Overflow}
+use Rattle.std.specs.Str.Parse.{AllDigits, IsNumeral, digits_value, without_leading_plus}
+use Rattle.example_pipeline.specs.Pipeline.{digits_number, full_sums, last_sums, line_number, part_count, part_sum}
 
 digits_model : IsNumeralModel (λ ds. all_ascii_digits ds ≡ true) (digits_value 10)
 digits_model = numerals_by_value _ tells_all_ascii_digits
@@ -37,8 +29,25 @@ pub digits_number_none : (ds : List ℕ) → ¬ (IsNumeral 10 ds × (digits_valu
 digits_number_none ds denied = none_chosen (Some (digits_value 10 ds)) _ _ _
     (λ all some small. denied ((ltb-true _ _ some, digits_model.to ds all), ltb-true _ _ small))
 
+plus_ascii : (line : List ℕ) → AllDigits 10 (without_leading_plus line) → IsAscii line
+plus_ascii [] digits = λ i. omega arith
+plus_ascii (b ∷ line) digits = at (b == 43) refl digits
+  where
+    behind : AllDigits 10 line → b ≡ 43 → IsAscii (b ∷ line)
+    behind h e zero = omega (arith, e)
+    behind h e (suc i) = IsAscii-from_digits line h i
+
+    at : (c : Bool) → (b == 43) ≡ c → AllDigits 10 (drop (if c then 1 else 0) (b ∷ line)) → IsAscii (b ∷ line)
+    at true e h = behind h (eqb-true b 43 e)
+    at false e h = IsAscii-from_digits (b ∷ line) h
+
+-- A line that is not UTF-8 is no number.
+pub number_utf8 : (line : List ℕ) → ¬ (IsUtf8 line) → line_number line ≡ None
+number_utf8 line denied = none_chosen (Some (digits_value 10 (without_leading_plus line))) _ _ _
+    (λ all some small. denied (IsUtf8-from_ascii line (plus_ascii line (digits_model.to (without_leading_plus line) all))))
+
 module _ (x : ℕ) where
-  pub full_on : (l : List ℕ) → part_count l < 2 → full_sums (l ++ x ∷ []) ≡ full_sums l
+  pub full_on : (l : List ℕ) → part_count l < 2 → full_sums (l ++ x ∷ []) ≡ full_sums l ++ []
   full_on [] h = refl
   full_on (a ∷ []) h = refl
   full_on (a ∷ b ∷ []) h = absurd (omega arith)
@@ -74,62 +83,20 @@ module _ (x : ℕ) where
   sum_full (a ∷ b ∷ []) h = refl
   sum_full (a ∷ b ∷ c ∷ l) h = sum_full l h
 
-pub window_part : (l : List ℕ) → 0 < part_count l → window_sums l ≡ full_sums l ++ part_sum l ∷ []
-window_part [] h = absurd (omega arith)
-window_part (a ∷ []) h = refl
-window_part (a ∷ b ∷ []) h = refl
-window_part (a ∷ b ∷ c ∷ l) h = ap (λ k. (a + b + c) ∷ k) (window_part l h)
+pub last_part : (l : List ℕ) → 0 < part_count l → last_sums l ≡ part_sum l ∷ []
+last_part [] h = absurd (omega arith)
+last_part (a ∷ []) h = refl
+last_part (a ∷ b ∷ []) h = refl
+last_part (a ∷ b ∷ c ∷ l) h = last_part l h
 
-pub window_full : (l : List ℕ) → part_count l ≡ 0 → window_sums l ≡ full_sums l
-window_full [] h = refl
-window_full (a ∷ []) h = absurd (omega arith)
-window_full (a ∷ b ∷ []) h = absurd (omega arith)
-window_full (a ∷ b ∷ c ∷ l) h = ap (λ k. (a + b + c) ∷ k) (window_full l h)
+pub last_none : (l : List ℕ) → part_count l ≡ 0 → last_sums l ≡ []
+last_none [] h = refl
+last_none (a ∷ []) h = absurd (omega arith)
+last_none (a ∷ b ∷ []) h = absurd (omega arith)
+last_none (a ∷ b ∷ c ∷ l) h = last_none l h
 
 -- A number is added to the last window.
 pub ruleset window_steps = (full_on, count_on, sum_on, full_full, count_full, sum_full)
 
 -- No number follows.
-pub ruleset window_ends = (window_part, window_full)
-
-pub line_more : (l : List ℕ) (x : ℕ) → flat_map sum_line (l ++ x ∷ []) ≡ flat_map sum_line l ++ sum_line x
-line_more l x = flat_map-append sum_line l (x ∷ []) ∙ ap (λ k. flat_map sum_line l ++ k) (append-nil (sum_line x))
-
-numbers_of_texts : (texts : List (String Global))
-    → map_while (λ t. line_number (string_bytes t)) texts ≡ map_while line_number (map string_bytes texts)
-numbers_of_texts [] = refl
-numbers_of_texts (t ∷ texts) = rw (numbers_of_texts texts) refl
-
--- The numbers of texts are those of their bytes.
-pub text_evens_are : (texts : List (String Global)) → text_evens texts ≡ even_numbers (map string_bytes texts)
-unfolding text_evens
-text_evens_are texts = ap (filter (λ x. x % 2 == 0)) (numbers_of_texts texts)
-
-prefix_of_texts : (p : List ℕ → Bool) (texts : List (String Global))
-    → prefix_len (λ t. p (string_bytes t)) texts ≡ prefix_len p (map string_bytes texts)
-prefix_of_texts p [] = refl
-prefix_of_texts p (t ∷ texts) = ap (λ n. cond (p (string_bytes t)) (1 + n) 0) (prefix_of_texts p texts)
-
--- The place of the first text that is no number is the same too.
-pub text_bad_is : (texts : List (String Global)) → text_bad texts ≡ first_bad (map string_bytes texts)
-unfolding text_bad
-text_bad_is texts =
-    ap₂ (λ n m. cond (nat_lt n m) (Some n) None)
-    (prefix_of_texts (λ line. not (is_none (line_number line))) texts) (sym (length-map texts string_bytes))
-
-pub untouched_same : {W : Type 0} (x : W) (e : PipelineError) → Untouched x x e
-untouched_same x (Input e) = refl
-untouched_same x Overflow = refl
-untouched_same x (NotANumber n) = tt
-untouched_same x (Output e) = tt
-untouched_same x Memory = tt
-
-pub untouched_writing : {W : Type 0} (x y : W) (e : PipelineError) → OfWriting e → Untouched x y e
-untouched_writing x y (Input e) h = absurd h
-untouched_writing x y Overflow h = absurd h
-untouched_writing x y (NotANumber n) h = absurd h
-untouched_writing x y (Output e) h = tt
-untouched_writing x y Memory h = tt
-
--- What a run of the pipeline needs of these.
-pub ruleset runs = (text_evens_are, text_bad_is, untouched_same, untouched_writing)
+pub ruleset window_ends = (last_part, last_none)

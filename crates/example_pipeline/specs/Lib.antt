@@ -1,2 +1,3 @@
 pub mod Laws
 pub mod Pipeline
+pub mod Runs

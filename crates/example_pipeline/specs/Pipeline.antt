@@ -1,17 +1,15 @@
 -- What the pipeline makes of lines: the even ones of their numbers, the sums of windows of three, and the text of
 -- those.
-use Rattle.std.specs.Prelude.{◌≡◌, ◌==◌, ℕ, ◌+◌, ◌^◌, ◌%◌, ◌&&◌, List, [], ◌∷◌, ◌++◌, Option, Some, None, decimal}
-use Rattle.std.specs.Prelude.{String, if◌then◌else◌, is_none, flat_map, length, nat_lt, string_bytes, ⊤}
-use Rattle.std.proofs.Common.{Global}
+use Rattle.std.specs.Prelude.{◌≡◌, ◌==◌, ℕ, ◌+◌, ◌-◌, ◌^◌, ◌%◌, ◌&&◌, List, [], ◌∷◌, ◌++◌, Option, Some, None, decimal}
+use Rattle.std.specs.Prelude.{IsUtf8, drop, if◌then◌else◌, is_none, flat_map, length, nat_lt, take}
 use Rattle.std.specs.List.{filter, position}
-use Rattle.std.specs.Str.{all_ascii_digits}
+use Rattle.std.specs.Str.{all_ascii_digits, bytes_eq}
 use Rattle.std.specs.Str.Parse.{digits_value, without_leading_plus}
+use Rattle.futures_lite.specs.Lines.{without_return}
 use Rattle.futures_lite.specs.Lists.{map_while}
-use Rattle.futures_lite.specs.Marks.{WriteMark, bytes_taken}
-use Rattle.futures_lite.specs.Own.{Runs}
-use Rattle.futures_lite.specs.Writers.{EndsFlushed}
-use Rattle.example_pipeline.specs.declared.fault.PipelineError.{PipelineError}
-use Rattle.example_pipeline.specs.declared.fault.PipelineError.TheVariants.{Input, Memory, NotANumber, Output, Overflow}
+use Rattle.example_pipeline.specs.declared.fault.Cause.{Cause}
+use Rattle.example_pipeline.specs.declared.fault.Cause.TheVariants.{Input, Memory, NotANumber, NotUtf8, Output, Overflow}
+use Rattle.example_pipeline.specs.declared.sums.Sums.{Sums}
 
 -- The number of these digits, if they are digits alone, at least one, and the number fits 64 bits.
 abbrev pub digits_number : List ℕ → Option ℕ
@@ -30,13 +28,9 @@ first_bad lines = position (λ line. is_none (line_number line)) lines
 abbrev pub even_numbers : List (List ℕ) → List ℕ
 even_numbers lines = filter (λ x. x % 2 == 0) (map_while line_number lines)
 
--- The place of the first text that is no number.
-unfoldable pub text_bad : List (String Global) → Option ℕ
-text_bad texts = position (λ t. is_none (line_number (string_bytes t))) texts
-
--- The even ones of the numbers before that, of texts.
-unfoldable pub text_evens : List (String Global) → List ℕ
-text_evens texts = filter (λ x. x % 2 == 0) (map_while (λ t. line_number (string_bytes t)) texts)
+-- The number as the one item of a list, if it is even.
+abbrev pub if_even : ℕ → List ℕ
+if_even x = filter (λ x. x % 2 == 0) (x ∷ [])
 
 -- The sums of windows of three numbers, of which the last may be shorter.
 abbrev pub window_sums : List ℕ → List ℕ
@@ -74,34 +68,34 @@ part_sum (a ∷ []) = a
 part_sum (a ∷ b ∷ []) = a + b
 part_sum (a ∷ b ∷ c ∷ xs) = part_sum xs
 
--- The numbers `l` were added up so far: `full` is the sums of the full windows, `count` and `part` are the count and
--- the sum of the rest.
-abbrev pub Summed : List ℕ → ℕ → ℕ → List ℕ → Type 0
-Summed full count part l = (full ≡ full_sums l) × (count ≡ part_count l) × (part ≡ part_sum l)
+-- The sum of the last window, if it has a number and is not full.
+abbrev pub last_sums : List ℕ → List ℕ
+last_sums [] = []
+last_sums (a ∷ []) = a ∷ []
+last_sums (a ∷ b ∷ []) = (a + b) ∷ []
+last_sums (a ∷ b ∷ c ∷ xs) = last_sums xs
 
--- If reading or adding up failed, the writer is as it was.
-abbrev pub Untouched : {W : Type 0} → W → W → PipelineError → Type 0
-Untouched before after (Input e) = after ≡ before
-Untouched before after Overflow = after ≡ before
-Untouched before after (NotANumber n) = ⊤
-Untouched before after (Output e) = ⊤
-Untouched before after Memory = ⊤
+-- The text of some sums.
+abbrev pub text_of_sums : List ℕ → List ℕ
+text_of_sums = flat_map sum_line
 
--- The output failed, or an allocation did.
-abbrev pub OfWriting : PipelineError → Type 0
-OfWriting (Input e) = ⊥
-OfWriting Overflow = ⊥
-OfWriting (NotANumber n) = ⊥
-OfWriting (Output e) = ⊤
-OfWriting Memory = ⊤
+-- What is written for these lines while the last window is open.
+abbrev pub full_text : List (List ℕ) → List ℕ
+full_text lines = text_of_sums (full_sums (even_numbers lines))
 
--- The writer took just these bytes, and was flushed after them.
-pub record Written {W : Type 0} (writes : Runs WriteMark W) (before : W) (text : List ℕ) (after : W) : Type 0 where
-  pub between : W
-  pub took : List WriteMark
-  pub flush : List WriteMark
-  pub wrote : writes before took between
-  pub all : bytes_taken took ≡ text
-  pub flushed : writes between flush after
-  pub none : bytes_taken flush ≡ []
-  pub ends : EndsFlushed flush
+-- The window has the count and the sum of the last of these numbers, whose window is not full.
+abbrev pub HoldsWindow : Sums → List ℕ → Type 0
+HoldsWindow s l = (s.count ≡ part_count l) × (s.part ≡ part_sum l)
+
+-- A line of a text without its end: a newline, and a carriage return before it.
+abbrev pub line_text : List ℕ → List ℕ
+line_text line = if bytes_eq (drop (length line - 1) line) (10 ∷ []) then without_return (take (length line - 1) line) else line
+
+-- Why the line is no number.
+abbrev pub IsBadLine : List ℕ → Cause → Type 0
+IsBadLine line NotUtf8 = ¬ (IsUtf8 line)
+IsBadLine line NotANumber = IsUtf8 line
+IsBadLine line Overflow = ⊥
+IsBadLine line Memory = ⊥
+IsBadLine line (Input e) = ⊥
+IsBadLine line (Output e) = ⊥

@@ -1,52 +1,69 @@
-//! Numbers in lines: the even ones are added up by threes, and each sum is written as a line.
+//! Numbers in lines: the even ones are added up by threes, and each sum is written as a line as soon as it is known.
 #![tactic(auto)]
 
 mod fault;
+mod input;
 mod number;
+mod output;
 mod pipeline;
 mod sums;
-mod text;
 
-use fault::PipelineError;
+use fault::{Cause, PipelineError};
+use futures_lite::AsyncReadExt;
+use futures_lite::future::BlockOn;
 use futures_lite::io::{AssertAsync, BufReader, BufWriter};
-use futures_lite::{AsyncBufReadExt, AsyncReadExt, StreamExt};
 use pipeline::run;
+use programs::{Command, Watched, end, misused};
 use std::alloc::AllocGlobal;
+use std::io::IsTerminal;
 use std::process::ExitCode;
 use std::random::RandomSource;
 use std::sync::Wait;
 
-/// How many bytes are read in a row before the program yields.
-const BYTES: usize = 1 << 16;
+/// The name of the program.
+const NAME: &str = "example_pipeline";
 
-/// How many lines are taken in a row before it does.
-const LINES: usize = 1 << 12;
+/// How many bytes are read in a row before the program yields.
+const BYTES: usize = 1 << 20;
+
+/// How many bytes a read of standard input or a write to standard output moves.
+const BUFFER: usize = 1 << 16;
 
 fn main(rt: HostRuntime) -> ExitCode {
-    match run_standard(&rt, &rt) {
-        Ok(()) => ExitCode::from(0),
-        Err(e) => {
-            let _ = eprintln!(rt; "example_pipeline: {e}");
-            ExitCode::from(1)
+    match Command::of(&rt) {
+        Ok(command) if command.words.is_empty() => {
+            end(&rt, NAME, run_standard(&rt, &rt, command.quiet))
         }
+        Ok(_) => misused(&rt, NAME, "example_pipeline [--quiet]"),
+        Err(e) => end(&rt, NAME, Err(e)),
     }
 }
 
 /// Runs the pipeline from standard input to standard output. `rt` is the host as one that may wait.
-fn run_standard<R>(host: &HostRuntime, rt: &R) -> Result<(), PipelineError>
+fn run_standard<R>(host: &HostRuntime, rt: &R, quiet: bool) -> Result<(), PipelineError>
 where
     R: Wait + RandomSource + AllocGlobal,
 {
-    let input = AssertAsync::new(host.stdin()).with_budget(BYTES);
-    let Ok(reader) = BufReader::new(rt.alloc(), input) else {
-        return Err(PipelineError::Memory);
+    let Ok(mut on) = BlockOn::new(rt) else {
+        return Err(no_memory());
     };
-    let lines = reader.lines(rt.alloc()).with_budget(LINES);
-    let Ok(mut output) = BufWriter::new(rt.alloc(), AssertAsync::new(host.stdout())) else {
-        return Err(PipelineError::Memory);
+    let is_silent = quiet || !host.stderr().is_terminal();
+    let input = AssertAsync::new(Watched::new(host.stdin(), host, NAME, is_silent));
+    let Ok(mut reader) = BufReader::with_capacity(rt.alloc(), BUFFER, input.with_budget(BYTES))
+    else {
+        return Err(no_memory());
     };
-    match run(rt, lines, &mut output)? {
-        Some(before) => Err(PipelineError::NotANumber(before)),
-        None => Ok(()),
+    let output = AssertAsync::new(host.stdout());
+    let Ok(mut writer) = BufWriter::with_capacity(rt.alloc(), BUFFER, output) else {
+        return Err(no_memory());
+    };
+    run(&mut on, rt, &mut reader, &mut writer)
+}
+
+/// Returns that memory was refused before the first line.
+fn no_memory() -> PipelineError {
+    PipelineError {
+        line: 1,
+        cause: Cause::Memory,
     }
 }

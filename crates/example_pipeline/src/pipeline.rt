@@ -1,131 +1,218 @@
 //! Lines become numbers, numbers become sums, and sums become text.
-ghost use Rattle.std.specs.Prelude.{◌≡◌, IfErr, IfOk, flat_map, map, string_bytes};
-ghost use Rattle.futures_lite.specs.Lists.{OkLists};
-ghost use Rattle.example_pipeline.specs.Pipeline.{OfWriting, Summed, Untouched, Written, first_bad, sum_line};
-ghost use Rattle.example_pipeline.specs.Pipeline.{sums_text, text_bad, text_evens, window_sums};
+ghost use Rattle.std.specs.Prelude.{◌≡◌, ◌≤◌, ◌+◌, ◌++◌, ◌∷◌, ◌^◌, [], IfErr, IfOk, List, option_to_list, ℕ};
+ghost use Rattle.example_pipeline.specs.Pipeline.{HoldsWindow, full_sums, if_even, last_sums, part_sum, text_of_sums};
+ghost use Rattle.example_pipeline.specs.Runs.{AddFails, AddsLines, AddsLine, AddsUpTo, EndFails, EndsOutput, TakesFlush, IsOutput, IsReading, RunStops, SumsWhole};
+ghost use Rattle.example_pipeline.specs.Runs.{TakesFlushed, TakesPrefix, TakesWholeText};
+ghost use Rattle.example_pipeline.specs.declared.fault.Cause.TheVariants.{Overflow};
 
-use crate::fault::PipelineError;
+use crate::fault::{Cause, PipelineError};
+use crate::input::{read_line, without_end};
 use crate::number::number;
+use crate::output::{flush, write_sum};
 use crate::sums::Sums;
-use crate::text::Text;
-use futures_lite::future::{BlockOn, block_on};
-use futures_lite::io::{wait_flush, wait_write_all};
-use futures_lite::stream::{OkCounted, TryCollectError, iter_vec};
-use futures_lite::{AsyncWrite, StreamExt};
+use futures_lite::AsyncWrite;
+use futures_lite::future::BlockOn;
+use futures_lite::io::{AsyncBufRead, CountedRead};
 use std::alloc::AllocGlobal;
 use std::io;
-use std::random::RandomSource;
+use std::io::ErrorKind;
 use std::sync::Wait;
 
-/// Writes the sums of windows of three of the even numbers that the lines are, each as a line, and flushes: up to the first
-/// line that is no number. Gives how many lines stand before that one, if there is one. Where the lines are `xs` and it gives
-/// `Ok`, just the text of those sums was written. Where the input fails, or a sum does not fit, nothing is written.
-#[tactic(auto, using(crate::specs::Laws::runs))]
-pub fn run<R, S, O>(rt: &R, lines: S, output: &mut O) -> Result<Option<usize>, PipelineError>
+/// Reads lines to the end of the input, and writes the sums of windows of three of their even numbers, each as a line,
+/// as soon as the window is full. Then it flushes.
+///
+/// On `Ok`, just the text of these sums was written (`SumsWhole`). It stops at the first line that is no number, and at
+/// each error (`RunStops`). Before a bad line, the sums of all lines before it were written, that of the last window too.
+/// At an error of the input, an overflow or a refusal of memory, the sums of the full windows were written, which are a
+/// prefix of the text for any input that goes on. Both were flushed. At an error of the output it took a prefix of the text.
+pub fn run<R, T, O>(
+    on: &mut BlockOn,
+    rt: &R,
+    reader: &mut T,
+    output: &mut O,
+) -> Result<(), PipelineError>
 where
-    R: Wait + RandomSource + AllocGlobal,
-    S: OkCounted<Ok = String, Err = io::Error> + Drop,
+    R: Wait + AllocGlobal,
+    T: AsyncBufRead + CountedRead,
     O: AsyncWrite,
-    requires polls { S.can_poll lines }
-    requires counts { S.ok_ranks.counts lines }
-    ensures written { (xs : _) → OkLists S.run lines string_bytes xs → IfOk result (λ bad.
-        (bad ≡ first_bad xs) × Written O.writes output.old (sums_text xs) output.new) }
-    ensures untouched { IfErr result (λ e. Untouched output.old output.new e) }
+    requires counts { T.ranks.counts reader.old }
+    ensures whole { IfOk result (λ _. SumsWhole T.reads O.writes reader.old output.old reader.new output.new) }
+    ensures stopped { IfErr result (λ e. RunStops T.reads O.writes reader.old output.old e reader.new output.new) }
 {
-    let texts = read(rt, lines)?;
-    let bad = first_bad(&texts);
-    let sums = sums(rt, texts)?;
-    let text = text(rt, sums)?;
-    write(rt, output, &text.bytes)?;
-    Ok(bad)
-}
-
-/// Reads all lines.
-fn read<R, S>(rt: &R, lines: S) -> Result<Vec<String>, PipelineError>
-where
-    R: Wait + RandomSource + AllocGlobal,
-    S: OkCounted<Ok = String, Err = io::Error> + Drop,
-    requires polls { S.can_poll lines }
-    requires counts { S.ok_ranks.counts lines }
-    ensures { (xs : _) → OkLists S.run lines string_bytes xs → IfOk result (λ v. map string_bytes v.items ≡ xs) }
-{
-    match block_on(
-        rt,
-        lines.try_collect::<String, io::Error, Vec<String>>(rt.alloc()),
-    ) {
-        Ok(Ok(texts)) => Ok(texts),
-        Ok(Err(TryCollectError::Source(e))) => Err(PipelineError::Input(e)),
-        Ok(Err(TryCollectError::Memory(_))) | Err(_) => Err(PipelineError::Memory),
+    let mut sums = Sums::new();
+    match add_lines(on, rt, reader, output, &mut sums) {
+        Ok(line) => finish(on, rt, output, &sums, line),
+        Err(e) => match close(on, rt, output, &sums, &e) {
+            Ok(()) => Err(e),
+            Err(failed) => Err(failed),
+        },
     }
 }
 
-/// How many texts stand before the first that is no number.
-#[tactic(auto, unfolding(crate::specs::Pipeline::text_bad))]
-fn first_bad(texts: &[String]) -> Option<usize>
-    ensures { result ≡ text_bad texts.now }
-{
-    texts.iter().position(|text| number(text).is_none())
-}
-
-/// The sums of windows of the even numbers, up to the first text that is none.
-fn sums<R>(rt: &R, texts: Vec<String>) -> Result<Vec<u64>, PipelineError>
+// Reads and adds the lines, and writes the sum of each full window. Returns the number of the last line.
+fn add_lines<R, T, O>(
+    on: &mut BlockOn,
+    rt: &R,
+    reader: &mut T,
+    output: &mut O,
+    sums: &mut Sums,
+) -> Result<u64, PipelineError>
 where
-    R: Wait + RandomSource + AllocGlobal,
-    ensures { IfOk result (λ v. v.items ≡ window_sums (text_evens texts.items)) }
-{
-    match gather(rt, texts)?.finish() {
-        Ok(sums) => Ok(sums),
-        Err(_) => Err(PipelineError::Memory),
-    }
-}
-
-/// Gathers those sums.
-#[tactic(auto, unfolding(crate::specs::Pipeline::text_evens))]
-fn gather<R>(rt: &R, texts: Vec<String>) -> Result<Sums, PipelineError>
-where
-    R: Wait + RandomSource + AllocGlobal,
-    ensures { IfOk result (λ s. Summed s.full.items s.count s.part (text_evens texts.items)) }
-{
-    let numbers = iter_vec(texts).map_while(|text: String| number(&text));
-    let evens = numbers.filter(|x| *x % 2 == 0);
-    match block_on(rt, evens.collect::<Sums>(rt.alloc())) {
-        Ok(Ok(sums)) => Ok(sums),
-        Ok(Err(refused)) => Err(refused.collected.why(refused.item)),
-        Err(_) => Err(PipelineError::Memory),
-    }
-}
-
-/// The text of sums.
-fn text<R>(rt: &R, sums: Vec<u64>) -> Result<Text, PipelineError>
-where
-    R: Wait + RandomSource + AllocGlobal,
-    ensures { IfOk result (λ t. t.bytes.items ≡ flat_map sum_line sums.items) }
-{
-    match block_on(rt, iter_vec(sums).collect::<Text>(rt.alloc())) {
-        Ok(Ok(text)) => Ok(text),
-        Ok(Err(_)) | Err(_) => Err(PipelineError::Memory),
-    }
-}
-
-/// Writes all of the text, and flushes.
-fn write<R, O>(rt: &R, output: &mut O, text: &[u8]) -> Result<(), PipelineError>
-where
-    R: Wait + RandomSource + AllocGlobal,
+    R: Wait + AllocGlobal,
+    T: AsyncBufRead + CountedRead,
     O: AsyncWrite,
-    ensures written { IfOk result (λ _. Written O.writes output.old text.now output.new) }
-    ensures failed { IfErr result OfWriting }
+    requires counts { T.ranks.counts reader.old }
+    requires fresh { HoldsWindow sums.old [] }
+    ensures whole { IfOk result (λ _. AddsLines T.reads O.writes reader.old output.old sums.new reader.new output.new) }
+    ensures stopped { IfErr result (λ e. AddsUpTo T.reads O.writes reader.old output.old e sums.new reader.new output.new) }
 {
-    let Ok(mut on) = BlockOn::new(rt) else {
-        return Err(PipelineError::Memory);
-    };
-    match wait_write_all(&mut on, rt, output, text) {
-        Ok(Ok(())) => {}
-        Ok(Err(e)) => return Err(PipelineError::Output(e)),
-        Err(_) => return Err(PipelineError::Memory),
+    let mut text = Vec::new(rt.alloc());
+    let mut line: u64 = 0;
+    for _ in rt.forever() {
+        let next = line.saturating_add(1);
+        let whole = match read_line(on, rt, reader, &mut text) {
+            Ok(whole) => whole,
+            Err(e) => return Err(PipelineError {
+                line: next,
+                cause: reading(e),
+            }),
+        };
+        if text.is_empty() {
+            return Ok(line);
+        }
+        line = next;
+        if let Err(cause) = add_line(on, rt, output, sums, &text) {
+            return Err(PipelineError { line, cause });
+        }
+        if !whole {
+            return Ok(line);
+        }
     }
-    match wait_flush(&mut on, rt, output) {
-        Ok(Ok(())) => Ok(()),
-        Ok(Err(e)) => Err(PipelineError::Output(e)),
-        Err(_) => Err(PipelineError::Memory),
+    unreachable!()
+}
+
+// Returns why a line was not read.
+fn reading(error: io::Error) -> Cause
+    ensures { IsReading error result }
+{
+    if error.kind() == ErrorKind::OutOfMemory {
+        Cause::Memory
+    } else {
+        Cause::Input(error)
+    }
+}
+
+// Adds a line, and writes the sum of the window if that fills it.
+fn add_line<R: Wait, O: AsyncWrite>(
+    on: &mut BlockOn,
+    rt: &R,
+    output: &mut O,
+    sums: &mut Sums,
+    line: &[u8],
+) -> Result<(), Cause>
+    ensures added { IfOk result (λ _. AddsLine O.writes line.now sums.old output.old sums.new output.new) }
+    ensures failed { IfErr result (λ e. AddFails O.writes line.now sums.old output.old e sums.new output.new) }
+{
+    let item = number(without_end(line))?;
+    match add_number(sums, item) {
+        Ok(Some(sum)) => match write_sum(on, rt, output, sum) {
+            Ok(()) => Ok(()),
+            Err(e) => Err(Cause::Output(e)),
+        },
+        Ok(None) => Ok(()),
+        Err(cause) => Err(cause),
+    }
+}
+
+// Adds a number, if it is even, and returns the sum of the window if that fills it.
+fn add_number(sums: &mut Sums, item: u64) -> Result<Option<u64>, Cause>
+    ensures added { IfOk result (λ sum. (l : List ℕ) → HoldsWindow sums.old l
+        → HoldsWindow sums.new (l ++ if_even item) × (full_sums (l ++ if_even item) ≡ full_sums l ++ option_to_list sum)) }
+    ensures large { IfErr result (λ e. (e ≡ Overflow) × (if_even item ≡ item ∷ [])
+        × ((l : List ℕ) → HoldsWindow sums.old l → 2 ^ 64 ≤ part_sum l + item)) }
+{
+    if item % 2 == 0 {
+        sums.add(item)
+    } else {
+        Ok(None)
+    }
+}
+
+// Ends the output at an error: behind all lines before a bad one, and else behind the last full window.
+fn close<R: Wait, O: AsyncWrite>(
+    on: &mut BlockOn,
+    rt: &R,
+    output: &mut O,
+    sums: &Sums,
+    error: &PipelineError,
+) -> Result<(), PipelineError>
+    ensures closed { IfOk result (λ _. EndsOutput O.writes sums.now error.now.cause output.old output.new) }
+    ensures failed { IfErr result (λ e. IsOutput e.cause × EndFails O.writes sums.now error.now.cause output.old output.new) }
+{
+    match &error.cause {
+        Cause::NotUtf8 | Cause::NotANumber => finish(on, rt, output, sums, error.line),
+        Cause::Overflow | Cause::Memory | Cause::Input(_) => finish_early(
+            on, rt, output, error.line,
+        ),
+        Cause::Output(_) => Ok(()),
+    }
+}
+
+// Writes the sum of the last window, if it is not full, and flushes.
+fn finish<R: Wait, O: AsyncWrite>(
+    on: &mut BlockOn,
+    rt: &R,
+    output: &mut O,
+    sums: &Sums,
+    line: u64,
+) -> Result<(), PipelineError>
+    ensures written { IfOk result (λ _. (l : List ℕ) → HoldsWindow sums.now l
+        → TakesFlushed O.writes output.old (text_of_sums (last_sums l)) output.new) }
+    ensures failed { IfErr result (λ e. IsOutput e.cause × ((l : List ℕ) → HoldsWindow sums.now l
+        → TakesPrefix O.writes output.old (text_of_sums (last_sums l)) output.new)) }
+{
+    match write_last(on, rt, output, sums) {
+        Ok(()) => finish_early(on, rt, output, line),
+        Err(e) => Err(PipelineError {
+            line,
+            cause: Cause::Output(e),
+        }),
+    }
+}
+
+// Writes the sum of the last window, if it has a number and is not full.
+fn write_last<R: Wait, O: AsyncWrite>(
+    on: &mut BlockOn,
+    rt: &R,
+    output: &mut O,
+    sums: &Sums,
+) -> io::Result<()>
+    ensures written { IfOk result (λ _. (l : List ℕ) → HoldsWindow sums.now l
+        → TakesWholeText O.writes output.old (text_of_sums (last_sums l)) output.new) }
+    ensures failed { IfErr result (λ _. (l : List ℕ) → HoldsWindow sums.now l
+        → TakesPrefix O.writes output.old (text_of_sums (last_sums l)) output.new) }
+{
+    match sums.last() {
+        Some(sum) => write_sum(on, rt, output, sum),
+        None => Ok(()),
+    }
+}
+
+// Flushes.
+fn finish_early<R: Wait, O: AsyncWrite>(
+    on: &mut BlockOn,
+    rt: &R,
+    output: &mut O,
+    line: u64,
+) -> Result<(), PipelineError>
+    ensures flushed { IfOk result (λ _. TakesFlush O.writes output.old output.new) }
+    ensures failed { IfErr result (λ e. IsOutput e.cause × TakesWholeText O.writes output.old [] output.new) }
+{
+    match flush(on, rt, output) {
+        Ok(()) => Ok(()),
+        Err(e) => Err(PipelineError {
+            line,
+            cause: Cause::Output(e),
+        }),
     }
 }

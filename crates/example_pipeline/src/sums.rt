@@ -1,77 +1,59 @@
-//! The sums of windows of three numbers, as a collection that a stream is gathered into.
-ghost use Rattle.std.specs.Prelude.{◌≡◌, IfOk, List, ℕ};
-ghost use Rattle.example_pipeline.specs.Pipeline.{Summed, window_sums};
+//! The sums of windows of three numbers.
+ghost use Rattle.std.specs.Prelude.{◌≡◌, ◌≤◌, ◌+◌, ◌++◌, ◌∷◌, ◌^◌, [], List, IfErr, IfOk, option_to_list, ℕ};
+ghost use Rattle.example_pipeline.specs.Pipeline.{HoldsWindow, full_sums, last_sums, part_sum};
+ghost use Rattle.example_pipeline.specs.declared.fault.Cause.TheVariants.{Overflow};
 
-use crate::fault::PipelineError;
-use futures_lite::stream::Gather;
-use std::alloc::{AllocError, Global};
+use crate::fault::Cause;
 
-/// How many numbers a window has, but for the last, which may have fewer.
+/// How many numbers a window has, except the last, which may have fewer.
 const WINDOW: usize = 3;
 
-/// The sums of the windows so far.
+/// The window that is not full yet.
 #[derive(Drop)]
 pub struct Sums {
-    /// Those of the full windows.
-    pub full: Vec<u64>,
-    /// How many numbers the last window has, which is not full.
-    pub count: usize,
+    /// How many numbers it has.
+    count: usize,
     /// Their sum.
-    pub part: u64,
+    part: u64,
 }
 
-impl Gather<u64> for Sums {
-    type Alloc = Global;
-
-    ghost holds = { λ s l. Summed s.full.items s.count s.part l };
-
-    fn empty(alloc: Global) -> Sums {
-        Sums {
-            full: Vec::new(alloc),
-            count: 0,
-            part: 0,
-        }
+impl Sums {
+    /// Returns the window before the first number.
+    pub fn new() -> Sums
+        ensures { HoldsWindow result [] }
+    {
+        Sums { count: 0, part: 0 }
     }
 
-    /// Adds a number to the last window. `Err` hands it back: the sum does not fit, or memory was refused.
+    /// Adds a number, and returns the sum of the window if that fills it. The error is that the sum passes 64 bits.
     #[tactic(auto, using(crate::specs::Laws::window_steps))]
-    fn take_in(&mut self, item: u64) -> Result<(), u64> {
+    pub fn add(&mut self, item: u64) -> Result<Option<u64>, Cause>
+        ensures added { IfOk result (λ sum. (l : List ℕ) → HoldsWindow self.old l
+            → HoldsWindow self.new (l ++ item ∷ []) × (full_sums (l ++ item ∷ []) ≡ full_sums l ++ option_to_list sum)) }
+        ensures large { IfErr result (λ e. (e ≡ Overflow) × ((l : List ℕ) → HoldsWindow self.old l → 2 ^ 64 ≤ part_sum l + item)) }
+    {
         let Some(sum) = self.part.checked_add(item) else {
-            return Err(item);
+            return Err(Cause::Overflow);
         };
         if self.count < WINDOW - 1 {
             self.count += 1;
             self.part = sum;
-            return Ok(());
+            return Ok(None);
         }
-        let Ok(()) = self.full.push(sum) else {
-            return Err(item);
-        };
         self.count = 0;
         self.part = 0;
-        Ok(())
+        Ok(Some(sum))
     }
-}
 
-impl Sums {
-    /// All sums, with that of the last window, if it has a number.
+    /// Returns the sum of the last window, if it has a number and is not full.
     #[tactic(auto, using(crate::specs::Laws::window_ends))]
-    pub fn finish(self) -> Result<Vec<u64>, AllocError>
-        ensures { (l : List ℕ) → Summed self.full.items self.count self.part l
-            → IfOk result (λ v. v.items ≡ window_sums l) }
+    pub fn last(&self) -> Option<u64>
+        ensures { (l : List ℕ) → HoldsWindow self.now l → option_to_list result ≡ last_sums l }
     {
-        let mut sums = self.full;
         if self.count > 0 {
-            sums.push(self.part)?;
-        }
-        Ok(sums)
-    }
-
-    /// Why the number was handed back.
-    pub fn why(&self, item: u64) -> PipelineError {
-        match self.part.checked_add(item) {
-            Some(_) => PipelineError::Memory,
-            None => PipelineError::Overflow,
+            Some(self.part)
+        } else {
+            None
         }
     }
 }

@@ -1,14 +1,23 @@
-//! `linecount` prints how many lines standard input has.
+//! `linecount [--quiet]` prints how many lines standard input has.
+//!
+//! If standard error is a terminal, it tells there once a second how much it has read, without `--quiet`.
 #![tactic(auto)]
 
+mod fault;
+
+use fault::CountError;
 use futures_lite::io::{AssertAsync, BufReader, CountedRead};
 use futures_lite::{AsyncBufRead, AsyncBufReadExt, AsyncReadExt, StreamExt, future};
+use programs::{Command, Watched, end, misused};
 use std::alloc::AllocGlobal;
 use std::io;
-use std::io::ErrorKind;
+use std::io::IsTerminal;
 use std::process::ExitCode;
 use std::random::RandomSource;
 use std::sync::Wait;
+
+/// The name of the program.
+const NAME: &str = "linecount";
 
 /// How many bytes are read in a row before the program yields.
 const BYTES: usize = 1 << 16;
@@ -17,38 +26,51 @@ const BYTES: usize = 1 << 16;
 const LINES: usize = 1 << 12;
 
 fn main(rt: HostRuntime) -> ExitCode {
-    match printed(&rt, &rt) {
-        Ok(()) => ExitCode::from(0),
-        Err(e) => {
-            let _ = eprintln!(rt; "linecount: {e}");
-            ExitCode::from(1)
-        }
+    match Command::of(&rt) {
+        Ok(command) if command.words.is_empty() => end(&rt, NAME, printed(&rt, &rt, command.quiet)),
+        Ok(_) => misused(&rt, NAME, "linecount [--quiet]"),
+        Err(e) => end(&rt, NAME, Err(e)),
     }
 }
 
 /// Counts the lines and prints their number. `rt` is the host as one that may wait.
-fn printed<R>(host: &HostRuntime, rt: &R) -> io::Result<()>
+fn printed<R>(host: &HostRuntime, rt: &R, quiet: bool) -> Result<(), CountError>
 where
     R: Wait + RandomSource + AllocGlobal,
 {
-    let input = AssertAsync::new(host.stdin()).with_budget(BYTES);
-    let Ok(reader) = BufReader::new(host.alloc(), input) else {
-        return Err(ErrorKind::OutOfMemory.into());
+    let is_silent = quiet || !host.stderr().is_terminal();
+    let input = AssertAsync::new(Watched::new(host.stdin(), host, NAME, is_silent));
+    let Ok(reader) = BufReader::new(host.alloc(), input.with_budget(BYTES)) else {
+        return Err(CountError::Memory);
     };
     let count = count_lines(rt, reader)?;
-    println!(host; "{count}")
+    match println!(host; "{count}") {
+        Ok(()) => Ok(()),
+        Err(e) => Err(CountError::Output(e)),
+    }
 }
 
 /// Counts the lines of a reader.
-fn count_lines<R, T>(rt: &R, reader: T) -> io::Result<u64>
+fn count_lines<R, T>(rt: &R, reader: T) -> Result<u64, CountError>
 where
     R: Wait + RandomSource + AllocGlobal,
     T: AsyncBufRead + CountedRead + Drop,
     requires counts { T.ranks.counts reader }
 {
-    let mut lines = reader.lines(rt.alloc()).with_budget(LINES);
-    let counted = lines.try_fold(0u64, |count: u64, _line: String| {
-        Ok::<u64, io::Error>(count.saturating_add(1))
-    });
-    future::block_on(rt, counted)?
+    let numbered = reader.lines(rt.alloc()).enumerate();
+    let mut numbers = numbered.map(numbered_line).with_budget(LINES);
+    let counted = numbers.try_fold(0, |_count: u64, number: u64| Ok::<u64, CountError>(number));
+    match future::block_on(rt, counted) {
+        Ok(counted) => counted,
+        Err(_) => Err(CountError::Memory),
+    }
+}
+
+/// Returns the number of a line, counted from 1, in place of the line.
+fn numbered_line((before, line): (usize, io::Result<String>)) -> Result<u64, CountError> {
+    let number = (before as u64).saturating_add(1);
+    match line {
+        Ok(_) => Ok(number),
+        Err(e) => Err(CountError::Line(number, e)),
+    }
 }

@@ -1,0 +1,55 @@
+//! Sums as lines of the output.
+ghost use Rattle.std.specs.Prelude.{IfErr, IfOk, []};
+ghost use Rattle.example_pipeline.specs.Pipeline.{sum_line};
+ghost use Rattle.example_pipeline.specs.Runs.{TakesPrefix, TakesWholeText, TakesFlush};
+
+use futures_lite::AsyncWrite;
+use futures_lite::future::BlockOn;
+use futures_lite::io::{wait_flush, wait_write_all};
+use itoa::Buffer;
+use std::io;
+use std::sync::Wait;
+
+/// Writes a sum as a line.
+pub fn write_sum<R: Wait, O: AsyncWrite>(
+    on: &mut BlockOn,
+    rt: &R,
+    output: &mut O,
+    sum: u64,
+) -> io::Result<()>
+    ensures written { IfOk result (λ _. TakesWholeText O.writes output.old (sum_line sum) output.new) }
+    ensures failed { IfErr result (λ _. TakesPrefix O.writes output.old (sum_line sum) output.new) }
+{
+    let mut buffer = Buffer::new();
+    match write(on, rt, output, buffer.format(sum).as_bytes()) {
+        Ok(()) => write(on, rt, output, b"\n"),
+        Err(e) => Err(e),
+    }
+}
+
+// Writes all of the text.
+fn write<R: Wait, O: AsyncWrite>(
+    on: &mut BlockOn,
+    rt: &R,
+    output: &mut O,
+    text: &[u8],
+) -> io::Result<()>
+    ensures written { IfOk result (λ _. TakesWholeText O.writes output.old text.now output.new) }
+    ensures failed { IfErr result (λ _. TakesPrefix O.writes output.old text.now output.new) }
+{
+    match wait_write_all(on, rt, output, text) {
+        Ok(written) => written,
+        Err(_) => unreachable!(),
+    }
+}
+
+/// Flushes.
+pub fn flush<R: Wait, O: AsyncWrite>(on: &mut BlockOn, rt: &R, output: &mut O) -> io::Result<()>
+    ensures flushed { IfOk result (λ _. TakesFlush O.writes output.old output.new) }
+    ensures failed { IfErr result (λ _. TakesWholeText O.writes output.old [] output.new) }
+{
+    match wait_flush(on, rt, output) {
+        Ok(flushed) => flushed,
+        Err(_) => unreachable!(),
+    }
+}
