@@ -2,7 +2,7 @@
 use crate::counter::Counter;
 use crate::evens::{even_numbers, evens};
 use crate::ticks::Ticks;
-use crate::total::total;
+use crate::total::sum_of;
 use futures_lite::future::{block_on, poll_fn};
 use futures_lite::{Doorbell, Solo, Stream, StreamExt, stream};
 use std::alloc::AllocGlobal;
@@ -34,5 +34,5 @@ where
     ran?;
     println!(rt; "{answers:?}")?;
     println!(rt; "{:?}", evens(rt, Counter { next: 1, end: 10 })?)?;
-    println!(rt; "{}", total(rt, vec![in rt.alloc(); 3u64, 4, 5]?)?)
+    println!(rt; "{}", sum_of(rt, vec![in rt.alloc(); 3u64, 4, 5]?)?)
 }

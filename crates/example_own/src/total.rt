@@ -35,7 +35,7 @@ impl Gather<u64> for Total {
 }
 
 /// Returns the sum of the numbers. The error means that it passes 64 bits, or that memory was refused.
-pub fn total<R>(rt: &R, numbers: Vec<u64>) -> Result<u64, AllocError>
+pub fn sum_of<R>(rt: &R, numbers: Vec<u64>) -> Result<u64, AllocError>
 where
     R: Wait + RandomSource + AllocGlobal,
     ensures { IfOk result (λ n. n ≡ sum numbers.items) }
