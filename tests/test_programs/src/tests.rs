@@ -1,5 +1,6 @@
 mod http;
 mod lines;
+mod pipeline;
 mod pollrun;
 mod redis;
 mod words;

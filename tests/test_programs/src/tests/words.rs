@@ -5,6 +5,7 @@ use example_words::reduce::reduce;
 use futures_lite::future::BlockOn;
 use futures_lite::io::{BufReader, BufWriter};
 use lite_mock::{Marks, Order, Takes};
+use programs::ProgramError;
 use std::alloc::{AllocGlobal, Global};
 use std::io::ErrorKind;
 use std::random::RandomSource;
