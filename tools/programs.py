@@ -13,6 +13,7 @@ import time
 from concurrent.futures import ThreadPoolExecutor
 
 import examples
+import together
 from compiled import KEEP, NotBuilt, compile_at
 from repository import PARTS, TESTS, TEST_LINES, TOP, Crate, crates_in, in_cache, lay_beside, lay_crates, lay_texts, stop, sum_of_crates, sum_of_folder
 
@@ -37,10 +38,16 @@ def is_test(name):
     return name == examples.NAME or name in crates_in(TOP, TEST_LINES)
 
 
+def written(name):
+    """Returns the files of a program that a tool writes, or None."""
+    by = {examples.NAME: examples.tests, together.NAME: together.texts}.get(name)
+    return by and by()
+
+
 def line_and_folder(name):
-    """Returns a program's line for crates.txt and its folder, from the top; the examples have none."""
-    if name == examples.NAME:
-        return examples.LINE, None
+    """Returns a program's line for crates.txt and its folder, from the top; one that a tool writes has none."""
+    if name in (examples.NAME, together.NAME):
+        return examples.LINE if name == examples.NAME else together.line(), None
     if name in BESIDE:
         return BESIDE[name], name
     return (crates_in(TOP, TEST_LINES)[name].line, f"{TESTS}/{name}") if is_test(name) else (crates_in(TOP)[name].line, f"crates/{name}")
@@ -53,7 +60,7 @@ def sum_of_program(name):
     for part in PARTS[:2] if folder else ():
         found.update(sum_of_folder(f"{folder}/{part}"))
     if not folder:
-        found.update("".join(examples.tests().values()).encode())
+        found.update("".join(written(name).values()).encode())
     for file in (KEEP, FAULTS):
         with open(file, "rb") as it:
             found.update(it.read())
@@ -71,7 +78,7 @@ def compile_program(name, kept):
         lay_crates(copy)
         line, folder = line_and_folder(name)
         if not folder:
-            at = lay_texts(copy, examples.tests(), line)
+            at = lay_texts(copy, written(name), line)
         else:
             at = f"{copy}/crates/{name}" if folder == f"crates/{name}" else lay_beside(copy, folder, line)
         made = f"{copy}/made"

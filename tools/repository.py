@@ -19,8 +19,8 @@ BESIDE = ("framed",)
 TESTS, TEST_LINES = "tests", "tests/lines.txt"
 # The suffixes in a crate of those of a program beside the crates: `rt ci` takes a file of a crate's kind in a crate alone.
 IN_A_CRATE = {".rs": ".rt", ".txt": ".antt"}
-# In the root of a program: its `main`, and where each module is declared.
-MAIN, MODULE = re.compile(r"^fn main\(.*?^\}\n", re.M | re.S), re.compile(r"^(?=mod )", re.M)
+# In the root of a program: its `main`, and the name of each item.
+MAIN, ITEM = re.compile(r"^fn main\(.*?^\}\n", re.M | re.S), re.compile(r"^(?:const|enum|fn|mod|struct|type) (\w+)", re.M)
 
 # What a check prints of an error; indented lines below it belong to it.
 ERROR = re.compile(r"(?:\S+: )?error\b")
@@ -161,11 +161,11 @@ def lay_crates(copy):
 
 
 def make_library(copy, name):
-    """Makes a library of a program in the copy: it has no `main` there, and its modules are public. A library stays as it is."""
+    """Makes a library of a program in the copy: it has no `main` there, and its other items are public. A library stays as it is."""
     program, library = (f"{copy}/crates/{name}/src/{it}.rt" for it in ("main", "lib"))
     if os.path.isfile(program):
         with open(library, "w", encoding="utf-8") as write:
-            write.write(MODULE.sub("pub ", MAIN.sub("", read_text(program))))
+            write.write(ITEM.sub(r"pub \g<0>", MAIN.sub("", read_text(program))))
         os.remove(program)
 
 

@@ -5,7 +5,7 @@ ghost use Rattle.futures_lite.specs.Own.{Anything, anything_reads, anything_writ
 use futures::task::{Doorbell, Solo, Source};
 use futures_lite::io::{
     self as lite, AsyncBufReadExt, AsyncRead, AsyncReadExt, AsyncSeek, AsyncSeekExt, AsyncWrite,
-    AsyncWriteExt, Budgeted, BufReader, BufWriter, SeekFrom, WriteSpec, ReadSpec,
+    AsyncWriteExt, Budgeted, BufReader, BufWriter, ReadSpec, SeekFrom, WriteSpec,
 };
 use futures_lite::{Context, Future, Poll, StreamExt, future};
 use std::alloc::{AllocError, AllocGlobal, Global};

@@ -4,7 +4,7 @@ use super::polls::told;
 use futures::task::{Context, Doorbell, Solo, Source};
 use futures_lite::AsyncReadExt;
 use lite_base::{OkCounted, Poll, Stream};
-use lite_io_base::{AsyncRead, WriteSpec, ReadSpec};
+use lite_io_base::{AsyncRead, ReadSpec, WriteSpec};
 use lite_mock::Marks;
 use lite_read::make::{bytes, read_exact, read_to_end};
 use std::io;

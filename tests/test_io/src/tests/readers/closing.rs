@@ -2,7 +2,7 @@
 ghost use Rattle.std.specs.Prelude.{⊤, []};
 
 use futures_lite::future::BlockOn;
-use futures_lite::io::{self, AsyncWrite, WriteSpec, ReadSpec, wait_flush, wait_write_all};
+use futures_lite::io::{self, AsyncWrite, ReadSpec, WriteSpec, wait_flush, wait_write_all};
 use futures_lite::laws::{SteadyWrite, write_both};
 use futures_lite::{Context, Poll};
 use std::alloc::Global;

@@ -3,7 +3,7 @@ ghost use Rattle.test_io.specs.Bridge.{Drains, Holds};
 ghost use Rattle.test_io.specs.Laws.Bridge.{drains_laws, holds_laws};
 
 use lite_base::{Context, Poll};
-use lite_io_base::{AsyncRead, AsyncWrite, WriteSpec, ReadSpec};
+use lite_io_base::{AsyncRead, AsyncWrite, ReadSpec, WriteSpec};
 use std::io::{self, Read, Write};
 use std::test::Fail;
 use test_support::{finishes, gives, write};

@@ -5,7 +5,7 @@ use super::pipe::Pipe;
 use futures::task::{Doorbell, Solo};
 use futures_lite::Poll;
 use futures_lite::io::{
-    Answer, AsyncWrite, NewCounters, CounterNames, Journal, JournalReadHalf, split_journalled,
+    Answer, AsyncWrite, CounterNames, Journal, JournalReadHalf, NewCounters, split_journalled,
 };
 use std::alloc::{Alloc, AllocGlobal};
 use std::marker::Brand;
@@ -99,7 +99,11 @@ where
     }
 }
 
-fn drive_beside_a_writer<R, B>(rt: R, journal: Journal<Pipe>, counters: NewCounters) -> Result<(), Fail>
+fn drive_beside_a_writer<R, B>(
+    rt: R,
+    journal: Journal<Pipe>,
+    counters: NewCounters,
+) -> Result<(), Fail>
 where
     R: Threads + Wait + Abort + RandomSource + AllocGlobal + Copy + Send + Sync,
     B: CounterNames + Send + Sync,

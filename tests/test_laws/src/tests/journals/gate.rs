@@ -3,7 +3,9 @@ ghost use Rattle.std.specs.Prelude.{◌≡◌};
 use super::pipe::Pipe;
 use futures::task::{Doorbell, Solo};
 use futures_lite::Poll;
-use futures_lite::io::{AsyncRead, AsyncWrite, NewCounters, CounterNames, Journal, history, split_journalled};
+use futures_lite::io::{
+    AsyncRead, AsyncWrite, CounterNames, Journal, NewCounters, history, split_journalled,
+};
 use std::alloc::AllocGlobal;
 use std::marker::Brand;
 use std::process::Abort;

@@ -2,7 +2,9 @@
 ghost use Rattle.std.specs.Prelude.{◌≡◌};
 
 use futures::task::{Doorbell, Solo};
-use futures_lite::io::{Answer, NewCounters, CounterNames, Call, Cursor, Journal, history, split_journalled};
+use futures_lite::io::{
+    Answer, Call, CounterNames, Cursor, Journal, NewCounters, history, split_journalled,
+};
 use std::alloc::{AllocGlobal, Global};
 use std::marker::Brand;
 use std::process::Abort;

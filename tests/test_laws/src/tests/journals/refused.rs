@@ -4,8 +4,8 @@ ghost use Rattle.lite_io_base.specs.Laws.Runs.{idle_laws};
 
 use futures_lite::Poll;
 use futures_lite::io::{
-    self, AsyncRead, AsyncWrite, NewCounters, CounterNames, Call, Cursor, ErrorKind, Journal, JournalReadHalf,
-    JournalWriteHalf, WriteSpec, ReadSpec, history, split_journalled,
+    self, AsyncRead, AsyncWrite, Call, CounterNames, Cursor, ErrorKind, Journal, JournalReadHalf,
+    JournalWriteHalf, NewCounters, ReadSpec, WriteSpec, history, split_journalled,
 };
 use std::alloc::{AllocError, AllocGlobal};
 use std::marker::Brand;
@@ -76,7 +76,11 @@ where
     Ok(())
 }
 
-fn refused_entries<R, B>(rt: R, journal: Journal<VecCursor>, counters: NewCounters) -> Result<(), Fail>
+fn refused_entries<R, B>(
+    rt: R,
+    journal: Journal<VecCursor>,
+    counters: NewCounters,
+) -> Result<(), Fail>
 where
     R: Wait + Abort + RandomSource + AllocGlobal + Copy,
     B: CounterNames,
@@ -116,7 +120,11 @@ where
 fn a_refused_split_hands_the_journal_back(rt: HostRuntime) -> Result<(), Fail> {
     let mut journal = journal_on(rt.alloc(), b"xy")?;
     assert!(rt; reads_byte(&rt, &mut journal, b'x')?);
-    let back = handed_back::<Refusing<HostRuntime>, Brand>(Refusing { rt }, journal, NewCounters::new());
+    let back = handed_back::<Refusing<HostRuntime>, Brand>(
+        Refusing { rt },
+        journal,
+        NewCounters::new(),
+    );
     let Some(back) = back else {
         return Err(Fail::from("nothing was refused"));
     };

@@ -1,7 +1,7 @@
 //! What journals and halves show of themselves.
 ghost use Rattle.std.specs.Prelude.{◌≡◌};
 
-use futures_lite::io::{self, NewCounters, CounterNames, Cursor, Journal, split_journalled};
+use futures_lite::io::{self, CounterNames, Cursor, Journal, NewCounters, split_journalled};
 use std::alloc::{AllocError, AllocGlobal};
 use std::marker::Brand;
 use std::process::Abort;
@@ -46,7 +46,11 @@ fn a_journal_shows_its_entries(rt: HostRuntime) -> Result<(), Fail> {
 }
 
 /// Asserts how both halves of a journal of one read are shown.
-fn halves_show<R, B>(rt: R, journal: Journal<Cursor<Vec<u8>>>, counters: NewCounters) -> Result<(), Fail>
+fn halves_show<R, B>(
+    rt: R,
+    journal: Journal<Cursor<Vec<u8>>>,
+    counters: NewCounters,
+) -> Result<(), Fail>
 where
     R: Wait + Abort + AllocGlobal + Copy,
     B: CounterNames,

@@ -3,8 +3,8 @@ ghost use Rattle.lite_halves.specs.Counts.{AllWrites};
 
 use futures::task::{Doorbell, Solo};
 use futures_lite::io::{
-    Answer, NewCounters, CounterNames, Call, Cursor, Entry, Journal, JournalReadHalf, JournalWriteHalf,
-    history, split_journalled,
+    Answer, Call, CounterNames, Cursor, Entry, Journal, JournalReadHalf, JournalWriteHalf,
+    NewCounters, history, split_journalled,
 };
 use std::alloc::{AllocError, AllocGlobal, Global};
 use std::marker::Brand;

@@ -3,7 +3,9 @@
 ghost use Rattle.std.specs.Prelude.{◌≡◌, ⊤};
 
 use futures_lite::future::block_on;
-use futures_lite::io::{self, AsyncRead, NewCounters, CounterNames, Journal, WriteSpec, ReadSpec, split_journalled};
+use futures_lite::io::{
+    self, AsyncRead, CounterNames, Journal, NewCounters, ReadSpec, WriteSpec, split_journalled,
+};
 use futures_lite::{AsyncReadExt, Context, Poll};
 use std::alloc::{AllocError, AllocGlobal};
 use std::marker::Brand;

@@ -9,8 +9,8 @@ use lite_read::make::{
     bytes as each_byte, fill_buf, read, read_exact, read_line, read_to_end, read_to_string,
     read_vectored,
 };
-use properties_met::readers::{buffered_readers_have_marks, journals_have_marks};
 use nests_agree::reads::reads_agree;
+use properties_met::readers::{buffered_readers_have_marks, journals_have_marks};
 use std::alloc::AllocError;
 use std::io::ErrorKind;
 use std::test::Fail;

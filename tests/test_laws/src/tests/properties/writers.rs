@@ -8,8 +8,8 @@ use lite_halves::Journal;
 use lite_io_base::{CalmWrite, IoSlice, SteadyWrite};
 use lite_mock::{Marks, Order, Takes};
 use lite_write::make::{close, copy, flush, sink, write, write_all, write_vectored};
-use properties_met::writers::{adapters_have_marks, journals_write_with_marks};
 use nests_agree::writes::{copies_agree, writes_agree};
+use properties_met::writers::{adapters_have_marks, journals_write_with_marks};
 use std::alloc::AllocError;
 use std::test::Fail;
 
