@@ -1,7 +1,7 @@
 -- The words of a text, and how often each is there.
-use Rattle.std.specs.Prelude.{◌≡◌, ◌⊎◌, ℕ, List, [], ◌∷◌, ◌++◌, ⊤, count_by, if◌then◌else◌, length, nat_lt}
+use Rattle.std.specs.Prelude.{◌≡◌, ◌<◌, ◌⊎◌, ℕ, List, [], ◌∷◌, ◌++◌, ⊤, None, count_by, if◌then◌else◌, length, nat_lt}
 use Rattle.std.specs.Char.{is_ascii_whitespace}
-use Rattle.std.specs.List.{filter}
+use Rattle.std.specs.List.{filter, position}
 use Rattle.std.specs.Str.{bytes_eq}
 
 -- With a byte before the first piece.
@@ -17,6 +17,10 @@ text_pieces (b ∷ bs) = if is_ascii_whitespace b then [] ∷ text_pieces bs els
 -- The words of a text are its pieces that are not empty.
 unfoldable pub words : List ℕ → List (List ℕ)
 words text = filter (λ piece. nat_lt 0 (length piece)) (text_pieces text)
+
+-- These bytes are a word: there is one at least, and none is white space.
+abbrev pub IsWord : List ℕ → Type 0
+IsWord bytes = (0 < length bytes) × (position is_ascii_whitespace bytes ≡ None)
 
 -- How often a word is in a text.
 unfoldable pub occurrences : List ℕ → List ℕ → ℕ

@@ -1,6 +1,7 @@
 //! A word and its count as a line.
 ghost use Rattle.std.specs.Prelude.{◌≡◌, ◌≢◌, ◌∷◌, ◌++◌, ◌<◌, [], IfOk, IfSome, List, MatchOption, OnOk, decimal, ℕ};
 ghost use Rattle.example_words.specs.Records.{record_line};
+ghost use Rattle.example_words.specs.Words.{IsWord};
 
 use crate::fault::LineError;
 use crate::words::is_word;
@@ -31,6 +32,7 @@ pub fn push_record(text: &mut Vec<u8>, word: &[u8], count: u64) -> Result<(), Al
 #[tactic(auto, using(crate::specs::Laws::record_cut))]
 pub fn parse_record(line: &[u8]) -> Result<Record<'_>, LineError>
     ensures line { IfOk result (λ r. line.now ≡ record_line (r.word.now, r.count)) }
+    ensures word { IfOk result (λ r. IsWord r.word.now) }
     ensures positive { IfOk result (λ r. 0 < r.count) }
 {
     let Some(record) = without_newline(line) else {

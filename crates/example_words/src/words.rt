@@ -1,8 +1,8 @@
 //! The words of a text.
-ghost use Rattle.std.specs.Prelude.{◌≡◌, ◌∷◌, ◌<◌, [], MatchOption, length};
+ghost use Rattle.std.specs.Prelude.{◌≡◌, ◌∷◌, ◌<◌, [], MatchOption, false, length, true};
 ghost use Rattle.std.specs.Char.{is_ascii_whitespace};
 ghost use Rattle.std.specs.List.{position};
-ghost use Rattle.example_words.specs.Words.{words};
+ghost use Rattle.example_words.specs.Words.{IsWord, words};
 
 /// Returns the first word of a text, and what is behind it.
 pub fn next_word(text: &[u8]) -> Option<(&[u8], &[u8])>
@@ -25,6 +25,9 @@ fn first_white(text: &[u8]) -> Option<usize>
 }
 
 /// Returns whether these bytes are one word.
-pub fn is_word(bytes: &[u8]) -> bool {
-    !bytes.is_empty() && !bytes.iter().any(|byte| byte.is_ascii_whitespace())
+pub fn is_word(bytes: &[u8]) -> bool
+    ensures word { result ≡ true → IsWord bytes.now }
+    ensures other { result ≡ false → IsWord bytes.now → ⊥ }
+{
+    !bytes.is_empty() && first_white(bytes).is_none()
 }
