@@ -17,7 +17,7 @@ use std::sync::Wait;
 /// Blocks this thread, by `on` and the runtime `rt`, until the input ends, and returns all frames.
 ///
 /// They are the frames that the decoder finds in all bytes up to the end of file, whatever the chunks in which
-/// the bytes came. If the end was read before, they are the frames that are left. The call may wait for ever. The
+/// the bytes came. If the end was read before, they are the frames that are left. The call may wait forever. The
 /// caller guarantees that `ranks.counts` holds for the reader.
 ///
 /// # Errors

@@ -14,7 +14,7 @@ use std::sync::Wait;
 /// Blocks this thread, by `on` and the runtime `rt`, until the next frame is known, and returns it.
 ///
 /// It returns what the stream returns in one poll that is not pending: a frame, the end or an error
-/// ([`FramedRead`]). The call may wait for ever. The caller guarantees that `ranks.counts` holds for the
+/// ([`FramedRead`]). The call may wait forever. The caller guarantees that `ranks.counts` holds for the
 /// reader, and it holds after the call.
 ///
 /// # Examples

@@ -13,7 +13,7 @@ use tokio_util::codec::Encoder;
 ///
 /// The frame is put into `out`, in place of what is there, so that one buffer serves many frames. If the call
 /// returns `Ok`, the writer took exactly a frame that the encoder may give for the item. It may still be
-/// buffered there: the writer is not flushed. The call may wait for ever.
+/// buffered there: the writer is not flushed. The call may wait forever.
 ///
 /// # Errors
 ///

@@ -16,7 +16,7 @@ use tokio_util::codec::Encoder;
 ///
 /// The frames are put into `out`, in place of what is there. If the call returns `Ok`, the writer took exactly
 /// these frames. It is not flushed. A decoder that reads these bytes, however they are cut, gives these items
-/// again, or says that memory was refused ([`RoundTrip`]). The call may wait for ever.
+/// again, or says that memory was refused ([`RoundTrip`]). The call may wait forever.
 ///
 /// # Errors
 ///

@@ -25,7 +25,7 @@ use tokio_util::codec::Encoder;
 /// it reads, that is, if no whole request is in hand ([`in_hand`](FramedRead::in_hand)), and at the end. So no
 /// reply waits behind a request that is not whole. Between two requests that are in hand it does not flush.
 ///
-/// The call blocks this thread, by `on` and the runtime `rt`, and may wait for ever. The caller guarantees that
+/// The call blocks this thread, by `on` and the runtime `rt`, and may wait forever. The caller guarantees that
 /// `ranks.counts` holds for the reader below `requests`.
 ///
 /// # Errors

@@ -253,14 +253,15 @@ where
     race(future1, future2, Pcg32::seed_from_u64(seed))
 }
 
-/// Returns a future that resolves to the pair of both values, once both futures are ready. Do not poll it after
-/// that.
+/// Returns a future that resolves to the pair of both values, once both futures are ready. Do not poll it
+/// after that; a contract forbids it (`can_poll`).
 ///
-/// It waits for both at once: each poll polls each future that is not ready yet, the first before the second. A
-/// future is dropped when its value is there. The values have to be `Drop`. The result is a `Future` only if
-/// both futures are `Drop`, too.
+/// It waits for both at once: each poll polls each future that is not ready yet, the first before the second.
+/// A future is dropped in the poll that returns its value. The values have to be `Drop`. The result is a
+/// `Future` only if both futures are `Drop`, too.
 ///
-/// The contract says that the value is the pair of the two values.
+/// If the value of each future is known, the contract says that the value of the result is their pair. If the
+/// values are `Result`s, an `Err` ends nothing; [`try_zip`] stops at the first error.
 ///
 /// # Examples
 ///
@@ -293,14 +294,16 @@ where
     make::zip(future1, future2)
 }
 
-/// Returns a future that resolves to the pair of both values, or to the first error. Do not poll it after that.
+/// Returns a future that resolves to the pair of both values, or to the first error. Do not poll it after
+/// that; after a pair a contract forbids it (`can_poll`).
 ///
 /// Each poll polls each future that is not ready yet once, the first before the second. If the first future
 /// fails, the second is not polled in that poll. The values have to be `Drop`. The result is a `Future` only
 /// if both futures are `Drop`, too.
 ///
 /// The contract says which value comes. It is the pair if neither future fails, and the error if only one of
-/// them does. If both fail, it is the first's error if its first poll returns that.
+/// them does. If both would fail, it is the error that a poll meets earlier, and the first's if one poll
+/// would meet both. Of this the contract says one case: the first future fails in its first poll.
 ///
 /// # Examples
 ///
@@ -344,10 +347,11 @@ where
 
 /// Blocks this thread until `future` is ready, and returns its value.
 ///
-/// Between polls the thread yields 60 times, and then sleeps until it is woken. It may wait for ever. A future
-/// that returns `Pending` and wakes nobody, as a [`script`](crate::stream::script) does, blocks it for ever.
-/// The call drops `future`, so that has to be `Drop`; [`wait_for`] leaves the future with its caller. The
-/// caller guarantees that `future` may be polled.
+/// After a poll that returns `Pending` the thread yields a number of times, and then sleeps until the context
+/// of that poll is woken. It may wait forever. If a poll returns `Pending` and nothing wakes its context, the
+/// thread sleeps forever; a [`script`](crate::stream::script) with a `Pending` is such a source. The call
+/// drops `future`, so that has to be `Drop`; [`wait_for`] leaves the future with its caller. The caller
+/// guarantees that `future` may be polled.
 ///
 /// Each call makes a queue to sleep on: two system calls, and seven allocations of 640 bytes in all, in about
 /// 800 ns. A [`BlockOn`] makes the queue once. Each of its calls takes about 60 ns and allocates nothing.
@@ -382,9 +386,10 @@ where
 
 /// Blocks this thread until `future` is ready, and returns its value. The future stays with the caller.
 ///
-/// It may wait for ever. The contract also says in which state the future is left. So use this call when the
-/// future borrows something by `&mut` that the caller needs afterwards, as the future of `read_to_end` does.
-/// [`block_on`] drops the future. The caller guarantees that `future` may be polled.
+/// It waits as [`block_on`] does, and may wait forever. The contract also says in which state the future is
+/// left. So use this call when the future borrows something by `&mut` that the caller needs afterwards, as
+/// the future of `read_to_end` does. [`block_on`] drops the future. The caller guarantees that `future` may
+/// be polled.
 ///
 /// The call is [`BlockOn::wait_for`] over a `BlockOn` of its own. `AllocError` means that this could not be
 /// allocated. The future was not polled then, and is unchanged.

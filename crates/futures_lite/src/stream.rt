@@ -200,7 +200,7 @@ pub fn iter_range(items: Range<usize>) -> Iter<Range<usize>>
     iter(items)
 }
 
-/// Returns a stream that yields `t`, and then ends for ever.
+/// Returns a stream that yields `t`, and then ends forever.
 ///
 /// Size hint: `(1, Some(1))`, and after the item `(0, Some(0))`.
 ///
@@ -230,7 +230,7 @@ pub fn once<T>(t: T) -> Once<T>
     lite_source::make::once(t)
 }
 
-/// Returns a stream that yields the value of `future`, and then is at an end for ever.
+/// Returns a stream that yields the value of `future`, and then ends forever.
 ///
 /// Each poll polls `future` until that is ready, and then drops it. So `future` has to be `Drop`. The caller
 /// guarantees that it may be polled. Size hint: `(0, None)`.
@@ -258,7 +258,7 @@ pub fn once_future<F: Future>(future: F) -> OnceFuture<F>
     lite_source::make::once_future(future)
 }
 
-/// Returns a stream that yields clones of `item` for ever, one a poll.
+/// Returns a stream that yields clones of `item` forever, one a poll.
 ///
 /// Unlike futures-lite, a clone may be refused for want of memory, so each item is a `Result`. `Ok` is a
 /// clone. `Err(AllocError)` means that the clone was refused; the next poll tries again. Size hint:
@@ -288,7 +288,7 @@ pub fn repeat<T: Clone>(item: T) -> Repeat<T>
     lite_source::make::repeat(item)
 }
 
-/// Returns a stream that yields what `repeater` returns, one call a poll, for ever.
+/// Returns a stream that yields what `repeater` returns, one call a poll, forever.
 ///
 /// Size hint: `(usize::MAX, None)`. The caller guarantees that `repeater` may always be called.
 ///
@@ -326,7 +326,7 @@ where
     lite_source::make::repeat_with(repeater)
 }
 
-/// Returns a stream that is pending for ever. A poll wakes nothing. Size hint: `(0, Some(0))`.
+/// Returns a stream that is pending forever. A poll wakes nothing. Size hint: `(0, Some(0))`.
 ///
 /// # Examples
 ///
@@ -344,7 +344,7 @@ where
 ///
 /// assert_eq!(rt; at_first(&rt)?, None);
 ///
-/// // Its clause says that it does not return `Ok`. A call waits for ever.
+/// // Its clause says that it does not return `Ok`. A call waits forever.
 /// fn waits<R>(rt: &R) -> Result<Option<u8>, AllocError>
 /// where
 ///     R: Wait + RandomSource + AllocGlobal,
@@ -362,7 +362,7 @@ pub fn pending<T>() -> Pending<T>
     lite_source::make::pending()
 }
 
-/// Returns a stream that calls `f` at each poll, and returns the result.
+/// Returns a stream that calls `f` at each poll, also after an end, and returns the result.
 ///
 /// The caller guarantees that `f` may be called with any context, and keeps what the context holds. Size
 /// hint: `(0, None)`.
@@ -395,9 +395,9 @@ where
     lite_source::make::poll_fn(f)
 }
 
-/// Returns a stream that returns these poll results in order, one a poll, and then ends for ever.
+/// Returns a stream that returns these poll results in order, one a poll, and then ends forever.
 ///
-/// A `Pending` in the list does not wake the task, so a `block_on` over it waits for ever. For `Pending`s that
+/// A `Pending` in the list does not wake the task, so a `block_on` over it waits forever. For `Pending`s that
 /// wake the task use [`with_budget`](StreamExt::with_budget). A poll allocates nothing. Size hint: `(0, None)`.
 ///
 /// # Examples
@@ -423,7 +423,7 @@ pub fn script<T>(answers: Vec<Poll<Option<T>>>) -> Script<T>
 /// Returns a stream of the items that futures make.
 ///
 /// `f` makes the first future of `seed`, and each later one of the seed that the future before it returned. A
-/// future that returns `Some((item, seed))` yields `item`. `None` ends the stream for ever.
+/// future that returns `Some((item, seed))` yields `item`. `None` ends the stream forever.
 ///
 /// A poll may call `f` once, and polls the future in the same poll. Size hint: `(0, None)`. The caller
 /// guarantees that `f` may always be called, and makes futures that may be polled. The seeds and the futures
@@ -454,7 +454,7 @@ where
 ///
 /// `f` makes the first future of `init`, and each later one of the state that the future before it returned.
 /// A future that returns `Ok(Some((item, state)))` yields `Ok(item)`. `Ok(None)` ends the stream.
-/// `Err(error)` is yielded as the last item. After either the stream is at an end for ever.
+/// `Err(error)` is yielded as the last item. After either the stream ends forever.
 ///
 /// A poll may call `f` once, and polls the future in the same poll. Size hint: `(0, None)`. The caller
 /// guarantees that `f` may always be called, and makes futures that may be polled. The states and the futures
@@ -486,10 +486,11 @@ where
 
 /// Returns a stream that yields the items of both streams as they come, with `stream1` first.
 ///
-/// Each poll polls `stream1`, unless it has ended. If this gives no item, the poll then polls `stream2`,
-/// unless it has ended. The result ends when both streams have ended. It returns `Pending` if there is no
-/// item and one of them has not ended. No item is lost or repeated, and the items of each stream keep their
-/// order. Size hint: `(0, None)`.
+/// Each poll polls `stream1`, unless it has ended. If `stream1` gives no item or has ended, the poll polls
+/// `stream2`, unless that has ended. So a `stream1` that always has an item keeps `stream2` from being
+/// polled. Once both streams have ended, the result ends forever; until then a poll without an item returns
+/// `Pending`. Unlike futures-lite, it does not end before both have ended. No item is lost or repeated, and
+/// the items of each stream keep their order. Size hint: `(0, None)`.
 ///
 /// # Examples
 ///
@@ -547,12 +548,13 @@ where
 /// Returns a stream that yields the items of both streams as they come, with neither preferred.
 ///
 /// Each poll takes a word from `rng`. If its lowest bit is 1, it polls `stream1` first, otherwise `stream2`.
-/// If this gives no item, the poll then polls the other stream. A stream that has ended is not polled. The
-/// result ends when both streams have ended. It returns `Pending` if there is no item and one of them has not
-/// ended. No item is lost or repeated, and the items of each stream keep their order.
+/// If that gives no item or has ended, the poll polls the other stream. A stream that has ended is not
+/// polled. Once both streams have ended, the result ends forever; until then a poll without an item returns
+/// `Pending`. No item is lost or repeated, and the items of each stream keep their order.
 ///
-/// The result is `Counted` if both streams are; its `ranks.counts` then requires `ranks.firm` of both. Unlike
-/// futures-lite, the generator is an argument. Size hint: `(0, None)`.
+/// That bit alone decides; nothing more is promised of fairness. The result is `Counted` if both streams are;
+/// its `ranks.counts` then requires `ranks.firm` of both. Unlike futures-lite, the generator is an argument.
+/// Size hint: `(0, None)`.
 ///
 /// # Examples
 ///
@@ -657,7 +659,9 @@ where
 
 /// The methods that every stream has: adapters, and futures that consume a stream.
 ///
-/// A closure is called only with items of the stream, once for each item and in order.
+/// A closure is called only with items of the stream, once for each item and in order. A poll of an adapter
+/// after an end polls the stream again, unless the adapter's entry says that it ends forever, or says what
+/// else it does.
 ///
 /// The future of a consuming method polls the stream until an item decides its value, the stream returns
 /// `Pending`, or it ends. One poll may consume many items, so the stream must be `Counted`, unless the method
@@ -712,9 +716,9 @@ pub trait StreamExt: Stream {
 
     /// Returns a stream that yields the items for which `predicate` returns true.
     ///
-    /// `predicate` is called once for each item, in order. One poll may skip many items, so this stream must
-    /// be `Counted`. Skipped items are dropped, so the items must be `Drop`. Size hint: `(0, upper)`, with
-    /// the upper bound of this stream.
+    /// `predicate` is called once for each item, in order. `Pending` and ends pass through. One poll may skip
+    /// many items, so this stream must be `Counted`. Skipped items are dropped, so the items must be `Drop`.
+    /// Size hint: `(0, upper)`, with the upper bound of this stream.
     ///
     /// # Examples
     ///
@@ -814,9 +818,9 @@ pub trait StreamExt: Stream {
     /// Returns a stream that calls `f` with each item, and yields the values of the futures that `f` returns.
     ///
     /// A future is polled in the call that made it. While it is pending it is kept, and this stream is not
-    /// polled. A future is dropped after its value, so it must be `Drop`. Size hint: that of this stream,
-    /// plus one while a future is in flight. The lower bound saturates at `usize::MAX`; an upper bound that
-    /// would exceed it becomes `None`.
+    /// polled. A future is dropped in the poll that yields its value, so it must be `Drop`. Ends of this
+    /// stream pass through. Size hint: that of this stream, plus one while a future is in flight. The lower
+    /// bound saturates at `usize::MAX`; an upper bound that would exceed it becomes `None`.
     ///
     /// # Examples
     ///
@@ -848,10 +852,10 @@ pub trait StreamExt: Stream {
         lite_reshape::make::then(self, f)
     }
 
-    /// Returns a stream that calls `f` with each item, and yields the values for which `f` returns `Some`.
+    /// Returns a stream that calls `f` with each item, and yields what is in each `Some` that `f` returns.
     ///
-    /// `f` is called once for each item, in order. One poll may skip many items, so this stream must be
-    /// `Counted`. Size hint: `(0, None)`.
+    /// `f` is called once for each item, in order. `Pending` and ends pass through. One poll may skip many
+    /// items, so this stream must be `Counted`. Size hint: `(0, None)`.
     ///
     /// # Examples
     ///
@@ -881,9 +885,9 @@ pub trait StreamExt: Stream {
         lite_reshape::make::filter_map(self, f)
     }
 
-    /// Returns a stream that yields the first `n` items, and then ends for ever.
+    /// Returns a stream that yields the first `n` items, and then ends forever.
     ///
-    /// `Pending` is passed on. If this stream ends sooner, the result ends for ever too. Once the result has
+    /// `Pending` is passed on. If this stream ends sooner, the result ends forever too. Once the result has
     /// ended, it does not poll this stream. If `n` is 0, it never polls this stream. This stream is dropped with
     /// the result, and not before. Size hint: `(0, None)`.
     ///
@@ -918,7 +922,7 @@ pub trait StreamExt: Stream {
     /// Returns a stream that yields the items while `predicate` returns true, and ends at the first item for
     /// which it returns false.
     ///
-    /// That item is dropped, so the items must be `Drop`. The end is not for ever: the next poll polls this
+    /// That item is dropped, so the items must be `Drop`. The end is not forever: the next poll polls this
     /// stream again. Size hint: `(0, None)`.
     ///
     /// # Examples
@@ -957,7 +961,7 @@ pub trait StreamExt: Stream {
     /// Returns a stream that calls `f` with each item and yields the values, and ends when `f` returns
     /// `None`.
     ///
-    /// The end is not for ever: the next poll polls this stream again. Size hint: `(0, None)`.
+    /// The end is not forever: the next poll polls this stream again. Size hint: `(0, None)`.
     ///
     /// # Examples
     ///
@@ -994,8 +998,8 @@ pub trait StreamExt: Stream {
 
     /// Returns a stream that skips the first `n` items, and yields the others.
     ///
-    /// One poll may skip up to `n` items. Skipped items are dropped, so the items must be `Drop`. Size hint:
-    /// `(0, None)`.
+    /// One poll may skip up to `n` items. `Pending` and ends pass through. Skipped items are dropped, so the
+    /// items must be `Drop`. Size hint: `(0, None)`.
     ///
     /// # Examples
     ///
@@ -1059,9 +1063,9 @@ pub trait StreamExt: Stream {
 
     /// Returns a stream that yields the first item, and then each `step`-th item after it.
     ///
-    /// Items are numbered from 0; the multiples of `step` are yielded. `step` must be greater than 0. The
-    /// numbers continue across `Pending` and ends. One poll may skip up to `step - 1` items. Skipped items
-    /// are dropped, so the items must be `Drop`. Size hint: `(0, None)`.
+    /// Items are numbered from 0; the multiples of `step` are yielded. `step` must be greater than 0.
+    /// `Pending` and ends pass through, and the numbers continue after them. One poll may skip up to `step -
+    /// 1` items. Skipped items are dropped, so the items must be `Drop`. Size hint: `(0, None)`.
     ///
     /// # Examples
     ///
@@ -1092,8 +1096,8 @@ pub trait StreamExt: Stream {
 
     /// Returns a stream that yields the items of this stream, and after its end those of `other`.
     ///
-    /// Polls `other` in the same call in which this stream ends. Neither is polled after its end. Size hint:
-    /// `(0, None)`.
+    /// Polls `other` in the same call in which this stream ends. Neither is polled after its end, and the
+    /// result ends forever. Size hint: `(0, None)`.
     ///
     /// # Examples
     ///
@@ -1162,10 +1166,11 @@ pub trait StreamExt: Stream {
 
     /// Returns a stream that yields the items of both streams as they come, with this stream first.
     ///
-    /// Each poll polls this stream, unless it has ended. If this gives no item, the poll then polls `other`,
-    /// unless it has ended. The result ends when both streams have ended. It returns `Pending` if there is no
-    /// item and one of them has not ended. No item is lost or repeated, and the items of each stream keep their
-    /// order. Size hint: `(0, None)`.
+    /// Each poll polls this stream, unless it has ended. If this stream gives no item or has ended, the poll
+    /// polls `other`, unless that has ended. So a stream that always has an item keeps `other` from being
+    /// polled. Once both streams have ended, the result ends forever; until then a poll without an item
+    /// returns `Pending`. Unlike futures-lite, it does not end before both have ended. No item is lost or
+    /// repeated, and the items of each stream keep their order. Size hint: `(0, None)`.
     ///
     /// # Examples
     ///
@@ -1223,12 +1228,13 @@ pub trait StreamExt: Stream {
     /// Returns a stream that yields the items of both streams as they come, with neither preferred.
     ///
     /// Each poll takes a word from `rng`. If its lowest bit is 1, it polls this stream first, otherwise
-    /// `other`. If this gives no item, the poll then polls the other stream. A stream that has ended is not
-    /// polled. The result ends when both streams have ended. It returns `Pending` if there is no item and one
-    /// of them has not ended. No item is lost or repeated, and the items of each stream keep their order.
+    /// `other`. If that gives no item or has ended, the poll polls the other stream. A stream that has ended
+    /// is not polled. Once both streams have ended, the result ends forever; until then a poll without an
+    /// item returns `Pending`. No item is lost or repeated, and the items of each stream keep their order.
     ///
-    /// The result is `Counted` if both streams are; its `ranks.counts` then requires `ranks.firm` of both.
-    /// Unlike futures-lite, the generator is an argument. Size hint: `(0, None)`.
+    /// That bit alone decides; nothing more is promised of fairness. The result is `Counted` if both streams
+    /// are; its `ranks.counts` then requires `ranks.firm` of both. Unlike futures-lite, the generator is an
+    /// argument. Size hint: `(0, None)`.
     ///
     /// # Examples
     ///
@@ -1315,7 +1321,7 @@ pub trait StreamExt: Stream {
     /// Returns a stream that yields the items of this stream that are ready, and ends whenever this stream is
     /// pending.
     ///
-    /// The end is not for ever: the next poll polls this stream again. Size hint: `(0, upper)`, with the
+    /// The end is not forever: the next poll polls this stream again. Size hint: `(0, upper)`, with the
     /// upper bound of this stream.
     ///
     /// # Examples
@@ -1338,12 +1344,12 @@ pub trait StreamExt: Stream {
         lite_merge::make::drain(self)
     }
 
-    /// Returns a stream of the same items that returns `Pending` once after `items` items in a row, and wakes
-    /// the task then.
+    /// Returns a stream of the same items. After `items` of them in a row it returns `Pending` once, and
+    /// wakes the task.
     ///
     /// So another task can run in between. The next poll continues with this stream. `items` must be greater
-    /// than 0. A `Pending` of this stream starts the count again. The result is `Counted`, whatever this
-    /// stream is. Size hint: that of this stream.
+    /// than 0. A `Pending` of this stream starts the count again; an end passes through and does not. The
+    /// result is `Counted`, whatever this stream is. Size hint: that of this stream.
     ///
     /// # Examples
     ///
@@ -1381,7 +1387,7 @@ pub trait StreamExt: Stream {
         lite_merge::make::with_budget(self, items)
     }
 
-    /// Returns a stream that yields clones of the items, which are references.
+    /// Returns a stream that yields a clone of the value behind each item, as a `Result`.
     ///
     /// Unlike futures-lite, a clone may be refused for want of memory, so each item is a `Result`. `Ok` is a
     /// clone. `Err(AllocError)` means that the clone was refused. The next poll tries it again, without
@@ -1495,7 +1501,7 @@ pub trait StreamExt: Stream {
         make::scan(self, initial_state, f)
     }
 
-    /// Returns a stream that yields the items up to the first end, and then ends for ever.
+    /// Returns a stream that yields the items up to the first end, and then ends forever.
     ///
     /// After that end this stream is not polled. Size hint: `(0, None)`.
     ///
@@ -1537,8 +1543,8 @@ pub trait StreamExt: Stream {
 
     /// Returns a stream that yields pairs of a number and an item; the numbers count from 0.
     ///
-    /// The numbers continue across `Pending` and ends. After `usize::MAX` comes 0; unlike in futures-lite,
-    /// nothing panics. Size hint: `(0, None)`.
+    /// `Pending` and ends pass through, and the numbers continue after them. After `usize::MAX` comes 0;
+    /// unlike in futures-lite, nothing panics. Size hint: `(0, None)`.
     ///
     /// # Examples
     ///
@@ -1609,9 +1615,9 @@ pub trait StreamExt: Stream {
 
     /// Returns a future of the next item, or of `None` if the stream ends.
     ///
-    /// It accepts any stream, and polls it once in each poll. It is `Pending` if the stream is. It borrows
-    /// the stream, which can be polled further afterwards. A poll of the future after its value polls the
-    /// stream again.
+    /// It accepts any stream, and polls it once in each poll. It is `Pending` if the stream is; no item is
+    /// lost if the future is dropped then. It borrows the stream, which can be polled further afterwards. A
+    /// poll of the future after its value polls the stream again.
     ///
     /// The contract also says which items a wait leaves, if [`wait_for`](crate::future::wait_for) waits for the
     /// future. So a proof can follow the stream over several calls.
@@ -1667,7 +1673,7 @@ pub trait StreamExt: Stream {
     ///
     /// The future resolves to `Ok(Some(value))` for an item `Ok(value)`, to `Err(e)` for an item `Err(e)`,
     /// and to `Ok(None)` if the stream ends. It accepts any stream of `Result`s, and polls it once in each
-    /// poll.
+    /// poll. No item is lost if the future is dropped while it is pending.
     ///
     /// # Examples
     ///
@@ -1811,9 +1817,10 @@ pub trait StreamExt: Stream {
 
     /// Returns a future of the item number `n`, counted from 0, or of `None` if the stream ends before it.
     ///
-    /// It accepts any stream. The items before that one are dropped, so the items must be `Drop`. If the stream
-    /// ends first, all its items are dropped, and the value is `None`. Another call polls the stream again, and
-    /// over [`fuse`](StreamExt::fuse) its value is `None` again.
+    /// It accepts any stream. The items before that one are dropped, so the items must be `Drop`. If the
+    /// stream ends first, all its items are dropped, and the value is `None`. A poll of the future after its
+    /// value, and another call of `nth`, poll the stream again; over [`fuse`](StreamExt::fuse) the value is
+    /// `None` again.
     ///
     /// # Examples
     ///
@@ -1949,10 +1956,10 @@ pub trait StreamExt: Stream {
         lite_consume::make::find(self, predicate)
     }
 
-    /// Returns a future that calls `f` with the items, and returns the first value that is not `None`.
+    /// Returns a future that calls `f` with the items, and returns the value in the first `Some`.
     ///
-    /// The future's value is `None` if the stream ends before one. A poll requires that `ranks.counts` holds
-    /// for the stream.
+    /// The future's value is `None` if the stream ends before a `Some`. A poll requires that `ranks.counts`
+    /// holds for the stream.
     ///
     /// # Examples
     ///
@@ -2029,7 +2036,7 @@ pub trait StreamExt: Stream {
         lite_consume::make::position(self, predicate)
     }
 
-    /// Returns a future of whether `predicate` returns true for every item.
+    /// Returns a future of whether `predicate` returns true forevery item.
     ///
     /// The first item for which it returns false decides. The value is true if there is no item. A poll
     /// requires that `ranks.counts` holds for the stream.
@@ -2071,7 +2078,7 @@ pub trait StreamExt: Stream {
         lite_consume::make::all(self, predicate)
     }
 
-    /// Returns a future of whether `predicate` returns true for an item.
+    /// Returns a future of whether `predicate` returns true for at least one item.
     ///
     /// The first item for which it returns true decides. The value is false if there is no item. A poll
     /// requires that `ranks.counts` holds for the stream.
@@ -2184,8 +2191,9 @@ pub trait StreamExt: Stream {
     /// `alloc`. It resolves to a `Result<C, Refused<C, Self::Item>>`: `Ok(collection)` at the end of the
     /// stream.
     ///
-    /// The future takes the stream, and is `Pending` when the stream is. It then keeps what it has collected.
-    /// A poll requires that `ranks.counts` holds for the stream.
+    /// The future takes the stream, and is `Pending` when the stream is. To keep the rest of a stream,
+    /// collect from a `&mut` to it. It then keeps what it has collected. A poll requires that `ranks.counts`
+    /// holds for the stream.
     ///
     /// A `Vec` and a `VecDeque` append items at the back, and a `String` appends characters. A `BTreeMap`
     /// collects pairs: for a key that it has, the old key stays and the value is replaced. A `BTreeSet` keeps
@@ -2195,7 +2203,8 @@ pub trait StreamExt: Stream {
     /// # Errors
     ///
     /// If the collection has no memory for an item, the future resolves to `Err` of a [`Refused`]: what was
-    /// collected before, and that item. What is left of the stream is dropped with the future.
+    /// collected before, and that item. What is left of the stream is dropped with the future. The fields of
+    /// a `Refused` are `collected` and `item`.
     ///
     /// # Examples
     ///

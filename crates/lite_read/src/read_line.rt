@@ -22,12 +22,12 @@ use std::io;
 ///
 /// Returned by [`read_line`](crate::make::read_line). The value is the number of bytes appended, including
 /// the newline (0x0A) if there is one. It is 0 if the reader is at end of file. No byte after the newline is
-/// read. While a poll is pending, the text is unchanged.
+/// consumed. While a poll is pending, the text is unchanged.
 ///
 /// The value is an error of the kind `InvalidData` if the bytes are not UTF-8; they are dropped then. It is
 /// the error of the reader if there is one, or an error of the kind `OutOfMemory` if memory is refused. After
 /// these two, the bytes read so far are appended if they are UTF-8, and dropped if not. Bytes refused for
-/// lack of memory are not read.
+/// lack of memory are not consumed.
 ///
 /// A line that is whole in the buffer of the reader is appended to the text at once. The pieces of any other
 /// line are read into the memory of the text if that is empty, or into more memory, which the text takes over.

@@ -19,7 +19,7 @@ use std::io;
 /// Returned by [`read_until`](crate::make::read_until). The value is the number of bytes appended, including
 /// the delimiter. It is 0 if the reader is at end of file. It is the error of the reader if there is one, or
 /// an error of the kind `OutOfMemory` if memory is refused. The bytes read before an error are in the vector.
-/// Bytes that were not appended are not read.
+/// Bytes that were not appended are not consumed.
 #[derive(Debug, Drop)]
 pub struct ReadUntilFuture<'a, R> {
     pub(crate) reader: &'a mut R,

@@ -18,7 +18,7 @@ use std::sync::Wait;
 /// Blocks this thread, by `on`, until one read into `buf` is done, and returns its value.
 ///
 /// The value is that of [`read`]. The reader produced the events of that value, and pendings. If its rank
-/// counted before, it counts after the call, by the lemma `told_counts`. The call may wait for ever. The
+/// counted before, it counts after the call, by the lemma `told_counts`. The call may wait forever. The
 /// outer result is always `Ok`.
 ///
 /// # Examples
@@ -93,7 +93,7 @@ pub fn wait_read_exact<R: Wait, T: AsyncRead>(
 ///
 /// The value is that of [`read_until`]. The reader produced exactly the bytes that were appended, and then
 /// the end of file or the error, if there was one. An allocation fails only if the vector lacked room
-/// (`VectorLacksRoom`). The call may wait for ever. The outer result is always `Ok`. The caller guarantees
+/// (`VectorLacksRoom`). The call may wait forever. The outer result is always `Ok`. The caller guarantees
 /// that `ranks.counts` holds for the reader.
 ///
 /// # Examples
@@ -148,9 +148,12 @@ pub(crate) fn read_until_by<R: Wait, T: AsyncBufRead + CountedRead>(
 /// Blocks this thread, by `on`, until a piece that ends in `byte`, or `limit` bytes without it, or those before
 /// an end of file were appended to `buf`. It returns how many were appended.
 ///
-/// So a peer cannot fill the memory with one endless line. If `limit` bytes came without `byte`, nothing behind
-/// them was read. Otherwise the call is as [`wait_read_until`]. The call may wait for ever. The outer result is
-/// always `Ok`. The caller guarantees that `ranks.counts` holds for the reader.
+/// So a peer cannot fill the memory with one endless line. A piece is whole if the last of the appended bytes
+/// is `byte`. If it is not and `limit` bytes were appended, the piece was cut, and nothing behind them was
+/// consumed. If fewer were, the reader is at end of file. With a `limit` of 0 the call returns `Ok(Ok(0))`
+/// and does not poll the reader. Otherwise the call is as [`wait_read_until`]. It may wait forever;
+/// `framed::LineDelimited` limits lines without blocking. The outer result is always `Ok`. The caller
+/// guarantees that `ranks.counts` holds for the reader.
 ///
 /// # Examples
 ///
@@ -193,7 +196,7 @@ pub fn wait_read_until_limited<R: Wait, T: AsyncBufRead + CountedRead>(
 /// Blocks this thread, by `on`, until the writer has accepted all of `bytes`, and returns the value.
 ///
 /// The value is that of [`write_all`]. If it is `Ok`, the writer accepted exactly these bytes. Otherwise it
-/// accepted a prefix of them, and then returned the error. The call may wait for ever. The outer result is
+/// accepted a prefix of them, and then returned the error. The call may wait forever. The outer result is
 /// always `Ok`.
 ///
 /// # Examples
@@ -237,7 +240,7 @@ pub(crate) fn write_all_by<R: Wait, T: AsyncWrite>(
 
 /// Blocks this thread, by `on`, until the writer was flushed, and returns the value.
 ///
-/// The value is that of [`flush`]. The writer accepts no byte. The call may wait for ever. The outer result
+/// The value is that of [`flush`]. The writer accepts no byte. The call may wait forever. The outer result
 /// is always `Ok`.
 ///
 /// # Examples
