@@ -42,7 +42,9 @@ MOST_WHOLE, MOST_BODY, MOST_NAMED = 4, 12, 5
 EXAMPLE, EXAMPLE_PAGE = "step_from", "docs/guide/00-start.md"
 # The kinds of examples, with how many lines are told of each.
 EXAMPLES = {"Guide": 3, "Doc comments": 2, "Programs": 4}
-PAGES = ("docs/guide/*.md", "docs/NESTS.md")
+PAGES = ("docs/guide/*.md", "docs/NESTS.md", "docs/FROM-FUTURES-LITE.md", "docs/RULES.md")
+# How many parts of pages are told, and where a part or a paragraph of a page begins.
+MOST_PARTS, HEADING, PARAGRAPH = 4, re.compile(r"#+ (.*)"), re.compile(r"- |\||\d+\. |$")
 FENCES, REMARK = ("```rust", "```antt"), re.compile(r"//.*|--.*")
 
 
@@ -410,6 +412,39 @@ def code_of_page(text):
             yield number, REMARK.sub("", line) if is_code else "" if fence else " ".join(re.findall(r"`([^`]+)`", line))
 
 
+@functools.cache
+def pages():
+    """Returns the texts of the pages by their paths."""
+    return {os.path.relpath(it, TOP): read_text(it) for pattern in PAGES for it in sorted(glob.glob(f"{TOP}/{pattern}"))}
+
+
+def paragraphs(text):
+    """Yields each paragraph, point or row of a page: the number of its first line, the heading above it, and its lines as one. Blocks of code have none."""
+    heading, fence, first, lines = "", False, 0, []
+    for number, line in enumerate([*text.splitlines(), ""], 1):
+        if lines and (PARAGRAPH.match(line) or line.startswith(("#", "```"))):
+            yield first, heading, " ".join(lines)
+            lines = []
+        fence = fence != line.startswith("```")
+        if found := HEADING.match(line):
+            heading, first, lines = found[1], number, [found[1]]
+        elif line.strip() and not fence and not line.startswith("```"):
+            first, lines = (first, lines) if lines else (number, lines)
+            lines.append(line.strip())
+
+
+def parts_with(asked):
+    """Returns the parts of pages in whose prose a word begins with what was asked, each by its place and a sentence. Those whose heading has it come
+    first, and the chapters last."""
+    word, found = re.compile(rf"(?<!\w){re.escape(asked)}", re.IGNORECASE), {}
+    for path, text in pages().items():
+        for number, heading, paragraph in paragraphs(text):
+            if word.search(re.sub(r"`[^`]*`", "", paragraph)):
+                sentence = next((it for it in re.split(r"(?<=[.:;]) ", paragraph) if word.search(it)), paragraph)
+                found.setdefault((path, heading), f"{path}:{number}: {heading}{'' if paragraph == heading else f': {sentence}'}")
+    return [found[it] for it in sorted(found, key=lambda it: (not word.search(it[1]), it[0].startswith("docs/guide")))]
+
+
 def code_of_comments(text):
     """Yields the number and the code of each line of the examples in doc comments."""
     is_code = False
@@ -435,10 +470,9 @@ def code_of_program(text):
 def examples_of(names):
     """Yields the kinds of examples, each with the lines that name one of the names."""
     own = sorted(own_crates(), key=lambda it: (not it.startswith("example_"), it))
-    pages = {os.path.relpath(it, TOP): read_text(it) for pattern in PAGES for it in sorted(glob.glob(f"{TOP}/{pattern}"))}
     comments = {f"crates/{crate}/{part}/{file}": text for (crate, part, file), text in texts().items() if part == "src" and crate in libraries()}
     programs = {f"crates/{of}/{part}/{file}": text for of in own for (crate, part, file), text in texts().items() if crate == of}
-    for kind, there, code in zip(EXAMPLES, (pages, comments, programs), (code_of_page, code_of_comments, code_of_program)):
+    for kind, there, code in zip(EXAMPLES, (pages(), comments, programs), (code_of_page, code_of_comments, code_of_program)):
         found = []
         for path, text in there.items():
             if any(it in text for it in names):
@@ -475,14 +509,32 @@ def fitting(words):
     return sorted(((rank, it) for rank, it in found if rank is not None), key=place)
 
 
+def not_found(words):
+    """Returns the lines that tell of words that nothing has: names that are like them, and what has the parts of a name."""
+    asked = " ".join(words)
+    told, parts = ", ".join(near(asked)), words_in_name(asked)
+    having = [it for _, it in fitting(parts)] if len(parts) > 1 else []
+    lines = [f"nothing has {asked}{f'; names like it are {told}' if told else ''}", "`rt lemma` looks in all of std"]
+    return [*lines, *listed(f"What has its parts, {' and '.join(parts)}", having, MOST_NAMED)]
+
+
+def lines_of_pages(asked, names):
+    """Returns the lines that tell which parts of pages have the words, and which examples have the names."""
+    parts = parts_with(asked)
+    told = [line for it in parts[:MOST_PARTS] for line in filled(it, most=2)]
+    lines = ["", "Pages:", *told, *more(len(parts) - MOST_PARTS)] if parts else []
+    for kind, there in examples_of(names):
+        told = [line for it in there[: EXAMPLES[kind]] for line in filled(it, most=1)]
+        lines += ["", f"{kind}:", *told, *more(len(there) - EXAMPLES[kind])] if there else []
+    return lines
+
+
 def answer(words):
-    """Returns whether an entry has the words, and the lines that tell it."""
+    """Returns whether an entry or a page has the words, and the lines that tell it."""
     asked, found = " ".join(words), fitting(words)
     if not found:
-        told, parts = ", ".join(near(asked)), words_in_name(asked)
-        having = [it for _, it in fitting(parts)] if len(parts) > 1 else []
-        lines = [f"nothing has {asked}{f'; names like it are {told}' if told else ''}", "`rt lemma` looks in all of std"]
-        return False, [*lines, *listed(f"What has its parts, {' and '.join(parts)}", having, MOST_NAMED)]
+        lines = lines_of_pages(asked, {asked})
+        return bool(lines), lines[1:] or not_found(words)
     named = [(rank, it) for rank, it in found if rank < CODE]
     exact = [it for rank, it in named if rank == named[0][0] <= EXACT_FOLDED]
     whole = exact or [it for _, it in named if len(named) == 1]
@@ -491,9 +543,7 @@ def answer(words):
     lines += listed(f"{'Other names' if whole else 'Names'} that have it", others, MOST_NAMED)
     for kind, (heading, most) in KINDS.items():
         lines += listed(heading, [it for rank, it in found if rank >= CODE and it.kind == kind], most)
-    for kind, there in examples_of({it.names[0] for it in whole} or {asked}):
-        told = [line for it in there[: EXAMPLES[kind]] for line in filled(it, most=1)]
-        lines += ["", f"{kind}:", *told, *more(len(there) - EXAMPLES[kind])] if there else []
+    lines += lines_of_pages(asked, {it.names[0] for it in whole} or {asked})
     return True, lines[1:]
 
 

@@ -33,6 +33,34 @@ LOOKED_UP = {
     "nth": ("futures_lite::stream::StreamExt::nth: method", "fn nth(&mut self, n: usize)", "docs/api/stream/nth.md#method-streamextnth"),
     "IfOk": ("use Rattle.std.specs.Prelude.{IfOk}", "`IfOk r (λ v. B)`: B holds if `r` is `Ok(v)`."),
 }
+# Words that a newcomer asks for, and the page that answers.
+ASKED = {
+    "boxed": "docs/FROM-FUTURES-LITE.md",
+    "cancel": "docs/FROM-FUTURES-LITE.md",
+    "codec": "docs/guide/21-codec.md",
+    "fair": "docs/RULES.md",
+    "limit": "docs/RULES.md",
+    "select": "docs/FROM-FUTURES-LITE.md",
+    "spawn": "docs/FROM-FUTURES-LITE.md",
+    "timeout": "docs/FROM-FUTURES-LITE.md",
+}
+# A page with all that begins a paragraph.
+PAGE = """# Frames
+
+Some words
+go on. `code` is not one.
+
+```rust
+let words = 1;
+```
+
+## Limits
+
+- A point,
+  of two lines.
+- Wordy: a limit.
+| a | row |
+"""
 # A file of a crate's specs, whose blocks have parameters.
 SPEC = """-- What is kept.
 unfoldable pub use Rattle.other.specs.Words.{Twice}
@@ -103,6 +131,16 @@ class LookUps(unittest.TestCase):
     def test_a_piece_of_a_clause_is_found(self):
         _, lines = lookup.answer(["UnfoldsInto", "F.FnMut"])
         self.assertIn("  futures_lite::stream::unfold  -- Returns a stream of the items that futures make.", lines)
+
+    def test_pages_answer_what_is_no_name(self):
+        for word, page in ASKED.items():
+            is_found, lines = lookup.answer([word])
+            told = list(itertools.takewhile(lambda it: it, lines[lines.index("Pages:") :]))
+            self.assertTrue(is_found and any(it.startswith(f"  {page}:") for it in told), word)
+
+    def test_a_page_is_cut_into_paragraphs_points_and_rows(self):
+        wanted = [(1, "Frames"), (3, "Some words go on. `code` is not one."), (10, "Limits"), (12, "- A point, of two lines."), (14, "- Wordy: a limit.")]
+        self.assertEqual([(number, it) for number, _, it in lookup.paragraphs(PAGE)], [*wanted, (15, "| a | row |")])
 
     def test_an_answer_is_bounded_and_says_how_many_more_there_are(self):
         _, lines = lookup.answer(["a"])

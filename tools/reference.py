@@ -565,7 +565,7 @@ class Reference:
     def index_of(self, module):
         """Returns the index of a module: its items by their groups, a call in the place that the original's documentation has for it."""
         page = Page(module, index_of(module))
-        parts = [WRITTEN.rstrip(), f"# `{called(module)}`", self.about(module)]
+        parts = [WRITTEN.rstrip(), f"# `{called(module)}`", self.about(module), *self.more_about(module, page)]
         for name, items in self.groups(module).items():
             whole = [it for it in items if not (it.owner and it.owner.name not in EXTENSIONS)]
             results = [it for it in whole if is_type(it) and MAKERS.search(it.says) and not self.parts_of(it, module)]
@@ -577,6 +577,12 @@ class Reference:
     def about(self, module):
         """Returns what a module says of itself."""
         return wrapped(self.sources.source_of(module).text.splitlines()[0].removeprefix("//! "))
+
+    def more_about(self, module, page):
+        """Yields what else a module says of itself, with links to the pages that it names in brackets."""
+        lines = itertools.takewhile(lambda it: it.startswith("//!"), self.sources.source_of(module).text.splitlines())
+        for it in "\n".join(it.removeprefix("//!").strip() for it in lines).split("\n\n")[1:]:
+            yield wrapped(re.sub(r"(\w+ \d+) \(`(docs/[^`]+)`\)", lambda found: page.link(found[2], found[1]), " ".join(it.split())))
 
     def index(self):
         """Returns the page that lists the modules, and says how entries are read."""

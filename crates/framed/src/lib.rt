@@ -1,6 +1,12 @@
 //! Frames on the bytes of a reader and a writer, by `tokio_util`'s `Decoder` and `Encoder`.
 //!
-//! Chapter 21 of the guide (`docs/guide/21-codec.md`) writes a codec from nothing.
+//! Chapter 19 (`docs/guide/19-frames.md`) reads and writes frames, and chapter 21 (`docs/guide/21-codec.md`) writes
+//! a codec from nothing, with its tests.
+//!
+//! Both traits are of the toolchain's crate `tokio_util` (`src/codec/decoder.rt` and `encoder.rt` there). A
+//! `Decoder` has the calls `decode` and `decode_eof`. Its ghost member `gives` says what may come next, and
+//! `stable`, `partial_has_no_frame` and `end_is_partial` are its laws. An `Encoder` has the call `encode`. Its ghost
+//! member `encodes` says which bytes are the frame of an item, and `refuses` which errors it may return.
 #![tactic(auto)]
 
 mod bytes_codec;
