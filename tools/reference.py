@@ -83,7 +83,8 @@ def laid_out(comment):
 ABOUT_MARKS = (
     "`Result` names the type that a call returns. A property is a trait that states something of a type. A type's entry has the impl"
     " of each of its properties, whose bounds the type's arguments must meet. The entry of a property says what it means, and"
-    " [TABLES](../TABLES.md#which-properties-a-type-has) which types lack it. In a table of polls `P` is `Pending`, and `E` the end of the stream."
+    " [TABLES](../TABLES.md#which-properties-a-type-has) which types lack it. In a table of polls `P` is `Pending`, and `E` the end of the"
+    " stream. Several results in a cell came in one poll, and in an empty cell the source was not polled."
 )
 # Words that stand in most contracts, so that no page lists them.
 IN_MOST = ("requires", "ensures", "result", "Self", "record", "entry", "old", "new", "now")
@@ -541,7 +542,7 @@ class Reference:
             parts += ["\n".join(["In words:\n", *map(bullet, sentences(item))])] if sentences(item) else []
             parts += [f"Contract:\n\n{code(clauses)}"]
         parts += [*self.about_borrows(item), *self.about_words(item, page)]
-        return "\n\n".join([*parts, f"{page.link(item.path, 'Code')}."])
+        return "\n\n".join([*parts, f"{page.link(item.path, 'Code', f'L{item.line}')}."])
 
     def page(self, page):
         """Returns the text of a page."""

@@ -7,7 +7,7 @@ from contracts import printed
 from repository import TOP, read_text
 
 ENTRY = re.compile(r"^## (?P<kind>\w+) `(?P<title>[\w:]+)`\n(?P<text>.*?)(?=^## |\Z)", re.M | re.S)
-CODE = re.compile(r"^\[Code\]\((?:\.\./)+(crates/[\w/.]+)\)", re.M)
+CODE = re.compile(r"^\[Code\]\((?:\.\./)+(crates/[\w/.]+)#L\d+\)", re.M)
 EXAMPLE = re.compile(r"^Example:\n\n```rust\n(.*?)^```$", re.M | re.S)
 CONTRACT = re.compile(r"^Contract:\n\n```text\n(.*?)^```$", re.M | re.S)
 # A word of a page, and its definition on the page that the link leads to.

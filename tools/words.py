@@ -16,8 +16,8 @@ WRITTEN = "<!--written by tools/documents-->\n"
 NAMED = re.compile(r"`([\w'-]+)`")
 ABOUT_STD = "Words of std, of the language and of the traits of the library, as contracts and the clauses of examples have them."
 ABOUT = (
-    "The definitions that more than one page of the reference needs, by their crates. A definition that one page alone needs is on that page. `tools/find"
-    f" NAME` tells each definition in full. A word in brackets is the module of `{FACADE}` from which a program imports the definition. The"
+    "These pages have the definitions that more than one page of the reference needs, a page for each crate. A definition that one page alone needs is on"
+    f" that page. `tools/find NAME` prints each definition in full. On the pages a word in brackets is the module of `{FACADE}` from which a program imports the definition. The"
     f" [glossary]({relative(INDEX, GLOSSARY)}) says how definitions are written."
 )
 

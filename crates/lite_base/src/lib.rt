@@ -1,5 +1,5 @@
-//! What the other crates build on: the traits of futures and streams, ranks, the futures, and the one loop
-//! without a count.
+//! What the other crates build on: the traits of futures and streams, ranks, the futures, and `drive`, the loop
+//! of all polls.
 #![tactic(auto)]
 
 mod calm;
