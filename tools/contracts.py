@@ -148,7 +148,7 @@ IF_OK = re.compile(r"WhenLeft .* \(λ f r\. IfOk r \(λ \w+\. (?P<fact>.*)\)\)")
 CONCLUSIONS = {
     ("ListsAs", 3): lambda run, s, xs: f"the items of {named(s)} are {shown(xs)}",
     ("ValueIs", 3): lambda run, f, v: f"the value of {named(f)} is {shown(v)}",
-    ("OkListsAs", 4): lambda run, s, f, xs: f"{shown(f)} of what the `Ok` items of {named(s)} hold is {shown(xs)}, up to an error",
+    ("OkListsAs", 4): lambda run, s, f, xs: f"{shown(f)} of the value in each `Ok` item of {named(s)} gives {shown(xs)}, in order and up to an error",
     ("Fronts", 3): lambda run, s, xs: f"{named(s)} yields nothing but {shown(xs)}, in order and from its beginning, also after an end",
     **{it: PREMISES[it] for it in (("AtOnce", 3), ("GoesOn", 3), ("NeverReady", 2))},
 }

@@ -158,8 +158,8 @@ where
 /// Returns a future that resolves to the value of the future that is ready first. If both are, `rng` chooses.
 ///
 /// Each poll draws one word of `rng`. If its lowest bit is 1, it polls `future1` first, otherwise `future2`.
-/// It polls the other future only if this returned `Pending`. Unlike futures-lite, the caller supplies the
-/// generator.
+/// It polls the other future only if this returned `Pending`. That bit alone decides; nothing more is
+/// promised of fairness. Unlike futures-lite, the caller supplies the generator.
 ///
 /// The contract says which value comes, whatever the generator. If one of the two is never ready, it is the
 /// other's. If the values of both are known, it is one of these.
@@ -500,8 +500,9 @@ pub trait FutureExt: Future {
     /// chooses.
     ///
     /// Each poll draws one word of `rng`. If its lowest bit is 1, it polls `self` first, otherwise `other`.
-    /// It polls the other future only if this returned `Pending`. Unlike futures-lite, the caller supplies
-    /// the generator. The contract says which value it resolves to, as that of the function [`race`] does.
+    /// It polls the other future only if this returned `Pending`. That bit alone decides; nothing more is
+    /// promised of fairness. Unlike futures-lite, the caller supplies the generator. The contract says which
+    /// value it resolves to, as that of the function [`race`] does.
     ///
     /// # Examples
     ///

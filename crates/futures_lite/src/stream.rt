@@ -490,7 +490,8 @@ where
 /// `stream2`, unless that has ended. So a `stream1` that always has an item keeps `stream2` from being
 /// polled. Once both streams have ended, the result ends forever; until then a poll without an item returns
 /// `Pending`. Unlike futures-lite, it does not end before both have ended. No item is lost or repeated, and
-/// the items of each stream keep their order. Size hint: `(0, None)`.
+/// the items of each stream keep their order. The result is `Counted` if both streams are. Size hint: `(0,
+/// None)`.
 ///
 /// # Examples
 ///
@@ -958,7 +959,7 @@ pub trait StreamExt: Stream {
         make::take_while(self, predicate)
     }
 
-    /// Returns a stream that calls `f` with each item and yields the values, and ends when `f` returns
+    /// Returns a stream that calls `f` with each item and yields what is in `Some`, and ends when `f` returns
     /// `None`.
     ///
     /// The end is not forever: the next poll polls this stream again. Size hint: `(0, None)`.
@@ -1170,7 +1171,8 @@ pub trait StreamExt: Stream {
     /// polls `other`, unless that has ended. So a stream that always has an item keeps `other` from being
     /// polled. Once both streams have ended, the result ends forever; until then a poll without an item
     /// returns `Pending`. Unlike futures-lite, it does not end before both have ended. No item is lost or
-    /// repeated, and the items of each stream keep their order. Size hint: `(0, None)`.
+    /// repeated, and the items of each stream keep their order. The result is `Counted` if both streams are.
+    /// Size hint: `(0, None)`.
     ///
     /// # Examples
     ///
@@ -1463,8 +1465,8 @@ pub trait StreamExt: Stream {
         make::copied(self)
     }
 
-    /// Returns a stream that calls `f` with a state and each item and yields the values, and ends when `f`
-    /// returns `None`.
+    /// Returns a stream that calls `f` with a state and each item and yields what is in `Some`, and ends when
+    /// `f` returns `None`.
     ///
     /// The state starts as `initial_state`; each call gets it as the call before left it. The end is not for
     /// ever: the next poll polls this stream again. Size hint: `(0, None)`.
