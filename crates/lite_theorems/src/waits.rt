@@ -149,11 +149,11 @@ pub(crate) fn read_until_by<R: Wait, T: AsyncBufRead + CountedRead>(
 /// an end of file were appended to `buf`. It returns how many were appended.
 ///
 /// So a peer cannot fill the memory with one endless line. A piece is whole if the last of the appended bytes
-/// is `byte`. If it is not and `limit` bytes were appended, the piece was cut, and nothing behind them was
-/// consumed. If fewer were, the reader is at end of file. With a `limit` of 0 the call returns `Ok(Ok(0))`
-/// and does not poll the reader. Otherwise the call is as [`wait_read_until`]. It may wait forever;
-/// `framed::LineDelimited` limits lines without blocking. The outer result is always `Ok`. The caller
-/// guarantees that `ranks.counts` holds for the reader.
+/// is `byte`. If it is not and `limit` bytes were appended, the piece was cut behind them, and the rest was
+/// not consumed; only at end of file is there no rest. If fewer were appended, the reader is at end of file.
+/// With a `limit` of 0 the call returns `Ok(Ok(0))` and does not poll the reader. Otherwise the call is as
+/// [`wait_read_until`]. It may wait forever; `framed::LineDelimited` limits lines without blocking. The outer
+/// result is always `Ok`. The caller guarantees that `ranks.counts` holds for the reader.
 ///
 /// # Examples
 ///
