@@ -434,14 +434,16 @@ def paragraphs(text):
 
 
 def parts_with(asked):
-    """Returns the parts of pages in whose prose a word begins with what was asked, each by its place and a sentence. Those whose heading has it come
-    first, and the chapters last."""
+    """Returns the parts of pages in whose prose a word begins with what was asked, each by its place and its text from that sentence on. Those whose
+    heading has it come first, and the chapters last."""
     word, found = re.compile(rf"(?<!\w){re.escape(asked)}", re.IGNORECASE), {}
     for path, text in pages().items():
         for number, heading, paragraph in paragraphs(text):
             if word.search(re.sub(r"`[^`]*`", "", paragraph)):
-                sentence = next((it for it in re.split(r"(?<=[.:;]) ", paragraph) if word.search(it)), paragraph)
-                found.setdefault((path, heading), f"{path}:{number}: {heading}{'' if paragraph == heading else f': {sentence}'}")
+                sentences = re.split(r"(?<=[.;]) ", paragraph)
+                at = next((it for it, sentence in enumerate(sentences) if word.search(sentence)), 0)
+                told = [f"{path}:{number}", heading] + [" ".join(sentences[at:])] * (paragraph != heading)
+                found.setdefault((path, heading), ": ".join(told))
     return [found[it] for it in sorted(found, key=lambda it: (not word.search(it[1]), it[0].startswith("docs/guide")))]
 
 
