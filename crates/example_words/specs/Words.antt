@@ -18,13 +18,13 @@ text_pieces (b ∷ bs) = if is_ascii_whitespace b then [] ∷ text_pieces bs els
 unfoldable pub words : List ℕ → List (List ℕ)
 words text = filter (λ piece. nat_lt 0 (length piece)) (text_pieces text)
 
--- These bytes are a word: there is one at least, and none is white space.
-abbrev pub IsWord : List ℕ → Type 0
-IsWord bytes = (0 < length bytes) × (position is_ascii_whitespace bytes ≡ None)
-
 -- How often a word is in a text.
 unfoldable pub occurrences : List ℕ → List ℕ → ℕ
 occurrences text word = count_by (bytes_eq word) (words text)
+
+-- These bytes are a word: there is one at least, and none is white space.
+abbrev pub IsWord : List ℕ → Type 0
+IsWord bytes = (0 < length bytes) × (position is_ascii_whitespace bytes ≡ None)
 
 -- The text is whole lines: it is empty, or its last byte is a newline.
 abbrev pub WholeLines : List ℕ → Type 0
