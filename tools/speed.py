@@ -1,15 +1,35 @@
 """The table and the plot of docs/SPEED.md, from throughput/measured.txt.
 
 A line there is a case, its size N, the instructions of a run at N and at 10 N, those that making its bytes takes for each item, and the
-instructions of an item in the two builds of the original, or `-`. `tools/throughput FOLDER --measure` writes all but the last two.
+instructions of an item in the two builds of the original, without those of its bytes. `tools/throughput FOLDER --measure` writes all but the
+last two, and `tools/throughput FOLDER --original` those. The line that begins with BUILD says of what build they are.
 """
 import math
+import textwrap
 
 from repository import TOP, read_text
 
 PAGE, FILE, PLOT = "docs/SPEED.md", f"{TOP}/throughput/measured.txt", "docs/pictures/speed.svg"
 HEAD = "| Case | here | original | original, LTO |\n|---|---|---|---|\n"
 BAR, STEP, LABEL, WIDTH = 6, 18, 170, 420
+BUILD = "# The original's columns are of one build: "
+# For each case that makes bytes first: the case that makes as many, and how many of its items an item needs.
+NOISE = (
+    "cursor_read buf_reader chain_read bytes blocking_read waits_read fill take_fill chain_fill take_read asserted_read read_to_end copy journal half"
+).split()
+TEXT = (
+    "lines split read_until read_line read_line_growing read_exact served_lines wait_read wait_read_exact wait_read_until wait_read_until_limited"
+).split()
+MADE = {
+    **dict.fromkeys(NOISE, ("made_noise", 1)),
+    **dict.fromkeys(TEXT, ("made_text", 1)),
+    **dict.fromkeys(("lines_8", "wide_lines_8"), ("made_lines_8", 1)),
+    **dict.fromkeys(("lines_2000", "wide_lines_2000"), ("made_lines_2000", 1)),
+    **dict.fromkeys(("read_to_string", "read_wide_to_string"), ("made_lines_16", 1)),
+    **dict.fromkeys(("values", "values_by_hand", "wait_frame"), ("made_values", 1)),
+    **dict.fromkeys(("copied", "cloned"), ("made_numbers", 1)),
+    **dict.fromkeys(("cursor_overwrite", "vectored_read"), ("made_noise", 16)),
+}
 # The plot has ratios from the least to the most; what is beyond is drawn at its edge.
 LEAST, MOST = 0.25, 4.0
 
@@ -18,8 +38,9 @@ class Row:
     """What was measured of a case."""
 
     def __init__(self, line):
-        self.case, size, first, last, made, self.original, self.lto = line.split()
-        self.size, self.first, self.last, self.made = int(size), int(first), int(last), float(made)
+        self.case, size, first, last, *others = line.split()
+        self.size, self.first, self.last = int(size), int(first), int(last)
+        self.made, self.original, self.lto = map(float, others)
 
     @property
     def here(self):
@@ -27,7 +48,7 @@ class Row:
         return (self.last - self.first) / (9 * self.size) - self.made
 
     def ratio(self, other):
-        return self.here / float(other) if other != "-" else None
+        return self.here / other
 
 
 def rows():
@@ -39,9 +60,15 @@ def shown(number):
     return f"{number:,.0f}" if number >= 100 else f"{number:.1f}" if number >= 4 else f"{number:.2f}" if number >= 1 else f"{number:.3f}"
 
 
+def build():
+    """Returns of what build the original's columns are."""
+    return next(it for it in read_text(FILE).splitlines() if it.startswith(BUILD)).removeprefix("# ")
+
+
 def table():
-    """Returns the table of the page."""
-    return "\n\n" + HEAD + "\n".join(f"| `{it.case}` | {shown(it.here)} | {it.original} | {it.lto} |" for it in rows()) + "\n\n"
+    """Returns the table of the page, and of what build the original is."""
+    lines = [f"| `{it.case}` | " + " | ".join(shown(number) for number in (it.here, it.original, it.lto)) + " |" for it in rows()]
+    return "\n\n" + HEAD + "\n".join(lines) + "\n\n" + textwrap.fill(build(), 120) + "\n\n"
 
 
 def across(ratio):
@@ -52,7 +79,7 @@ def across(ratio):
 
 def plot():
     """Returns a plot of the instructions here, by those of each build of the original: a bar to the left of 1 is fewer."""
-    measured = [it for it in rows() if it.original != "-"]
+    measured = rows()
     height = STEP * len(measured) + 60
     shapes = [
         f'<svg xmlns="http://www.w3.org/2000/svg" width="{LABEL + WIDTH + 60}" height="{height}" viewBox="0 0 {LABEL + WIDTH + 60} {height}">',

@@ -2,7 +2,8 @@
 
 use crate::fault::Fault;
 use futures_lite::io::{
-    AsyncBufRead, AsyncRead, AsyncReadExt, AsyncWrite, BlockOn, BufReader, Cursor,
+    AssertAsync, AsyncBufRead, AsyncRead, AsyncReadExt, AsyncWrite, BlockOn, BufReader,
+    Cursor, IoSliceMut,
 };
 use futures_lite::{Context, Poll, Stream, future};
 use std::alloc::{AllocError, AllocGlobal, Global};
@@ -204,4 +205,32 @@ pub(crate) fn cursor_overwrite(alloc: Global, cx: &mut Context<'_>, n: u64) -> R
 pub(crate) fn cursor_extend(alloc: Global, cx: &mut Context<'_>, n: u64) -> Result<u64, Fault> {
     let mut cursor = Cursor::new(Vec::with_capacity(alloc, blocks_len(n)? as usize)?);
     Ok(write_blocks(&mut cursor, cx, n))
+}
+
+/// Reads of 16 bytes into two buffers.
+#[inline(never)]
+pub(crate) fn vectored_read(alloc: Global, cx: &mut Context<'_>, n: u64) -> Result<u64, Fault> {
+    let bytes = noise(alloc, blocks_len(n)?)?;
+    let mut reader = Cursor::new(bytes.as_slice());
+    let (mut first, mut second) = ([0u8; 8], [0u8; 8]);
+    let mut sum = 0u64;
+    for _ in 0..n {
+        let mut bufs = [IoSliceMut::new(&mut first), IoSliceMut::new(&mut second)];
+        let Poll::Ready(Ok(count)) = reader.poll_read_vectored(cx, &mut bufs) else {
+            break;
+        };
+        sum = sum.wrapping_add(count as u64).wrapping_add(second[7] as u64);
+    }
+    Ok(sum)
+}
+
+pub(crate) fn take_read(alloc: Global, cx: &mut Context<'_>, n: u64) -> Result<u64, Fault> {
+    let bytes = noise(alloc, n)?;
+    Ok(read_each(&mut Cursor::new(bytes.as_slice()).take(n), cx))
+}
+
+/// A reader of std, whose reads never wait.
+pub(crate) fn asserted_read(alloc: Global, cx: &mut Context<'_>, n: u64) -> Result<u64, Fault> {
+    let bytes = noise(alloc, n)?;
+    Ok(read_each(&mut AssertAsync::new(bytes.as_slice()), cx))
 }

@@ -10,7 +10,7 @@ use std::random::RandomSource;
 use std::sync::Wait;
 
 /// Cases of streams, their sizes, and the items that they fold.
-const FOLDS: [(&str, u64, &[u64]); 29] = [
+const FOLDS: [(&str, u64, &[u64]); 42] = [
     ("iter", 4, &[0, 1, 2, 3]),
     ("map", 4, &[0, 3, 6, 9]),
     ("filter", 6, &[1, 2, 3, 5]),
@@ -23,16 +23,29 @@ const FOLDS: [(&str, u64, &[u64]); 29] = [
     ("scan", 4, &[0, 1, 3, 6]),
     ("enumerate", 4, &[0, 2, 4, 6]),
     ("chain", 5, &[0, 1, 2, 3, 4]),
+    ("chain_of_eight", 16, &[0, 1, 0, 1, 0, 1, 0, 1, 0, 1, 0, 1, 0, 1, 0, 1]),
     ("flat_map", 8, &[0, 1, 2, 3, 1, 2, 3, 4]),
     ("then", 4, &[1, 0, 3, 2]),
     ("unfold", 4, &[1, 0, 3, 2]),
+    ("skip_while", 6, &[3, 4, 5]),
+    ("fuse", 4, &[0, 1, 2, 3]),
+    ("flatten", 8, &[0, 1, 2, 3, 1, 2, 3, 4]),
+    ("copied", 4, &[0, 1, 2, 3]),
+    ("cloned", 4, &[0, 1, 2, 3]),
+    ("repeat_with", 4, &[3, 6, 9, 12]),
+    ("poll_fn", 4, &[1, 2, 3, 4]),
     ("nest", 10, &[4, 10, 16, 22, 28]),
     ("nest_of_eight", 8, &[15, 11, 23, 19]),
     ("joined", 12, &[6, 10, 14, 18, 22]),
     ("next", 4, &[5, 4, 7, 6]),
     ("blocking_next", 4, &[5, 4, 7, 6]),
     ("waits_next", 4, &[5, 4, 7, 6]),
+    ("try_next", 4, &[5, 4, 7, 6]),
     ("fold", 4, &[0, 1, 2, 3]),
+    ("for_each", 4, &[0, 1, 2, 3]),
+    ("try_for_each", 4, &[0, 1, 2, 3]),
+    ("try_fold", 4, &[0, 1, 2, 3]),
+    ("try_collect", 4, &[0, 1, 2, 3]),
     ("collect", 4, &[0, 1, 2, 3]),
     ("zip_streams", 4, &[5, 7, 9, 11]),
     ("or_streams", 4, &[0, 1, 2, 3]),
@@ -45,8 +58,9 @@ const FOLDS: [(&str, u64, &[u64]); 29] = [
 
 /// Cases, their sizes, and their numbers: of texts all bytes that are read, of writers all that are written, of futures
 /// all values.
-const NUMBERS: [(&str, u64, u64); 39] = [
+const NUMBERS: [(&str, u64, u64); 58] = [
     ("made_noise", 600, 600),
+    ("made_numbers", 6, 6),
     ("made_text", 6, 96),
     ("made_lines_8", 6, 48),
     ("made_lines_16", 640, 640),
@@ -83,13 +97,31 @@ const NUMBERS: [(&str, u64, u64); 39] = [
     ("held_yield", 3, 3),
     ("block_on_ready", 3, 4),
     ("held_ready", 3, 4),
+    ("try_zip", 3, 3),
+    ("poll_once", 3, 3),
+    ("wait_read", 6, 96),
+    ("wait_read_exact", 6, 288),
+    ("wait_read_until", 6, 96),
+    ("wait_read_until_limited", 6, 96),
+    ("wait_write_all", 6, 96),
+    ("wait_frame", 6, 96),
+    ("wait_send", 6, 120),
+    ("vectored_read", 6, 756),
+    ("inspect", 4, 12),
+    ("last", 4, 6),
+    ("nth", 4, 3),
+    ("any", 6, 0),
+    ("position", 6, 6),
+    ("find_map", 6, 6),
+    ("partition", 6, 15),
+    ("unzip", 4, 16),
     ("count", 6, 4),
     ("find", 6, 6),
     ("all", 6, 1),
 ];
 
 /// Cases of readers, which read each byte of a noise once.
-const READERS: [&str; 10] = [
+const READERS: [&str; 12] = [
     "bytes",
     "cursor_read",
     "buf_reader",
@@ -98,6 +130,8 @@ const READERS: [&str; 10] = [
     "take_fill",
     "chain_fill",
     "half",
+    "take_read",
+    "asserted_read",
     "blocking_read",
     "waits_read",
 ];

@@ -17,10 +17,10 @@ use std::sync::Wait;
 pub(crate) const VALUE: &[u8] = b"\0\0\0\x100123456789abcdef";
 
 /// How many bytes a value may have.
-const MAX: u32 = 64;
+pub(crate) const MAX: u32 = 64;
 
 /// How many bytes a line may have.
-const LINE: usize = 1 << 10;
+pub(crate) const LINE: usize = 1 << 10;
 
 /// The bytes of all frames, without their numbers.
 #[inline(never)]

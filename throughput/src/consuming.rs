@@ -109,11 +109,162 @@ pub(crate) fn all(cx: &mut Context<'_>, n: u64) -> u64 {
 pub(crate) fn collect(alloc: Global, cx: &mut Context<'_>, n: u64) -> Result<u64, Fault> {
     let mut vector = stream::iter(0..n).collect::<Vec<u64>>(alloc);
     match vector.poll(cx) {
-        Poll::Ready(Ok(numbers)) => Ok(
-            numbers
-                .iter()
-                .fold(0, |sum: u64, x: &u64| with_item(sum, *x)),
-        ),
+        Poll::Ready(Ok(numbers)) => Ok(sum_of(&numbers)),
+        Poll::Ready(Err(_refused)) => Err(Fault::Memory),
+        Poll::Pending => Ok(0),
+    }
+}
+
+/// The last of the sums up to each number, so that no compiler leaves numbers out.
+#[inline(never)]
+pub(crate) fn last(cx: &mut Context<'_>, n: u64) -> u64 {
+    let sums = stream::iter(0..n).scan(0u64, |sum: &mut u64, x: u64| {
+        *sum = with_item(*sum, x);
+        Some(*sum)
+    });
+    match sums.last().poll(cx) {
+        Poll::Ready(Some(x)) => x,
+        Poll::Ready(None) | Poll::Pending => 0,
+    }
+}
+
+/// The last number.
+#[inline(never)]
+pub(crate) fn nth(cx: &mut Context<'_>, n: u64) -> u64 {
+    match stream::iter(0..n).nth((n as usize).saturating_sub(1)).poll(cx) {
+        Poll::Ready(Some(x)) => x,
+        Poll::Ready(None) | Poll::Pending => 0,
+    }
+}
+
+#[inline(never)]
+pub(crate) fn any(cx: &mut Context<'_>, n: u64) -> u64 {
+    match stream::iter(0..n)
+        .any(|x: u64| x ^ 0x5555 == u64::MAX)
+        .poll(cx)
+    {
+        Poll::Ready(any) => any as u64,
+        Poll::Pending => 1,
+    }
+}
+
+/// As `find`, for its place.
+#[inline(never)]
+pub(crate) fn position(cx: &mut Context<'_>, n: u64) -> u64 {
+    match stream::iter(0..n)
+        .position(|x: u64| x.wrapping_mul(x) ^ (x >> 3) == u64::MAX)
+        .poll(cx)
+    {
+        Poll::Ready(Some(i)) => i as u64,
+        Poll::Ready(None) => n,
+        Poll::Pending => 0,
+    }
+}
+
+/// As `find`, for what is made of it.
+#[inline(never)]
+pub(crate) fn find_map(cx: &mut Context<'_>, n: u64) -> u64 {
+    match stream::iter(0..n)
+        .find_map(|x: u64| if x.wrapping_mul(x) ^ (x >> 3) == u64::MAX {
+            Some(x)
+        } else {
+            None
+        })
+        .poll(cx)
+    {
+        Poll::Ready(Some(x)) => x,
+        Poll::Ready(None) => n,
+        Poll::Pending => 0,
+    }
+}
+
+#[inline(never)]
+pub(crate) fn for_each(cx: &mut Context<'_>, n: u64) -> u64 {
+    let mut sum = 0u64;
+    let done = stream::iter(0..n)
+        .for_each(|x: u64| sum = with_item(sum, x))
+        .poll(cx);
+    match done {
+        Poll::Ready(()) => sum,
+        Poll::Pending => 0,
+    }
+}
+
+#[inline(never)]
+pub(crate) fn try_for_each(cx: &mut Context<'_>, n: u64) -> u64 {
+    let mut sum = 0u64;
+    let done = stream::iter(0..n)
+        .try_for_each(|x: u64| {
+            sum = with_item(sum, x);
+            Ok::<(), Fault>(())
+        })
+        .poll(cx);
+    match done {
+        Poll::Ready(Ok(())) => sum,
+        Poll::Ready(Err(_)) | Poll::Pending => 0,
+    }
+}
+
+#[inline(never)]
+pub(crate) fn try_fold(cx: &mut Context<'_>, n: u64) -> u64 {
+    let mut numbers = stream::iter(0..n).map(|x: u64| Ok::<u64, Fault>(x));
+    match numbers
+        .try_fold(0u64, |sum: u64, x: u64| Ok::<u64, Fault>(with_item(sum, x)))
+        .poll(cx)
+    {
+        Poll::Ready(Ok(sum)) => sum,
+        Poll::Ready(Err(_)) | Poll::Pending => 0,
+    }
+}
+
+/// As `next`, of results.
+#[inline(never)]
+pub(crate) fn try_next(cx: &mut Context<'_>, n: u64, polls: u64) -> u64 {
+    let mut numbers = stream::iter(0..n).map(|x: u64| Ok::<u64, Fault>(x ^ 5));
+    let mut sum = 0u64;
+    for _ in 0..polls {
+        let Poll::Ready(Ok(Some(x))) = numbers.try_next().poll(cx) else {
+            break;
+        };
+        sum = with_item(sum, x);
+    }
+    sum
+}
+
+fn sum_of(numbers: &[u64]) -> u64 {
+    numbers
+        .iter()
+        .fold(0, |sum: u64, x: &u64| with_item(sum, *x))
+}
+
+/// As `collect`, of results.
+#[inline(never)]
+pub(crate) fn try_collect(alloc: Global, cx: &mut Context<'_>, n: u64) -> Result<u64, Fault> {
+    let results = stream::iter(0..n).map(|x: u64| Ok::<u64, Fault>(x));
+    match results.try_collect::<u64, Fault, Vec<u64>>(alloc).poll(cx) {
+        Poll::Ready(Ok(numbers)) => Ok(sum_of(&numbers)),
+        Poll::Ready(Err(_refused)) => Err(Fault::Memory),
+        Poll::Pending => Ok(0),
+    }
+}
+
+/// The even numbers and the odd ones.
+#[inline(never)]
+pub(crate) fn partition(alloc: Global, cx: &mut Context<'_>, n: u64) -> Result<u64, Fault> {
+    let mut parts = stream::iter(0..n).partition::<Vec<u64>, _>(alloc, |x: &u64| *x & 1 == 0);
+    match parts.poll(cx) {
+        Poll::Ready(Ok((even, odd))) => Ok(sum_of(&even) ^ sum_of(&odd)),
+        Poll::Ready(Err(_refused)) => Err(Fault::Memory),
+        Poll::Pending => Ok(0),
+    }
+}
+
+/// The numbers, and what is made of them.
+#[inline(never)]
+pub(crate) fn unzip(alloc: Global, cx: &mut Context<'_>, n: u64) -> Result<u64, Fault> {
+    let pairs = stream::iter(0..n).map(|x: u64| (x, x ^ 5));
+    match pairs.unzip::<u64, u64, Vec<u64>, Vec<u64>>(alloc).poll(cx) {
+        Poll::Ready(Ok((first, second))) => Ok(sum_of(&first) ^ sum_of(&second)),
         Poll::Ready(Err(_refused)) => Err(Fault::Memory),
         Poll::Pending => Ok(0),
     }

@@ -16,6 +16,7 @@ mod sizes;
 mod streams;
 mod texts;
 mod values;
+mod waits;
 
 use crate::case::computed;
 use crate::check::check;

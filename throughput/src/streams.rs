@@ -1,6 +1,6 @@
 //! Sources and adapters. Each case goes over the numbers below `n`, or as many answers, unless it says otherwise.
 
-use crate::polled::{fold_items, fold_numbered};
+use crate::polled::{fold_found, fold_items, fold_numbered};
 use futures_lite::stream::script;
 use futures_lite::{Context, Poll, StreamExt, future, stream};
 use std::alloc::{AllocError, Global};
@@ -100,6 +100,21 @@ pub(crate) fn chain(cx: &mut Context<'_>, n: u64, polls: u64) -> u64 {
     )
 }
 
+/// Eight streams, one behind another, by seven chains of which each has the one before inside.
+#[inline(never)]
+pub(crate) fn chain_of_eight(cx: &mut Context<'_>, n: u64, polls: u64) -> u64 {
+    let part = n / 8;
+    let mut all = stream::iter(0..part)
+        .chain(stream::iter(0..part))
+        .chain(stream::iter(0..part))
+        .chain(stream::iter(0..part))
+        .chain(stream::iter(0..part))
+        .chain(stream::iter(0..part))
+        .chain(stream::iter(0..part))
+        .chain(stream::iter(0..part));
+    fold_items(&mut all, cx, polls)
+}
+
 #[inline(never)]
 pub(crate) fn enumerate(cx: &mut Context<'_>, n: u64, polls: u64) -> u64 {
     fold_numbered(&mut stream::iter(0..n).enumerate(), cx, polls)
@@ -179,4 +194,95 @@ fn thousand(alloc: Global, seed: u64) -> Result<Vec<Poll<Option<u64>>>, AllocErr
         })?;
     }
     Ok(answers)
+}
+
+#[inline(never)]
+pub(crate) fn skip_while(cx: &mut Context<'_>, n: u64, polls: u64) -> u64 {
+    fold_items(
+        &mut stream::iter(0..n).skip_while(|x: &u64| *x < 3),
+        cx,
+        polls,
+    )
+}
+
+#[inline(never)]
+pub(crate) fn inspect(cx: &mut Context<'_>, n: u64, polls: u64) -> u64 {
+    let mut seen = 0u64;
+    let sum = fold_items(
+        &mut stream::iter(0..n).inspect(|x: &u64| seen = seen.wrapping_add(*x)),
+        cx,
+        polls,
+    );
+    sum.wrapping_add(seen)
+}
+
+#[inline(never)]
+pub(crate) fn fuse(cx: &mut Context<'_>, n: u64, polls: u64) -> u64 {
+    fold_items(&mut stream::iter(0..n).fuse(), cx, polls)
+}
+
+/// Streams of 4 items each.
+#[inline(never)]
+pub(crate) fn flatten(cx: &mut Context<'_>, n: u64, polls: u64) -> u64 {
+    let mut flat = stream::iter(0..n / 4)
+        .map(|x: u64| stream::iter(x..x.wrapping_add(4)))
+        .flatten();
+    fold_items(&mut flat, cx, polls)
+}
+
+/// The numbers as a vector alone, which the next cases make first.
+#[inline(never)]
+pub(crate) fn made_numbers(alloc: Global, n: u64) -> Result<u64, AllocError> {
+    Ok(numbers(alloc, n)?.len() as u64)
+}
+
+fn numbers(alloc: Global, n: u64) -> Result<Vec<u64>, AllocError> {
+    (0..n).collect(alloc)
+}
+
+/// References to the items of a vector, which is made first.
+#[inline(never)]
+pub(crate) fn copied(
+    alloc: Global,
+    cx: &mut Context<'_>,
+    n: u64,
+    polls: u64,
+) -> Result<u64, AllocError> {
+    let numbers = numbers(alloc, n)?;
+    Ok(fold_items(&mut stream::iter(numbers.iter()).copied(), cx, polls))
+}
+
+/// As `copied`. A clone may be refused memory here.
+#[inline(never)]
+pub(crate) fn cloned(
+    alloc: Global,
+    cx: &mut Context<'_>,
+    n: u64,
+    polls: u64,
+) -> Result<u64, AllocError> {
+    let numbers = numbers(alloc, n)?;
+    Ok(fold_found(&mut stream::iter(numbers.iter()).cloned(), cx, polls))
+}
+
+#[inline(never)]
+pub(crate) fn repeat_with(cx: &mut Context<'_>, polls: u64) -> u64 {
+    let mut next = 0u64;
+    let mut numbers = stream::repeat_with(|| {
+        next = next.wrapping_add(3);
+        next
+    });
+    fold_items(&mut numbers, cx, polls)
+}
+
+#[inline(never)]
+pub(crate) fn poll_fn(cx: &mut Context<'_>, n: u64, polls: u64) -> u64 {
+    let mut next = 0u64;
+    let mut numbers = stream::poll_fn(|_cx: &mut Context<'_>| {
+        if next == n {
+            return Poll::Ready(None);
+        }
+        next = next.wrapping_add(1);
+        Poll::Ready(Some(next))
+    });
+    fold_items(&mut numbers, cx, polls)
 }

@@ -116,3 +116,29 @@ where
     }
     Ok(sum)
 }
+
+#[inline(never)]
+pub(crate) fn try_zip(cx: &mut Context<'_>, n: u64) -> u64 {
+    let mut sum = 0u64;
+    for i in 0..n {
+        let mut both = future::try_zip(
+            future::ready(Ok::<u64, u64>(i)),
+            future::ready(Ok::<u64, u64>(sum)),
+        );
+        if let Poll::Ready(Ok((a, b))) = both.poll(cx) {
+            sum = sum.wrapping_add(a ^ (b >> 7));
+        }
+    }
+    sum
+}
+
+#[inline(never)]
+pub(crate) fn poll_once(cx: &mut Context<'_>, n: u64) -> u64 {
+    let mut sum = 0u64;
+    for i in 0..n {
+        if let Poll::Ready(Some(a)) = future::poll_once(future::ready(i ^ (sum >> 7))).poll(cx) {
+            sum = sum.wrapping_add(a);
+        }
+    }
+    sum
+}

@@ -1,7 +1,7 @@
 //! Readers and writers. A case of a reader reads `n` bytes, one of a writer makes `n` writes.
 
 use futures_lite::io::{
-    AssertAsync, AsyncBufRead, AsyncRead, AsyncReadExt, AsyncSeek, AsyncWrite, BlockOn, BufReader, Cursor, SeekFrom,
+    AssertAsync, AsyncBufRead, AsyncRead, AsyncReadExt, AsyncWrite, BlockOn, BufReader, Cursor,
 };
 use futures_lite::{future, Stream};
 use std::io::{IoSliceMut, Read};
@@ -181,21 +181,6 @@ pub fn vectored_read(cx: &mut Context<'_>, n: u64) -> u64 {
             break;
         };
         sum = sum.wrapping_add(count as u64).wrapping_add(second[7] as u64);
-    }
-    sum
-}
-
-/// Seeks of a buffered reader, each a byte further.
-#[inline(never)]
-pub fn seek(cx: &mut Context<'_>, n: u64) -> u64 {
-    let bytes = noise(n);
-    let mut reader = buffered(&bytes);
-    let mut sum = 0u64;
-    for i in 0..n {
-        let Poll::Ready(Ok(place)) = Pin::new(&mut reader).poll_seek(cx, SeekFrom::Start(i)) else {
-            break;
-        };
-        sum = sum.wrapping_add(place);
     }
     sum
 }

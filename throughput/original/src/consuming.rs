@@ -90,9 +90,14 @@ pub fn collect(cx: &mut Context<'_>, n: u64) -> u64 {
     }
 }
 
+/// The last of the sums up to each number, so that no compiler leaves numbers out.
 #[inline(never)]
 pub fn last(cx: &mut Context<'_>, n: u64) -> u64 {
-    match pin!(stream::iter(0..n).map(|x: u64| x ^ 5).last()).poll(cx) {
+    let sums = stream::iter(0..n).scan(0u64, |sum: &mut u64, x: u64| {
+        *sum = with_item(*sum, x);
+        Some(*sum)
+    });
+    match pin!(sums.last()).poll(cx) {
         Poll::Ready(Some(x)) => x,
         Poll::Ready(None) | Poll::Pending => 0,
     }

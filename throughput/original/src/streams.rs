@@ -84,6 +84,21 @@ pub fn chain(cx: &mut Context<'_>, n: u64, polls: u64) -> u64 {
     fold_items(pin!(stream::iter(0..half).chain(stream::iter(half..n))), cx, polls)
 }
 
+/// Eight streams, one behind another, by seven chains of which each has the one before inside.
+#[inline(never)]
+pub fn chain_of_eight(cx: &mut Context<'_>, n: u64, polls: u64) -> u64 {
+    let part = n / 8;
+    let all = stream::iter(0..part)
+        .chain(stream::iter(0..part))
+        .chain(stream::iter(0..part))
+        .chain(stream::iter(0..part))
+        .chain(stream::iter(0..part))
+        .chain(stream::iter(0..part))
+        .chain(stream::iter(0..part))
+        .chain(stream::iter(0..part));
+    fold_items(pin!(all), cx, polls)
+}
+
 #[inline(never)]
 pub fn enumerate(cx: &mut Context<'_>, n: u64, polls: u64) -> u64 {
     fold_numbered(pin!(stream::iter(0..n).enumerate()), cx, polls)
