@@ -1,4 +1,4 @@
-"""What has to be in the places that docs/CONTRIBUTING.md names: tables of polls, contracts of marks, cases or tests, and rows of tables."""
+"""What has to be in the places that docs/CONTRIBUTING.md names: tables of polls, contracts of properties, cases or tests, and rows of tables."""
 import functools
 import glob
 import re
@@ -45,11 +45,11 @@ def polls(streams):
     yield from lacking(POLLS, adapters, there, NO_POLLS, "there is no table of the polls of")
 
 
-def properties_met(marks):
-    """Each public type of the library has a contract for each of its marks that compare two values or call one calm. What is behind a `&` has its own."""
+def properties_met(traits):
+    """Each public type of the library has a contract for each of its properties that compare two values or call one calm. What is behind a `&` has its own."""
     text = "".join(read_text(it) for it in glob.glob(f"{TOP}/{MARKS_MET}/src/*.rt"))
-    wanted = {(name.partition("<")[0], mark) for name, of_type in marks for mark in of_type if name[0].isalpha() and mark.startswith(("Steady", "Calm"))}
-    there = {(name, mark) for name, mark in wanted if re.search(rf"<{name}\b[^⟧]* as {mark}>", text)}
+    wanted = {(name.partition("<")[0], trait) for name, of_type in traits for trait in of_type if name[0].isalpha() and trait.startswith(("Steady", "Calm"))}
+    there = {(name, trait) for name, trait in wanted if re.search(rf"<{name}\b[^⟧]* as {trait}>", text)}
     yield from lacking(MARKS_MET, {" as ".join(it) for it in wanted}, {" as ".join(it) for it in there}, set(), "no function has a contract with")
 
 

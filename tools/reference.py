@@ -140,12 +140,12 @@ class Reference:
         self.sources = sources or Sources()
         self.every = {(it.crate, it.module, it.name): it for crate in libraries() for it in definitions(crate)}
         self.pictures = pictures.by_item()
-        # The marks of each type in the tables, by the trait that it has.
+        # The properties of each type in the tables, by the trait that it has.
         self.tables = {}
-        for head, *rows in tables_of_marks():
-            marks = [it.strip("`") for it in head]
-            told = [(re.match(r"\w*", row[0].strip("`"))[0], [it for it, cell in zip(marks[1:], row[1:]) if cell != "-"]) for row in rows]
-            self.tables[marks[0]] = told
+        for head, *rows in tables_of_properties():
+            traits = [it.strip("`") for it in head]
+            told = [(re.match(r"\w*", row[0].strip("`"))[0], [it for it, cell in zip(traits[1:], row[1:]) if cell != "-"]) for row in rows]
+            self.tables[traits[0]] = told
         # The type that has a trait, by the trait and its name: no two of one name have one trait.
         self.impls = {}
         # The heads of the impls of each trait for each type, with their bounds.
@@ -275,9 +275,9 @@ class Reference:
         """Yields what an item's entry, or the index of a module, would lack."""
         if not self.group(item, module):
             yield f"`{module}::{item.title}` fits no group of docs/api (GROUPS in tools/reference.py)"
-        for mark in self.marks_of(item) if is_type(item) else ():
-            if not self.heads.get((mark, self.based(item))):
-                yield f"the impl of {mark} for `{module}::{item.name}` is not found"
+        for trait in self.properties_of(item) if is_type(item) else ():
+            if not self.heads.get((trait, self.based(item))):
+                yield f"the impl of {trait} for `{module}::{item.name}` is not found"
         if any("(Lends" in it and not WRITES_BACK.search(it) for it in item.gives):
             yield f"docs/api does not say what is written through the result of `{module}::{item.title}`"
 
@@ -300,25 +300,25 @@ class Reference:
         return next((items[it] for it in titles if it in items), None) or self.sources.resolve(source, name) or self.sources.resolve(source, last.rpartition("::")[2])
 
     def with_links(self, comment, item, page):
-        """Returns an item's comment with links to the entries of the items that it links to, and of the marks that it names."""
+        """Returns an item's comment with links to the entries of the items that it links to, and of the properties that it names."""
 
         def entry(found):
             it = self.meant(found[1], found[2], item, page.module)
             return it and self.link_from(page, it, f"`{found[1]}`") or f"`{found[1]}`"
 
-        return re.sub(r"(?<!\[)`(\w+)`", lambda it: self.mark_link(it[1], page) if it[1] in self.law_marks() else it[0], LINKED.sub(entry, comment))
+        return re.sub(r"(?<!\[)`(\w+)`", lambda it: self.property_link(it[1], page) if it[1] in self.law_properties() else it[0], LINKED.sub(entry, comment))
 
     @functools.cache
-    def law_marks(self):
-        """Returns the marks that are laws, by their names."""
-        marks = {mark for rows in self.tables.values() for _, marks in rows for mark in marks}
-        return {name: it for name, it in self.sources.items_of("laws").items() if name in marks}
+    def law_properties(self):
+        """Returns the properties that are laws, by their names."""
+        traits = {trait for rows in self.tables.values() for _, traits in rows for trait in traits}
+        return {name: it for name, it in self.sources.items_of("laws").items() if name in traits}
 
-    def mark_link(self, mark, page, text=None):
-        """Returns a link from a page to the entry of a mark, with its name or the text."""
+    def property_link(self, trait, page, text=None):
+        """Returns a link from a page to the entry of a property, with its name or the text."""
         items = {name: it for module in MODULES for name, it in self.sources.items_of(module).items()}
-        shown = f"`{text or mark}`"
-        return mark in items and self.link_from(page, items[mark], shown) or shown
+        shown = f"`{text or trait}`"
+        return trait in items and self.link_from(page, items[trait], shown) or shown
 
     @functools.cache
     def makers(self, item, module):
@@ -400,31 +400,31 @@ class Reference:
                     types = [*inner, *(it for it in types if it is not there)]
         return list(found)
 
-    def marks_of(self, item):
-        """Returns the marks of a type, each for one of the traits that it has; an alias has those of its type."""
+    def properties_of(self, item):
+        """Returns the properties of a type, each for one of the traits that it has; an alias has those of its type."""
         item = self.based(item)
-        found = (mark for kind in properties.PROPERTIES for marks in self.tables[kind] if self.impls.get((kind, marks[0])) is item for mark in marks[1])
+        found = (trait for kind in properties.PROPERTIES for traits in self.tables[kind] if self.impls.get((kind, traits[0])) is item for trait in traits[1])
         return list(dict.fromkeys(found))
 
     def about_result(self, item, page):
-        """Yields a link from a call's entry to that of the type that it returns, which has the type's marks."""
+        """Yields a link from a call's entry to that of the type that it returns, which has the type's properties."""
         made = self.sources.made_by(item)
         if made and made.kind in ("struct", "type") and self.pages_with(made):
             yield f"Result: {self.link_from(page, made, f'`{made.name}`')}."
 
-    def about_marks(self, item, page):
-        """Yields which marks a type may have, each with the impl."""
-        marks, base = self.marks_of(item), self.based(item)
-        if marks and self.pages_with(base):
-            links = ", ".join(self.mark_link(it, page) for it in marks)
-            heads = [(mark, head) for mark in marks for head in self.heads.get((mark, base), ())]
+    def about_properties(self, item, page):
+        """Yields which properties a type may have, each with the impl."""
+        traits, base = self.properties_of(item), self.based(item)
+        if traits and self.pages_with(base):
+            links = ", ".join(self.property_link(it, page) for it in traits)
+            heads = [(trait, head) for trait in traits for head in self.heads.get((trait, base), ())]
             if base is not item:
                 yield wrapped(f"Properties: {links}, as {self.link_from(page, base, f'`{base.name}`')} has them.")
             elif "<" not in base.head:
                 yield wrapped(f"Properties: {links}.")
             else:
                 yield "Properties:"
-                yield "\n".join(f"- {self.mark_link(mark, page, head)}" for mark, head in heads)
+                yield "\n".join(f"- {self.property_link(trait, page, head)}" for trait, head in heads)
 
     def about_fields(self, item, page):
         """Yields the fields of a type that contracts of the module name; of a type that has a model, the model's."""
@@ -531,7 +531,7 @@ class Reference:
         parts += self.about_types(item, page)
         parts += [laid_out(self.with_links(self.says_of(item, page.module), item, page))] if item.says else []
         parts += self.about_result(item, page) if item.kind == "fn" else self.about_fields(item, page)
-        parts += [*self.about_marks(item, page), *self.about_laws(item, page)] if item.kind != "fn" else []
+        parts += [*self.about_properties(item, page), *self.about_laws(item, page)] if item.kind != "fn" else []
         parts += self.about_others(item, page)
         others = [self.link_from(page, it, f"`{it.name}`") for it in self.parts_of(item, page.module) if it not in page.items]
         parts += [wrapped(f"Methods: {', '.join(others)}.")] if others else []
@@ -622,8 +622,8 @@ def in_order(item):
     return is_type(item.owner or item), bool(is_of_any), item.line if is_of_any else 0, item.title.lower(), item.title
 
 
-def tables_of_marks():
-    """Returns the tables of marks, each with its head, as cells."""
+def tables_of_properties():
+    """Returns the tables of properties, each with its head, as cells."""
     return [properties.rows(kind) for kind in properties.PROPERTIES]
 
 
