@@ -261,7 +261,8 @@ where
 /// `Future` only if both futures are `Drop`, too.
 ///
 /// If the value of each future is known, the contract says that the value of the result is their pair. If the
-/// values are `Result`s, an `Err` ends nothing; [`try_zip`] stops at the first error.
+/// values are `Result`s, an `Err` ends nothing, and the pair comes once both are there. [`try_zip`] stops at the
+/// first error instead.
 ///
 /// # Examples
 ///
@@ -298,12 +299,13 @@ where
 /// that; after a pair a contract forbids it (`can_poll`).
 ///
 /// Each poll polls each future that is not ready yet once, the first before the second. If the first future
-/// fails, the second is not polled in that poll. The values have to be `Drop`. The result is a `Future` only
-/// if both futures are `Drop`, too.
+/// fails, the second is not polled in that poll. After an error both futures stay in the [`TryZip`], and are
+/// dropped with it. The values have to be `Drop`. The result is a `Future` only if both futures are `Drop`,
+/// too.
 ///
-/// The contract says which value comes. It is the pair if neither future fails, and the error if only one of
-/// them does. If both would fail, it is the error that a poll meets earlier, and the first's if one poll
-/// would meet both. Of this the contract says one case: the first future fails in its first poll.
+/// The value is the pair if neither future fails, and the error if only one of them does; the contract says
+/// so. If both would fail, it is the error that a poll meets earlier, and the first's if one poll would meet
+/// both. Of that the contract says one case: the first future fails in its first poll.
 ///
 /// # Examples
 ///

@@ -2193,9 +2193,9 @@ pub trait StreamExt: Stream {
     /// `alloc`. It resolves to a `Result<C, Refused<C, Self::Item>>`: `Ok(collection)` at the end of the
     /// stream.
     ///
-    /// The future takes the stream, and is `Pending` when the stream is. To keep the rest of a stream,
-    /// collect from a `&mut` to it. It then keeps what it has collected. A poll requires that `ranks.counts`
-    /// holds for the stream.
+    /// The future takes the stream. It is `Pending` when the stream is, and keeps what it has collected. To
+    /// keep the rest of a stream, collect from a `&mut` to it. A poll requires that `ranks.counts` holds for
+    /// the stream.
     ///
     /// A `Vec` and a `VecDeque` append items at the back, and a `String` appends characters. A `BTreeMap`
     /// collects pairs: for a key that it has, the old key stays and the value is replaced. A `BTreeSet` keeps
@@ -2205,8 +2205,8 @@ pub trait StreamExt: Stream {
     /// # Errors
     ///
     /// If the collection has no memory for an item, the future resolves to `Err` of a [`Refused`]: what was
-    /// collected before, and that item. What is left of the stream is dropped with the future. The fields of
-    /// a `Refused` are `collected` and `item`.
+    /// collected before, and that item. The rest of a stream that the future took is dropped with it. The
+    /// fields of a `Refused` are `collected` and `item`.
     ///
     /// # Examples
     ///
