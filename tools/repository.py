@@ -6,6 +6,7 @@ import json
 import os
 import re
 import shutil
+import signal
 import subprocess
 import sys
 
@@ -21,6 +22,9 @@ TESTS, TEST_LINES = "tests", "tests/lines.txt"
 IN_A_CRATE = {".rs": ".rt", ".txt": ".antt"}
 # In the root of a program: its `main`, and the name of each item.
 MAIN, ITEM = re.compile(r"^fn main\(.*?^\}\n", re.M | re.S), re.compile(r"^(?:const|enum|fn|mod|struct|type) (\w+)", re.M)
+
+# A line of crates.txt, as `rt` takes it.
+ROW = re.compile(r"[^\s:=]+( +(staticlib|wasm64|[^\s:=]+=[^\s:]+))*\s*(:.*)?")
 
 # What a check prints of an error; indented lines below it belong to it.
 ERROR = re.compile(r"(?:\S+: )?error\b")
@@ -52,6 +56,15 @@ def stop(why):
     """Ends the tool with one line on standard error."""
     print(f"tools/{os.path.basename(sys.argv[0])}: {why}", file=sys.stderr)
     sys.exit(2)
+
+
+def end_with(main):
+    """Ends the tool with the status that `main` returns. It says nothing if someone interrupts it, or reads no more of what it prints."""
+    signal.signal(signal.SIGPIPE, signal.SIG_DFL)
+    try:
+        sys.exit(main())
+    except KeyboardInterrupt:
+        sys.exit(128 + signal.SIGINT)
 
 
 def tell_counts(passed, failed):
@@ -93,8 +106,13 @@ def version():
 
 
 def crates_in(top, lines="crates.txt"):
-    """Returns the crates that a file of top lists, in its order, by name."""
-    rows = (row.split("#")[0].strip() for row in read_text(f"{top}/{lines}").splitlines())
+    """Returns the crates that a file of top lists, in its order, by name. Stops the tool if there is no such file, or a line that `rt` refuses."""
+    if not os.path.isfile(f"{top}/{lines}"):
+        stop(f"{top} has no file {lines}")
+    rows = [row.split("#")[0].strip() for row in read_text(f"{top}/{lines}").splitlines()]
+    for row in filter(None, rows):
+        if not ROW.fullmatch(row):
+            stop(f"{top}/{lines}: a line is NAME [may_wait=N] [: LIBRARY ..], and not {row}")
     return {it.name: it for it in map(Crate, filter(None, rows))}
 
 
@@ -204,43 +222,43 @@ def toolchain():
 
 
 @functools.cache
-def sum_of_folder(folder):
+def sum_of_folder(folder, top=TOP):
     """The sum of the files below a folder, by its path from the top."""
     found = hashlib.sha256()
-    for file in files_of(f"{TOP}/{folder}"):
-        with open(f"{TOP}/{folder}/{file}", "rb") as read:
+    for file in files_of(f"{top}/{folder}"):
+        with open(f"{top}/{folder}/{file}", "rb") as read:
             found.update(f"{file}\0".encode() + read.read())
     return found.digest()
 
 
-def sum_of_crates(crates, names, parts=PARTS):
+def sum_of_crates(crates, names, parts=PARTS, top=TOP):
     """The sum of the toolchain, and of these parts of these crates and of those below them."""
     found = hashlib.sha256(toolchain())
     for it in with_below(crates, names):
         found.update(crates[it].line.encode())
         for part in parts:
-            found.update(sum_of_folder(f"crates/{it}/{part}"))
+            found.update(sum_of_folder(f"crates/{it}/{part}", top))
     return found.hexdigest()
 
 
-def sum_of(crates, name):
-    """The sum of all that a crate's proof reads of this repository."""
-    return sum_of_crates(crates, [name])
+def sum_of(crates, name, top=TOP):
+    """The sum of all that a crate's proof reads of a repository."""
+    return sum_of_crates(crates, [name], top=top)
 
 
-def made_from(name):
+def made_from(name, top=TOP):
     """The file with the sum of what the crate's library in out/ was made from, as tools/prove left it."""
-    return f"{TOP}/crates/{name}/out/made_from"
+    return f"{top}/crates/{name}/out/made_from"
 
 
-def tell_made_from(name, sum):
-    if os.path.isdir(f"{TOP}/crates/{name}/out"):
-        with open(made_from(name), "w", encoding="utf-8") as to:
+def tell_made_from(name, sum, top=TOP):
+    if os.path.isdir(f"{top}/crates/{name}/out"):
+        with open(made_from(name, top), "w", encoding="utf-8") as to:
             to.write(sum)
 
 
-def is_made_from(name, sum):
-    return os.path.isfile(made_from(name)) and read_text(made_from(name)) == sum
+def is_made_from(name, sum, top=TOP):
+    return os.path.isfile(made_from(name, top)) and read_text(made_from(name, top)) == sum
 
 
 def left_by_ci(name):

@@ -2,9 +2,11 @@
 import itertools
 import os
 import shutil
+import signal
 import subprocess
 import sys
 import tempfile
+import time
 import unittest
 
 from copies import LINES, ROOM, Change, Copy, as_thing, record_of
@@ -79,13 +81,26 @@ class Taking(InAFolder):
             if not tool.startswith("__pycache__"):
                 shutil.copy(f"{TOP}/tools/{tool}", f"{self.room}/library/tools")
 
-    def vendor(self, *words, status=0):
-        """Runs the tool, which has to end so; returns what it says."""
+    def begin(self, *words):
+        """Begins the tool."""
         around = {"PATH": f"{self.room}/bin", "PYTHONDONTWRITEBYTECODE": "1"}
         words = [sys.executable, f"{self.room}/library/tools/vendor", *words]
-        ran = subprocess.run(words, env=around, capture_output=True, encoding="utf-8")
-        self.assertEqual(ran.returncode, status, ran.stderr)
-        return ran.stdout + ran.stderr
+        return subprocess.Popen(words, env=around, stdout=subprocess.PIPE, stderr=subprocess.PIPE, encoding="utf-8")
+
+    def vendor(self, *words, status=0):
+        """Runs the tool, which has to end so; returns what it says."""
+        ran = self.begin(*words)
+        said = "".join(ran.communicate())
+        self.assertEqual(ran.returncode, status, said)
+        return said
+
+    def be_proved(self, top, *names):
+        """Makes a repository look as tools/prove leaves it, which proved these crates as they stand here."""
+        sums = f"from repository import *; crates = crates_in(TOP); print(*(sum_of(crates, it) for it in {names}))"
+        how = {"env": {"PATH": f"{self.room}/bin", "PYTHONDONTWRITEBYTECODE": "1"}, "cwd": f"{self.room}/library/tools"}
+        told = subprocess.run([sys.executable, "-c", sums], **how, stdout=subprocess.PIPE, encoding="utf-8", check=True).stdout
+        for name, sum in zip(names, told.split()):
+            write(top, {f"crates/{name}/out/made_from": sum, f"crates/{name}/out/rlib/stamp": f"{sum}, of {os.path.basename(top)}"})
 
     def test_a_copy_has_what_proofs_read_and_says_which_version_it_is(self):
         self.assertEqual(self.vendor("--version"), "1.0.0\n")
@@ -137,7 +152,7 @@ class Taking(InAFolder):
         write(self.folder, {"crates/low/src/lib.rt": "mine\n", "crates/low/src/mine.rt": "mine\n"})
         before = read(self.folder)
         told = self.vendor(self.folder, "--update", status=2)
-        self.assertTrue(told.endswith(": crates/low/src/lib.rt\n"), told)
+        self.assertTrue(told.endswith("; move them away and run this again: crates/low/src/lib.rt\n"), told)
         self.assertEqual(read(self.folder), before)
         # (what this version does not change is kept)
         os.remove(f"{self.folder}/crates/low/src/lib.rt")
@@ -172,6 +187,45 @@ class Taking(InAFolder):
         self.vendor(self.folder, ABOVE)
         self.assertEqual(read(self.folder)[f"crates/{ABOVE}/src/lib.rt"], "frames\n")
         self.assertIn("program is none of", self.vendor(self.folder, "program", status=2))
+
+    def test_it_names_what_is_not_proved_in_the_folder(self):
+        library, told = f"{self.room}/library", f"not proved yet in {self.folder}, where tools/prove does that: "
+        self.assertIn(f"{told}low, old, {FACADE}, {ABOVE}\n", self.vendor(self.folder))
+        self.be_proved(library, "low", "old", FACADE)
+        self.assertIn(f"{told}{ABOVE}\n", self.vendor(self.folder))
+        self.be_proved(self.folder, ABOVE)
+        self.assertNotIn(told, self.vendor(self.folder))
+        # (a newer version of one crate alone, which nobody proved)
+        self.be({**FIRST, "VERSION": "1.1.0", f"crates/{ABOVE}/src/lib.rt": "other frames\n"})
+        self.assertIn(f"{told}{ABOVE}\n", self.vendor(self.folder, "--update"))
+        stamps = [read_text(f"{self.folder}/crates/{it}/out/rlib/stamp").partition(", ")[2] for it in ("low", ABOVE)]
+        self.assertEqual(stamps, ["of library", "of other"])
+
+    def test_a_crate_with_a_text_of_the_user_and_those_above_keep_their_proofs(self):
+        self.vendor(self.folder)
+        write(self.folder, {"crates/old/src/mine.rt": "mine\n", "crates/old/out/rlib/stamp": "of mine"})
+        self.be_proved(f"{self.room}/library", "low", "old", FACADE, ABOVE)
+        self.assertIn(f": old, {FACADE}, {ABOVE}\n", self.vendor(self.folder))
+        self.assertEqual(read_text(f"{self.folder}/crates/old/out/rlib/stamp"), "of mine")
+        self.assertFalse(os.path.exists(f"{self.folder}/crates/{FACADE}/out"))
+
+    def test_it_ends_quietly_if_nobody_reads_what_it_prints(self):
+        ran = self.begin(self.folder)
+        ran.stdout.close()
+        self.assertEqual((ran.stderr.read(), ran.wait()), ("", -signal.SIGPIPE))
+        ran.stderr.close()
+        self.assertIn(": 0 files and lines copied", self.vendor(self.folder))
+
+    def test_it_ends_quietly_if_it_is_interrupted(self):
+        # (it asks `rt` for the version of the toolchain behind the copy)
+        write(self.room, {"bin/rt": f"#!/bin/sh\n: > {self.room}/begun\nexec /bin/sleep 60\n"})
+        ran = self.begin(self.folder)
+        while not os.path.exists(f"{self.room}/begun"):
+            self.assertIsNone(ran.poll())
+            time.sleep(0.01)
+        ran.send_signal(signal.SIGINT)
+        self.assertEqual((ran.communicate(), ran.returncode), (("", ""), 128 + signal.SIGINT))
+        self.assertFalse(os.path.exists(f"{self.folder}/{ROOM}"))
 
     def test_pages_are_taken_and_updated_with_links_that_lead_somewhere(self):
         self.vendor(self.folder, "--docs")
