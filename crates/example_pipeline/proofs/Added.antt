@@ -1,6 +1,6 @@
 -- The steps of adding lines, and how a run ends.
 use Rattle.std.proofs.Common.{◌≡◌, ℕ, ◌+◌, ◌-◌, ◌^◌, ◌<◌, ◌≤◌, ◌∙◌, Bool, true, false, inl, inr, List, [], ◌∷◌, ◌++◌, Some, None, ap, append-nil, append_assoc}
-use Rattle.std.proofs.Common.{arith, length, refl, sym, min, length-append, ◌⊎◌, Result, Ok, Err, Option, option_to_list, IfOk, IfErr, decimal}
+use Rattle.std.proofs.Common.{arith, length, refl, sym, min, length-append, Result, Ok, Err, Option, option_to_list, IfOk, IfErr, decimal}
 use Rattle.std.proofs.lemmas.List.{map-append}
 use Rattle.std.specs.IoError.{error_kind}
 use Rattle.std.specs.declared.io.Error.{Error}
@@ -10,12 +10,12 @@ use Rattle.futures_lite.specs.Lines.{byte_lines}
 use Rattle.futures_lite.specs.Marks.{ReadMark, WriteMark, bytes, bytes_taken}
 use Rattle.futures_lite.specs.Own.{MarkLaws, Runs}
 use Rattle.futures_lite.specs.Readers.{ToldStripped}
-use Rattle.example_pipeline.proofs.Lines.{AllNumbers, OneLine, bad_first, evens_bad, evens_more, lines_more, none_bad, numbers_more, text_front}
+use Rattle.example_pipeline.proofs.Lines.{AllNumbers, OneLine, evens_more, lines_more, none_bad, numbers_more, text_front}
 use Rattle.example_pipeline.proofs.Lines.{texts_both, window_both, window_last}
-use Rattle.example_pipeline.specs.Pipeline.{HoldsWindow, even_numbers, first_bad, full_sums, full_text, if_even, last_sums, line_number, line_text, sum_line}
+use Rattle.example_pipeline.specs.Pipeline.{HoldsWindow, IsBadLine, even_numbers, full_sums, full_text, if_even, last_sums, line_number, line_text, sum_line}
 use Rattle.example_pipeline.specs.Pipeline.{part_sum, sums_text, text_of_sums, window_sums}
 use Rattle.example_pipeline.specs.Runs.{AddFails, AddsLines, AddsLine, EndFails, EndsOutput, EndsBadly, EndsByCause, EndsEarly, EndsUnwritten, FailsWithin, TakesFlush}
-use Rattle.example_pipeline.specs.Runs.{InputFails, IsOutput, IsReading, MemoryFails, GivesWholeText, GivesLine, GivesText, SumFails, SumsWhole}
+use Rattle.example_pipeline.specs.Runs.{InputFails, IsOutput, IsReading, MemoryFails, GivesWholeText, GivesLine, GivesText, IsLine, SumFails, SumsWhole}
 use Rattle.example_pipeline.specs.Runs.{EndsInNewline, TakesFlushed, TakesPrefix, TakesWholeText, WroteAll, WroteEarly, WroteFull, WroteSome, counted_lines}
 use Rattle.example_pipeline.specs.declared.fault.Cause.{Cause}
 use Rattle.example_pipeline.specs.declared.fault.Cause.TheVariants.{Input, Memory, NotANumber, NotUtf8, Output, Overflow}
@@ -60,11 +60,15 @@ module _ {T O : Type 0} (reads : Runs ReadMark T) (writes : Runs WriteMark O) (l
   told_rest x z text (inr h) = (ReadMark.end ∷ [], h)
 
   -- What stands behind the whole lines, as marks.
-  rest_told : (x y z : T) (text line : List ℕ) (whole : Bool) → ToldStripped reads x (bytes text) y → GivesLine reads y line whole z
-      → (rest : List ReadMark) × ToldStripped reads x (bytes text ++ rest) z × ((rest ≡ bytes line) ⊎ (rest ≡ bytes line ++ ReadMark.end ∷ []))
-  rest_told x y z text line true h k = (bytes line, told_follow laws x y z (bytes text) (bytes line) h k.0, inl refl)
-  rest_told x y z text line false h k =
-      (bytes line ++ ReadMark.end ∷ [], told_follow laws x y z (bytes text) (bytes line ++ ReadMark.end ∷ []) h k.0, inr refl)
+  rest_told : (x y z : T) (text line : List ℕ) (whole : Bool) → 0 < length line → ToldStripped reads x (bytes text) y
+      → GivesLine reads y line whole z → (rest : List ReadMark) × ToldStripped reads x (bytes text ++ rest) z × IsLine line rest
+  rest_told x y z text line true long h k =
+      (bytes line, told_follow laws x y z (bytes text) (bytes line) h k.0, inl (k.1.0, k.1.1, k.1.2, refl))
+  rest_told x y z text line false long h k = (
+    bytes line ++ ReadMark.end ∷ [],
+    told_follow laws x y z (bytes text) (bytes line ++ ReadMark.end ∷ []) h k.0,
+    inr (k.1, long, refl),
+  )
 
   one_line : (y z : T) (line : List ℕ) (whole : Bool) → 0 < length line → GivesLine reads y line whole z → OneLine line
   one_line y z line true long h = inl h.1
@@ -147,26 +151,29 @@ module _ {T O : Type 0} (reads : Runs ReadMark T) (writes : Runs WriteMark O) (l
           (wrote_more h, holds_more h),
         )
 
-    bad_line : line_number (line_text line) ≡ None → t ≡ s → v ≡ u
-        → EndsBadly reads writes (WroteFull reads writes t) (WroteSome reads writes) (min (n + 1) (2 ^ 64 - 1)) x w z v
-    bad_line e f g =
-        let evens = ap even_numbers lines_are ∙ evens_bad (byte_lines so_far.text) (line_text line) so_far.good e in record {
-          text = so_far.text ++ line;
-          before = length (byte_lines so_far.text);
-          read = text_told x y z so_far.text line whole so_far.told read;
-          first = ap first_bad lines_are ∙ bad_first (byte_lines so_far.text) (line_text line) so_far.good e;
+    bad_line : (cause : Cause) → line_number (line_text line) ≡ None → IsBadLine (line_text line) cause → t ≡ s → v ≡ u
+        → EndsBadly reads writes (WroteFull reads writes t) (WroteSome reads writes) cause (min (n + 1) (2 ^ 64 - 1)) x w z v
+    bad_line cause e bad f g =
+        let told = rest_told x y z so_far.text line whole long so_far.told read in record {
+          text = so_far.text;
+          rest = told.0;
+          read = told.1;
+          whole = so_far.whole;
+          why = (line, told.2, e, bad);
+          first = none_bad (byte_lines so_far.text) so_far.good;
           numbered = counted_next n (length (byte_lines so_far.text)) so_far.numbered;
-          written = rw (evens, f, g) (so_far.wrote, so_far.holds);
+          written = rw (f, g) (so_far.wrote, so_far.holds);
         }
 
     overflow : (h : AddFails writes line s u Overflow t v)
         → EndsEarly reads writes (WroteFull reads writes t) (WroteSome reads writes) SumFails (min (n + 1) (2 ^ 64 - 1)) x w z v
     overflow h =
-        let told = rest_told x y z so_far.text line whole so_far.told read in
+        let told = rest_told x y z so_far.text line whole long so_far.told read in
         let evens = evens_are h.0 h.1 ∙ ap (λ k. even_numbers (byte_lines so_far.text) ++ k) h.2 in record {
           text = so_far.text;
           rest = told.0;
           read = told.1;
+          whole = so_far.whole;
           why = (
             line,
             told.2,
@@ -192,8 +199,8 @@ module _ {T O : Type 0} (reads : Runs ReadMark T) (writes : Runs WriteMark O) (l
     -- A line was not added.
     pub stop_adding : (e : Cause) → AddFails writes line s u e t v
         → EndsByCause reads writes (WroteFull reads writes t) (WroteSome reads writes) x w (min (n + 1) (2 ^ 64 - 1)) e z v
-    stop_adding NotUtf8 h = bad_line h.0 h.1 h.2
-    stop_adding NotANumber h = bad_line h.0 h.1 h.2
+    stop_adding NotUtf8 h = bad_line NotUtf8 h.0 h.1 h.2 h.3
+    stop_adding NotANumber h = bad_line NotANumber h.0 h.1 h.2 h.3
     stop_adding Overflow h = overflow h
     stop_adding Memory h = absurd h
     stop_adding (Input e) h = absurd h
@@ -221,6 +228,7 @@ module _ {T O : Type 0} (reads : Runs ReadMark T) (writes : Runs WriteMark O) (l
     text = so_far.text;
     rest = rest;
     read = told_follow laws x y z (bytes so_far.text) rest so_far.told told;
+    whole = so_far.whole;
     why = why;
     first = none_bad (byte_lines so_far.text) so_far.good;
     numbered = counted_next n (length (byte_lines so_far.text)) so_far.numbered;
@@ -279,29 +287,29 @@ module _ {T O : Type 0} (reads : Runs ReadMark T) (writes : Runs WriteMark O) (l
   finish_whole_fails (Input e) number h k = absurd (k (even_numbers (byte_lines h.0)) h.3.1).0
 
   -- The lines before a bad one were added, and the last window was written.
-  pub finish_bad : (number : ℕ) → EndsBadly reads writes (WroteFull reads writes s) (WroteSome reads writes) number x w y u
+  pub finish_bad : (c : Cause) (number : ℕ) → EndsBadly reads writes (WroteFull reads writes s) (WroteSome reads writes) c number x w y u
       → ((l : List ℕ) → HoldsWindow s l → TakesFlushed writes u (text_of_sums (last_sums l)) v)
-      → EndsBadly reads writes (WroteAll reads writes) (WroteEarly reads writes) number x w y v
-  finish_bad number h k = record {
+      → EndsBadly reads writes (WroteAll reads writes) (WroteEarly reads writes) c number x w y v
+  finish_bad c number h k = record {
     text = h.text;
-    before = h.before;
+    rest = h.rest;
     read = h.read;
+    whole = h.whole;
+    why = h.why;
     first = h.first;
     numbered = h.numbered;
     written = all_wrote (byte_lines h.text) h.written k;
   }
 
-  pub finish_bad_fails : (e : Cause) (n number : ℕ) → EndsBadly reads writes (WroteFull reads writes s) (WroteSome reads writes) n x w y u
+  pub finish_bad_fails : (c e : Cause) (n number : ℕ) → EndsBadly reads writes (WroteFull reads writes s) (WroteSome reads writes) c n x w y u
       → ((l : List ℕ) → HoldsWindow s l → IsOutput e × TakesPrefix writes u (text_of_sums (last_sums l)) v)
       → EndsByCause reads writes (WroteAll reads writes) (WroteEarly reads writes) x w number e y v
-  finish_bad_fails (Output e) n number h k =
-      let told = told_rest reads writes laws rules x y h.text h.read in
-      (h.text, told.0, told.1, some_wrote_all (byte_lines h.text) h.written (λ l held. (k l held).1))
-  finish_bad_fails NotUtf8 n number h k = absurd (k (even_numbers (byte_lines h.text)) h.written.1).0
-  finish_bad_fails NotANumber n number h k = absurd (k (even_numbers (byte_lines h.text)) h.written.1).0
-  finish_bad_fails Overflow n number h k = absurd (k (even_numbers (byte_lines h.text)) h.written.1).0
-  finish_bad_fails Memory n number h k = absurd (k (even_numbers (byte_lines h.text)) h.written.1).0
-  finish_bad_fails (Input e) n number h k = absurd (k (even_numbers (byte_lines h.text)) h.written.1).0
+  finish_bad_fails c (Output e) n number h k = (h.text, h.rest, h.read, some_wrote_all (byte_lines h.text) h.written (λ l held. (k l held).1))
+  finish_bad_fails c NotUtf8 n number h k = absurd (k (even_numbers (byte_lines h.text)) h.written.1).0
+  finish_bad_fails c NotANumber n number h k = absurd (k (even_numbers (byte_lines h.text)) h.written.1).0
+  finish_bad_fails c Overflow n number h k = absurd (k (even_numbers (byte_lines h.text)) h.written.1).0
+  finish_bad_fails c Memory n number h k = absurd (k (even_numbers (byte_lines h.text)) h.written.1).0
+  finish_bad_fails c (Input e) n number h k = absurd (k (even_numbers (byte_lines h.text)) h.written.1).0
 
   -- The pipeline stopped early, and what was written was flushed.
   pub finish_early : (Rest : List ℕ → List ReadMark → Type 0) (number : ℕ)
@@ -311,6 +319,7 @@ module _ {T O : Type 0} (reads : Runs ReadMark T) (writes : Runs WriteMark O) (l
     text = h.text;
     rest = h.rest;
     read = h.read;
+    whole = h.whole;
     why = h.why;
     first = h.first;
     numbered = h.numbered;
@@ -339,8 +348,8 @@ module _ {T O : Type 0} (reads : Runs ReadMark T) (writes : Runs WriteMark O) (l
   -- The output was ended at an error.
   pub closed : (c : Cause) (number : ℕ) → EndsByCause reads writes (WroteFull reads writes s) (WroteSome reads writes) x w number c y u
       → EndsOutput writes s c u v → EndsByCause reads writes (WroteAll reads writes) (WroteEarly reads writes) x w number c y v
-  closed NotUtf8 number h k = finish_bad number h k
-  closed NotANumber number h k = finish_bad number h k
+  closed NotUtf8 number h k = finish_bad NotUtf8 number h k
+  closed NotANumber number h k = finish_bad NotANumber number h k
   closed Overflow number h k = finish_early SumFails number h k
   closed Memory number h k = finish_early MemoryFails number h k
   closed (Input e) number h k = finish_early (InputFails e) number h k
@@ -349,8 +358,8 @@ module _ {T O : Type 0} (reads : Runs ReadMark T) (writes : Runs WriteMark O) (l
   -- It was not, since it failed.
   pub close_fails : (c e : Cause) (n number : ℕ) → EndsByCause reads writes (WroteFull reads writes s) (WroteSome reads writes) x w n c y u
       → IsOutput e → EndFails writes s c u v → EndsByCause reads writes (WroteAll reads writes) (WroteEarly reads writes) x w number e y v
-  close_fails NotUtf8 e n number h k f = finish_bad_fails e n number h (λ l held. (k, f l held))
-  close_fails NotANumber e n number h k f = finish_bad_fails e n number h (λ l held. (k, f l held))
+  close_fails NotUtf8 e n number h k f = finish_bad_fails NotUtf8 e n number h (λ l held. (k, f l held))
+  close_fails NotANumber e n number h k f = finish_bad_fails NotANumber e n number h (λ l held. (k, f l held))
   close_fails Overflow e n number h k f = finish_early_fails SumFails e n number h k f
   close_fails Memory e n number h k f = finish_early_fails MemoryFails e n number h k f
   close_fails (Input c) e n number h k f = finish_early_fails (InputFails c) e n number h k f

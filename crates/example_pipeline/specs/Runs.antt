@@ -1,5 +1,5 @@
 -- What the pipeline reads and writes, and where it stops.
-use Rattle.std.specs.Prelude.{◌≡◌, ◌≢◌, ◌⊎◌, ⊤, ◌≤◌, ◌+◌, ◌-◌, ◌^◌, ℕ, Bool, true, false, List, [], ◌∷◌, ◌++◌, None, Some, length, min}
+use Rattle.std.specs.Prelude.{◌≡◌, ◌≢◌, ◌⊎◌, ⊤, ◌≤◌, ◌<◌, ◌+◌, ◌-◌, ◌^◌, ℕ, Bool, true, false, List, [], ◌∷◌, ◌++◌, None, Some, length, min}
 use Rattle.futures_lite.specs.Lines.{byte_lines}
 use Rattle.futures_lite.specs.Marks.{ReadMark, WriteMark, bytes, bytes_taken}
 use Rattle.futures_lite.specs.Own.{Runs}
@@ -8,8 +8,8 @@ use Rattle.futures_lite.specs.Writers.{EndsFlushed, TakesFront}
 use Rattle.std.specs.IoError.{error_kind}
 use Rattle.std.specs.declared.io.Error.{Error}
 use Rattle.std.specs.declared.io.ErrorKind.TheVariants.{OutOfMemory}
-use Rattle.example_pipeline.specs.Pipeline.{HoldsWindow, even_numbers, first_bad, full_sums, full_text, if_even, last_sums, line_number, line_text, part_sum}
-use Rattle.example_pipeline.specs.Pipeline.{sums_text, text_of_sums, window_sums}
+use Rattle.example_pipeline.specs.Pipeline.{HoldsWindow, IsBadLine, even_numbers, first_bad, full_sums, full_text, if_even, last_sums, line_number, line_text}
+use Rattle.example_pipeline.specs.Pipeline.{part_sum, sums_text, text_of_sums, window_sums}
 use Rattle.example_pipeline.specs.declared.fault.Cause.{Cause}
 use Rattle.example_pipeline.specs.declared.fault.Cause.TheVariants.{Input, Memory, NotANumber, NotUtf8, Output, Overflow}
 use Rattle.example_pipeline.specs.declared.fault.PipelineError.{PipelineError}
@@ -18,6 +18,11 @@ use Rattle.example_pipeline.specs.declared.sums.Sums.{Sums}
 -- The text is whole lines: it is empty, or its last byte is a newline.
 abbrev pub EndsInNewline : List ℕ → Type 0
 EndsInNewline text = (text ≡ []) ⊎ ((front : List ℕ) × (text ≡ front ++ 10 ∷ []))
+
+-- The bytes of a line were read. If it has no newline, the end of file came behind it.
+abbrev pub IsLine : List ℕ → List ReadMark → Type 0
+IsLine line rest = ((front : List ℕ) × Without 10 front × (line ≡ front ++ 10 ∷ []) × (rest ≡ bytes line))
+    ⊎ (Without 10 line × (0 < length line) × (rest ≡ bytes line ++ ReadMark.end ∷ []))
 
 -- So many lines, as a number of 64 bits counts them.
 abbrev pub counted_lines : ℕ → ℕ
@@ -67,8 +72,8 @@ module _ {O : Type 0} (writes : Runs WriteMark O) where
 
   -- A line was not added, or the sum of the window was not written.
   abbrev pub AddFails : List ℕ → Sums → O → Cause → Sums → O → Type 0
-  AddFails line s w NotUtf8 t v = (line_number (line_text line) ≡ None) × (t ≡ s) × (v ≡ w)
-  AddFails line s w NotANumber t v = (line_number (line_text line) ≡ None) × (t ≡ s) × (v ≡ w)
+  AddFails line s w NotUtf8 t v = (line_number (line_text line) ≡ None) × IsBadLine (line_text line) NotUtf8 × (t ≡ s) × (v ≡ w)
+  AddFails line s w NotANumber t v = (line_number (line_text line) ≡ None) × IsBadLine (line_text line) NotANumber × (t ≡ s) × (v ≡ w)
   AddFails line s w Overflow t v = (x : ℕ) × (line_number (line_text line) ≡ Some x) × (if_even x ≡ x ∷ [])
       × ((l : List ℕ) → HoldsWindow s l → 2 ^ 64 ≤ part_sum l + x) × (v ≡ w)
   AddFails line s w Memory t v = ⊥
@@ -98,9 +103,13 @@ module _ {O : Type 0} (writes : Runs WriteMark O) where
 abbrev pub InputFails : Error → List ℕ → List ReadMark → Type 0
 InputFails e text rest = (cut : List ℕ) × Without 10 cut × (rest ≡ bytes cut ++ ReadMark.fault (error_kind e) ∷ [])
 
--- Or a line whose number makes a sum too large.
+-- Or one line that is no number, and the cause says why.
+abbrev pub LineFails : Cause → List ℕ → List ReadMark → Type 0
+LineFails cause text rest = (line : List ℕ) × IsLine line rest × (line_number (line_text line) ≡ None) × IsBadLine (line_text line) cause
+
+-- Or one line whose number makes a sum too large.
 abbrev pub SumFails : List ℕ → List ReadMark → Type 0
-SumFails text rest = (line : List ℕ) × ((rest ≡ bytes line) ⊎ (rest ≡ bytes line ++ ReadMark.end ∷ [])) × (sum : ℕ) × (2 ^ 64 ≤ sum)
+SumFails text rest = (line : List ℕ) × IsLine line rest × (sum : ℕ) × (2 ^ 64 ≤ sum)
     × (window_sums (even_numbers (byte_lines (text ++ line))) ≡ full_sums (even_numbers (byte_lines text)) ++ sum ∷ [])
 
 -- Or bytes of a line for which memory was refused, and maybe an error that says so.
@@ -132,21 +141,24 @@ module _ {T O : Type 0} (reads : Runs ReadMark T) (writes : Runs WriteMark O) wh
     abbrev pub EndsWithText : T → O → T → O → Type 0
     EndsWithText x w y v = (text : List ℕ) × GivesWholeText reads x text y × (first_bad (byte_lines text) ≡ None) × Wrote w (byte_lines text) v
 
-    -- A text was read to its first line that is no number, which has this number.
-    pub record EndsBadly (number : ℕ) (x : T) (w : O) (y : T) (v : O) : Type 0 where
+    -- Whole lines were read, each a number, and then one that is none, for this cause. It is the line with this number.
+    pub record EndsBadly (cause : Cause) (number : ℕ) (x : T) (w : O) (y : T) (v : O) : Type 0 where
       pub text : List ℕ
-      pub before : ℕ
-      pub read : GivesText reads x text y
-      pub first : first_bad (byte_lines text) ≡ Some before
-      pub numbered : number ≡ counted_lines (before + 1)
+      pub rest : List ReadMark
+      pub read : ToldStripped reads x (bytes text ++ rest) y
+      pub whole : EndsInNewline text
+      pub why : LineFails cause text rest
+      pub first : first_bad (byte_lines text) ≡ None
+      pub numbered : number ≡ counted_lines (length (byte_lines text) + 1)
       pub written : Wrote w (byte_lines text) v
 
-    -- Whole lines were read, each a number, and then `rest`, for which `Rest` holds. What is written for them is a prefix
-    -- of what is written for a text that goes on.
+    -- Whole lines were read, each a number, and then `rest`, for which `Rest` holds. It is of the line with this number.
+    -- What is written for the whole lines is a prefix of what is written for a text that goes on.
     pub record EndsEarly (Rest : List ℕ → List ReadMark → Type 0) (number : ℕ) (x : T) (w : O) (y : T) (v : O) : Type 0 where
       pub text : List ℕ
       pub rest : List ReadMark
       pub read : ToldStripped reads x (bytes text ++ rest) y
+      pub whole : EndsInNewline text
       pub why : Rest text rest
       pub first : first_bad (byte_lines text) ≡ None
       pub numbered : number ≡ counted_lines (length (byte_lines text) + 1)
@@ -160,8 +172,8 @@ module _ {T O : Type 0} (reads : Runs ReadMark T) (writes : Runs WriteMark O) wh
 
     -- The run ended with an error of this cause, at the line with this number.
     abbrev pub EndsByCause : T → O → ℕ → Cause → T → O → Type 0
-    EndsByCause x w number NotUtf8 y v = EndsBadly number x w y v
-    EndsByCause x w number NotANumber y v = EndsBadly number x w y v
+    EndsByCause x w number NotUtf8 y v = EndsBadly NotUtf8 number x w y v
+    EndsByCause x w number NotANumber y v = EndsBadly NotANumber number x w y v
     EndsByCause x w number Overflow y v = EndsEarly SumFails number x w y v
     EndsByCause x w number Memory y v = EndsEarly MemoryFails number x w y v
     EndsByCause x w number (Input e) y v = EndsEarly (InputFails e) number x w y v
