@@ -1,22 +1,22 @@
 -- The steps of adding lines, and how a run ends.
 use Rattle.std.proofs.Common.{◌≡◌, ℕ, ◌+◌, ◌-◌, ◌^◌, ◌<◌, ◌≤◌, ◌∙◌, Bool, true, false, inl, inr, List, [], ◌∷◌, ◌++◌, Some, None, ap, append-nil, append_assoc}
-use Rattle.std.proofs.Common.{arith, length, refl, sym, min, length-append, ◌⊎◌, Result, Ok, Err, Option, option_to_list, IfOk, IfErr, decimal}
+use Rattle.std.proofs.Common.{arith, length, refl, sym, min, length-append, Result, Ok, Err, Option, option_to_list, IfOk, IfErr, decimal}
 use Rattle.std.proofs.lemmas.List.{map-append}
 use Rattle.std.specs.IoError.{error_kind}
 use Rattle.std.specs.declared.io.Error.{Error}
-use Rattle.futures_lite.specs.Laws.Taken.{front_follows, front_of_more, taken_both}
 use Rattle.futures_lite.specs.Laws.Told.{told_follow, told_none}
 use Rattle.futures_lite.specs.Lines.{byte_lines}
-use Rattle.futures_lite.specs.Marks.{ReadMark, WriteMark, bytes, bytes_taken}
+use Rattle.futures_lite.specs.Marks.{ReadMark, WriteMark, bytes}
 use Rattle.futures_lite.specs.Own.{MarkLaws, Runs}
 use Rattle.futures_lite.specs.Readers.{ToldStripped}
-use Rattle.example_pipeline.proofs.Lines.{AllNumbers, OneLine, bad_first, evens_bad, evens_more, lines_more, none_bad, numbers_more, text_front}
+use Rattle.example_pipeline.proofs.Lines.{AllNumbers, OneLine, evens_more, lines_more, none_bad, numbers_more, text_front}
 use Rattle.example_pipeline.proofs.Lines.{texts_both, window_both, window_last}
-use Rattle.example_pipeline.specs.Pipeline.{HoldsWindow, even_numbers, first_bad, full_sums, full_text, if_even, last_sums, line_number, line_text, sum_line}
+use Rattle.example_pipeline.proofs.Taken.{fails_more, fails_sooner, flush_fails, text_more}
+use Rattle.example_pipeline.specs.Pipeline.{HoldsWindow, IsBadLine, even_numbers, full_sums, full_text, if_even, last_sums, line_number, line_text, sum_line}
 use Rattle.example_pipeline.specs.Pipeline.{part_sum, sums_text, text_of_sums, window_sums}
-use Rattle.example_pipeline.specs.Runs.{AddFails, AddsLines, AddsLine, EndFails, EndsOutput, EndsBadly, EndsByCause, EndsEarly, EndsUnwritten, FailsWithin, TakesFlush}
-use Rattle.example_pipeline.specs.Runs.{InputFails, IsOutput, IsReading, MemoryFails, GivesWholeText, GivesLine, GivesText, SumFails, SumsWhole}
-use Rattle.example_pipeline.specs.Runs.{EndsInNewline, TakesFlushed, TakesPrefix, TakesWholeText, WroteAll, WroteEarly, WroteFull, WroteSome, counted_lines}
+use Rattle.example_pipeline.specs.Runs.{AddFails, AddsLines, AddsLine, EndFails, EndsOutput, EndsBadly, EndsByCause, EndsEarly, EndsUnwritten, FailsOutput, FailsTaking, FailsWithin, TakesFlush}
+use Rattle.example_pipeline.specs.Runs.{InputFails, IsReading, MemoryFails, GivesWholeText, GivesLine, GivesText, IsLine, SumFails, SumsWhole}
+use Rattle.example_pipeline.specs.Runs.{EndsInNewline, TakesFlushed, TakesWholeText, WroteAll, WroteEarly, WroteFull, WroteSome, counted_lines}
 use Rattle.example_pipeline.specs.declared.fault.Cause.{Cause}
 use Rattle.example_pipeline.specs.declared.fault.Cause.TheVariants.{Input, Memory, NotANumber, NotUtf8, Output, Overflow}
 use Rattle.example_pipeline.specs.declared.sums.Sums.{Sums}
@@ -60,11 +60,15 @@ module _ {T O : Type 0} (reads : Runs ReadMark T) (writes : Runs WriteMark O) (l
   told_rest x z text (inr h) = (ReadMark.end ∷ [], h)
 
   -- What stands behind the whole lines, as marks.
-  rest_told : (x y z : T) (text line : List ℕ) (whole : Bool) → ToldStripped reads x (bytes text) y → GivesLine reads y line whole z
-      → (rest : List ReadMark) × ToldStripped reads x (bytes text ++ rest) z × ((rest ≡ bytes line) ⊎ (rest ≡ bytes line ++ ReadMark.end ∷ []))
-  rest_told x y z text line true h k = (bytes line, told_follow laws x y z (bytes text) (bytes line) h k.0, inl refl)
-  rest_told x y z text line false h k =
-      (bytes line ++ ReadMark.end ∷ [], told_follow laws x y z (bytes text) (bytes line ++ ReadMark.end ∷ []) h k.0, inr refl)
+  rest_told : (x y z : T) (text line : List ℕ) (whole : Bool) → 0 < length line → ToldStripped reads x (bytes text) y
+      → GivesLine reads y line whole z → (rest : List ReadMark) × ToldStripped reads x (bytes text ++ rest) z × IsLine line rest
+  rest_told x y z text line true long h k =
+      (bytes line, told_follow laws x y z (bytes text) (bytes line) h k.0, inl (k.1.0, k.1.1, k.1.2, refl))
+  rest_told x y z text line false long h k = (
+    bytes line ++ ReadMark.end ∷ [],
+    told_follow laws x y z (bytes text) (bytes line ++ ReadMark.end ∷ []) h k.0,
+    inr (k.1, long, refl),
+  )
 
   one_line : (y z : T) (line : List ℕ) (whole : Bool) → 0 < length line → GivesLine reads y line whole z → OneLine line
   one_line y z line true long h = inl h.1
@@ -78,22 +82,17 @@ module _ {T O : Type 0} (reads : Runs ReadMark T) (writes : Runs WriteMark O) (l
     good = tt;
     numbered = omega arith;
     holds = none;
-    wrote = ([], rules.rests w, refl);
+    wrote = ([], rules.rests w, tt, refl);
   }
-
-  more_wrote : (w u v : O) (p q : List ℕ) → TakesWholeText writes w p u → TakesWholeText writes u q v → TakesWholeText writes w (p ++ q) v
-  more_wrote w u v p q h k = (h.0 ++ k.0, rules.follows w u v h.0 k.0 h.1 k.1, rw (taken_both h.0 k.0, h.2, k.2) refl)
-
-  some_wrote : (w u v : O) (p q : List ℕ) → TakesWholeText writes w p u → TakesPrefix writes u q v → TakesPrefix writes w (p ++ q) v
-  some_wrote w u v p q h k = (h.0 ++ k.0, front_follows writes rules w u v p q h.0 k.0 h.1 h.2 k.1)
 
   sums_both : (lines : List (List ℕ)) → sums_text lines ≡ full_text lines ++ text_of_sums (last_sums (even_numbers lines))
   sums_both lines = ap text_of_sums (window_both (even_numbers lines))
       ∙ texts_both (full_sums (even_numbers lines)) (last_sums (even_numbers lines))
 
-  some_of_all : (w v : O) (lines : List (List ℕ)) → TakesPrefix writes w (full_text lines) v → TakesPrefix writes w (sums_text lines) v
-  some_of_all w v lines h = rw (sums_both lines)
-      (h.0, front_of_more writes w v (full_text lines) (text_of_sums (last_sums (even_numbers lines))) h.0 h.1)
+  some_of_all : (w v : O) (lines : List (List ℕ)) (e : Error) → FailsTaking writes w (full_text lines) e v
+      → FailsTaking writes w (sums_text lines) e v
+  some_of_all w v lines e h = rw (sums_both lines)
+      (fails_sooner writes rules w v v (full_text lines) (text_of_sums (last_sums (even_numbers lines))) e h)
 
   module _ (x y z : T) (w u v : O) (s t : Sums) (n : ℕ) (line : List ℕ) (whole : Bool) (long : 0 < length line)
       (so_far : SoFar reads writes x w s n y u) (read : GivesLine reads y line whole z) where
@@ -119,7 +118,7 @@ module _ {T O : Type 0} (reads : Runs ReadMark T) (writes : Runs WriteMark O) (l
 
     wrote_more : (h : AddsLine writes line s u t v) → TakesWholeText writes w (full_text (byte_lines (so_far.text ++ line))) v
     wrote_more h = rw (full_are h.0 h.2 h.1 (λ l k. (h.4 l k).1))
-        (more_wrote w u v (full_text (byte_lines so_far.text)) (text_of_sums h.2) so_far.wrote h.3)
+        (text_more writes rules w u v (full_text (byte_lines so_far.text)) (text_of_sums h.2) so_far.wrote h.3)
 
     holds_more : (h : AddsLine writes line s u t v) → HoldsWindow t (even_numbers (byte_lines (so_far.text ++ line)))
     holds_more h = rw (evens_are h.0 h.1) (h.4 (even_numbers (byte_lines so_far.text)) so_far.holds).0
@@ -147,26 +146,29 @@ module _ {T O : Type 0} (reads : Runs ReadMark T) (writes : Runs WriteMark O) (l
           (wrote_more h, holds_more h),
         )
 
-    bad_line : line_number (line_text line) ≡ None → t ≡ s → v ≡ u
-        → EndsBadly reads writes (WroteFull reads writes t) (WroteSome reads writes) (min (n + 1) (2 ^ 64 - 1)) x w z v
-    bad_line e f g =
-        let evens = ap even_numbers lines_are ∙ evens_bad (byte_lines so_far.text) (line_text line) so_far.good e in record {
-          text = so_far.text ++ line;
-          before = length (byte_lines so_far.text);
-          read = text_told x y z so_far.text line whole so_far.told read;
-          first = ap first_bad lines_are ∙ bad_first (byte_lines so_far.text) (line_text line) so_far.good e;
+    bad_line : (cause : Cause) → line_number (line_text line) ≡ None → IsBadLine (line_text line) cause → t ≡ s → v ≡ u
+        → EndsBadly reads writes (WroteFull reads writes t) (WroteSome reads writes) cause (min (n + 1) (2 ^ 64 - 1)) x w z v
+    bad_line cause e bad f g =
+        let told = rest_told x y z so_far.text line whole long so_far.told read in record {
+          text = so_far.text;
+          rest = told.0;
+          read = told.1;
+          whole = so_far.whole;
+          why = (line, told.2, e, bad);
+          first = none_bad (byte_lines so_far.text) so_far.good;
           numbered = counted_next n (length (byte_lines so_far.text)) so_far.numbered;
-          written = rw (evens, f, g) (so_far.wrote, so_far.holds);
+          written = rw (f, g) (so_far.wrote, so_far.holds);
         }
 
     overflow : (h : AddFails writes line s u Overflow t v)
         → EndsEarly reads writes (WroteFull reads writes t) (WroteSome reads writes) SumFails (min (n + 1) (2 ^ 64 - 1)) x w z v
     overflow h =
-        let told = rest_told x y z so_far.text line whole so_far.told read in
+        let told = rest_told x y z so_far.text line whole long so_far.told read in
         let evens = evens_are h.0 h.1 ∙ ap (λ k. even_numbers (byte_lines so_far.text) ++ k) h.2 in record {
           text = so_far.text;
           rest = told.0;
           read = told.1;
+          whole = so_far.whole;
           why = (
             line,
             told.2,
@@ -180,24 +182,25 @@ module _ {T O : Type 0} (reads : Runs ReadMark T) (writes : Runs WriteMark O) (l
           front = λ more. text_front so_far.text more so_far.whole so_far.good;
         }
 
-    unwritten : (a : ℕ) (added : List ℕ) → line_number (line_text line) ≡ Some a → TakesPrefix writes u (text_of_sums added) v
+    unwritten : (error : Error) (a : ℕ) (added : List ℕ) → line_number (line_text line) ≡ Some a
+        → FailsTaking writes u (text_of_sums added) error v
         → ((l : List ℕ) → HoldsWindow s l → full_sums (l ++ if_even a) ≡ full_sums l ++ added)
-        → EndsUnwritten reads writes (WroteFull reads writes t) (WroteSome reads writes) x w z v
-    unwritten a added e h step =
-        let all = some_wrote w u v (full_text (byte_lines so_far.text)) (text_of_sums added) so_far.wrote h in
-        let front : TakesPrefix writes w (full_text (byte_lines (so_far.text ++ line))) v = rw (full_are a added e step) all in
+        → EndsUnwritten reads writes (WroteFull reads writes t) (WroteSome reads writes) error x w z v
+    unwritten error a added e h step =
+        let all = fails_more writes rules w u v (full_text (byte_lines so_far.text)) (text_of_sums added) error so_far.wrote h in
+        let front : FailsTaking writes w (full_text (byte_lines (so_far.text ++ line))) error v = rw (full_are a added e step) all in
         let told = told_rest x z (so_far.text ++ line) (text_told x y z so_far.text line whole so_far.told read) in
-        (so_far.text ++ line, told.0, told.1, some_of_all w v (byte_lines (so_far.text ++ line)) front)
+        (so_far.text ++ line, told.0, told.1, some_of_all w v (byte_lines (so_far.text ++ line)) error front)
 
     -- A line was not added.
     pub stop_adding : (e : Cause) → AddFails writes line s u e t v
         → EndsByCause reads writes (WroteFull reads writes t) (WroteSome reads writes) x w (min (n + 1) (2 ^ 64 - 1)) e z v
-    stop_adding NotUtf8 h = bad_line h.0 h.1 h.2
-    stop_adding NotANumber h = bad_line h.0 h.1 h.2
+    stop_adding NotUtf8 h = bad_line NotUtf8 h.0 h.1 h.2 h.3
+    stop_adding NotANumber h = bad_line NotANumber h.0 h.1 h.2 h.3
     stop_adding Overflow h = overflow h
     stop_adding Memory h = absurd h
     stop_adding (Input e) h = absurd h
-    stop_adding (Output e) h = unwritten h.0 h.2 h.1 h.3 h.4
+    stop_adding (Output e) h = unwritten e h.0 h.2 h.1 h.3 h.4
 
   no_line : (y z : T) (line : List ℕ) (whole : Bool) → length line ≡ 0 → GivesLine reads y line whole z → GivesWholeText reads y [] z
   no_line y z [] true e h = let long = ap length h.1.2 ∙ length-append h.1.0 (10 ∷ []) in absurd (omega (arith, long))
@@ -221,6 +224,7 @@ module _ {T O : Type 0} (reads : Runs ReadMark T) (writes : Runs WriteMark O) (l
     text = so_far.text;
     rest = rest;
     read = told_follow laws x y z (bytes so_far.text) rest so_far.told told;
+    whole = so_far.whole;
     why = why;
     first = none_bad (byte_lines so_far.text) so_far.good;
     numbered = counted_next n (length (byte_lines so_far.text)) so_far.numbered;
@@ -252,14 +256,14 @@ module _ {T O : Type 0} (reads : Runs ReadMark T) (writes : Runs WriteMark O) (l
       let last = k (even_numbers lines) h.1 in (
         last.0,
         rw (sums_both reads writes laws rules lines)
-            (more_wrote reads writes laws rules w u last.0 (full_text lines) (text_of_sums (last_sums (even_numbers lines))) h.0 last.1),
+            (text_more writes rules w u last.0 (full_text lines) (text_of_sums (last_sums (even_numbers lines))) h.0 last.1),
         last.2,
       )
 
-  some_wrote_all : (lines : List (List ℕ)) → WroteFull reads writes s w lines u
-      → ((l : List ℕ) → HoldsWindow s l → TakesPrefix writes u (text_of_sums (last_sums l)) v) → TakesPrefix writes w (sums_text lines) v
-  some_wrote_all lines h k = rw (sums_both reads writes laws rules lines)
-      (some_wrote reads writes laws rules w u v (full_text lines) (text_of_sums (last_sums (even_numbers lines))) h.0 (k (even_numbers lines) h.1))
+  some_wrote_all : (lines : List (List ℕ)) (e : Error) → WroteFull reads writes s w lines u
+      → ((l : List ℕ) → HoldsWindow s l → FailsTaking writes u (text_of_sums (last_sums l)) e v) → FailsTaking writes w (sums_text lines) e v
+  some_wrote_all lines e h k = rw (sums_both reads writes laws rules lines)
+      (fails_more writes rules w u v (full_text lines) (text_of_sums (last_sums (even_numbers lines))) e h.0 (k (even_numbers lines) h.1))
 
   -- All lines were added, and the last window was written.
   pub finish_whole : AddsLines reads writes x w s y u → ((l : List ℕ) → HoldsWindow s l → TakesFlushed writes u (text_of_sums (last_sums l)) v)
@@ -267,41 +271,41 @@ module _ {T O : Type 0} (reads : Runs ReadMark T) (writes : Runs WriteMark O) (l
   finish_whole h k = (h.0, h.1, h.2, all_wrote (byte_lines h.0) h.3 k)
 
   pub finish_whole_fails : (e : Cause) (number : ℕ) → AddsLines reads writes x w s y u
-      → ((l : List ℕ) → HoldsWindow s l → IsOutput e × TakesPrefix writes u (text_of_sums (last_sums l)) v)
+      → ((l : List ℕ) → HoldsWindow s l → FailsOutput writes u (text_of_sums (last_sums l)) e v)
       → EndsByCause reads writes (WroteAll reads writes) (WroteEarly reads writes) x w number e y v
   finish_whole_fails (Output e) number h k =
       let told = told_rest reads writes laws rules x y h.0 (inr h.1) in
-      (h.0, told.0, told.1, some_wrote_all (byte_lines h.0) h.3 (λ l held. (k l held).1))
-  finish_whole_fails NotUtf8 number h k = absurd (k (even_numbers (byte_lines h.0)) h.3.1).0
-  finish_whole_fails NotANumber number h k = absurd (k (even_numbers (byte_lines h.0)) h.3.1).0
-  finish_whole_fails Overflow number h k = absurd (k (even_numbers (byte_lines h.0)) h.3.1).0
-  finish_whole_fails Memory number h k = absurd (k (even_numbers (byte_lines h.0)) h.3.1).0
-  finish_whole_fails (Input e) number h k = absurd (k (even_numbers (byte_lines h.0)) h.3.1).0
+      (h.0, told.0, told.1, some_wrote_all (byte_lines h.0) e h.3 k)
+  finish_whole_fails NotUtf8 number h k = absurd (k (even_numbers (byte_lines h.0)) h.3.1)
+  finish_whole_fails NotANumber number h k = absurd (k (even_numbers (byte_lines h.0)) h.3.1)
+  finish_whole_fails Overflow number h k = absurd (k (even_numbers (byte_lines h.0)) h.3.1)
+  finish_whole_fails Memory number h k = absurd (k (even_numbers (byte_lines h.0)) h.3.1)
+  finish_whole_fails (Input e) number h k = absurd (k (even_numbers (byte_lines h.0)) h.3.1)
 
   -- The lines before a bad one were added, and the last window was written.
-  pub finish_bad : (number : ℕ) → EndsBadly reads writes (WroteFull reads writes s) (WroteSome reads writes) number x w y u
+  pub finish_bad : (c : Cause) (number : ℕ) → EndsBadly reads writes (WroteFull reads writes s) (WroteSome reads writes) c number x w y u
       → ((l : List ℕ) → HoldsWindow s l → TakesFlushed writes u (text_of_sums (last_sums l)) v)
-      → EndsBadly reads writes (WroteAll reads writes) (WroteEarly reads writes) number x w y v
-  finish_bad number h k = record {
+      → EndsBadly reads writes (WroteAll reads writes) (WroteEarly reads writes) c number x w y v
+  finish_bad c number h k = record {
     text = h.text;
-    before = h.before;
+    rest = h.rest;
     read = h.read;
+    whole = h.whole;
+    why = h.why;
     first = h.first;
     numbered = h.numbered;
     written = all_wrote (byte_lines h.text) h.written k;
   }
 
-  pub finish_bad_fails : (e : Cause) (n number : ℕ) → EndsBadly reads writes (WroteFull reads writes s) (WroteSome reads writes) n x w y u
-      → ((l : List ℕ) → HoldsWindow s l → IsOutput e × TakesPrefix writes u (text_of_sums (last_sums l)) v)
+  pub finish_bad_fails : (c e : Cause) (n number : ℕ) → EndsBadly reads writes (WroteFull reads writes s) (WroteSome reads writes) c n x w y u
+      → ((l : List ℕ) → HoldsWindow s l → FailsOutput writes u (text_of_sums (last_sums l)) e v)
       → EndsByCause reads writes (WroteAll reads writes) (WroteEarly reads writes) x w number e y v
-  finish_bad_fails (Output e) n number h k =
-      let told = told_rest reads writes laws rules x y h.text h.read in
-      (h.text, told.0, told.1, some_wrote_all (byte_lines h.text) h.written (λ l held. (k l held).1))
-  finish_bad_fails NotUtf8 n number h k = absurd (k (even_numbers (byte_lines h.text)) h.written.1).0
-  finish_bad_fails NotANumber n number h k = absurd (k (even_numbers (byte_lines h.text)) h.written.1).0
-  finish_bad_fails Overflow n number h k = absurd (k (even_numbers (byte_lines h.text)) h.written.1).0
-  finish_bad_fails Memory n number h k = absurd (k (even_numbers (byte_lines h.text)) h.written.1).0
-  finish_bad_fails (Input e) n number h k = absurd (k (even_numbers (byte_lines h.text)) h.written.1).0
+  finish_bad_fails c (Output e) n number h k = (h.text, h.rest, h.read, some_wrote_all (byte_lines h.text) e h.written k)
+  finish_bad_fails c NotUtf8 n number h k = absurd (k (even_numbers (byte_lines h.text)) h.written.1)
+  finish_bad_fails c NotANumber n number h k = absurd (k (even_numbers (byte_lines h.text)) h.written.1)
+  finish_bad_fails c Overflow n number h k = absurd (k (even_numbers (byte_lines h.text)) h.written.1)
+  finish_bad_fails c Memory n number h k = absurd (k (even_numbers (byte_lines h.text)) h.written.1)
+  finish_bad_fails c (Input e) n number h k = absurd (k (even_numbers (byte_lines h.text)) h.written.1)
 
   -- The pipeline stopped early, and what was written was flushed.
   pub finish_early : (Rest : List ℕ → List ReadMark → Type 0) (number : ℕ)
@@ -311,6 +315,7 @@ module _ {T O : Type 0} (reads : Runs ReadMark T) (writes : Runs WriteMark O) (l
     text = h.text;
     rest = h.rest;
     read = h.read;
+    whole = h.whole;
     why = h.why;
     first = h.first;
     numbered = h.numbered;
@@ -319,28 +324,26 @@ module _ {T O : Type 0} (reads : Runs ReadMark T) (writes : Runs WriteMark O) (l
   }
 
   pub finish_early_fails : (Rest : List ℕ → List ReadMark → Type 0) (e : Cause) (n number : ℕ)
-      → EndsEarly reads writes (WroteFull reads writes s) (WroteSome reads writes) Rest n x w y u → IsOutput e → TakesWholeText writes u [] v
+      → EndsEarly reads writes (WroteFull reads writes s) (WroteSome reads writes) Rest n x w y u → FailsOutput writes u [] e v
       → EndsByCause reads writes (WroteAll reads writes) (WroteEarly reads writes) x w number e y v
-  finish_early_fails Rest (Output e) n number h k none =
-      let all = more_wrote reads writes laws rules w u v (full_text (byte_lines h.text)) [] h.written none in
-      let took : bytes_taken all.0 ≡ full_text (byte_lines h.text) = all.2 ∙ append-nil (full_text (byte_lines h.text)) in (
-        h.text,
-        h.rest,
-        h.read,
-        some_of_all reads writes laws rules w v (byte_lines h.text)
-            (all.0, (all.1, ([], sym (append-nil (bytes_taken all.0) ∙ took)))),
-      )
-  finish_early_fails Rest NotUtf8 n number h k none = absurd k
-  finish_early_fails Rest NotANumber n number h k none = absurd k
-  finish_early_fails Rest Overflow n number h k none = absurd k
-  finish_early_fails Rest Memory n number h k none = absurd k
-  finish_early_fails Rest (Input e) n number h k none = absurd k
+  finish_early_fails Rest (Output e) n number h k = (
+    h.text,
+    h.rest,
+    h.read,
+    some_of_all reads writes laws rules w v (byte_lines h.text) e
+        (flush_fails writes rules w u v (full_text (byte_lines h.text)) (Output e) h.written k),
+  )
+  finish_early_fails Rest NotUtf8 n number h k = absurd k
+  finish_early_fails Rest NotANumber n number h k = absurd k
+  finish_early_fails Rest Overflow n number h k = absurd k
+  finish_early_fails Rest Memory n number h k = absurd k
+  finish_early_fails Rest (Input e) n number h k = absurd k
 
   -- The output was ended at an error.
   pub closed : (c : Cause) (number : ℕ) → EndsByCause reads writes (WroteFull reads writes s) (WroteSome reads writes) x w number c y u
       → EndsOutput writes s c u v → EndsByCause reads writes (WroteAll reads writes) (WroteEarly reads writes) x w number c y v
-  closed NotUtf8 number h k = finish_bad number h k
-  closed NotANumber number h k = finish_bad number h k
+  closed NotUtf8 number h k = finish_bad NotUtf8 number h k
+  closed NotANumber number h k = finish_bad NotANumber number h k
   closed Overflow number h k = finish_early SumFails number h k
   closed Memory number h k = finish_early MemoryFails number h k
   closed (Input e) number h k = finish_early (InputFails e) number h k
@@ -348,22 +351,18 @@ module _ {T O : Type 0} (reads : Runs ReadMark T) (writes : Runs WriteMark O) (l
 
   -- It was not, since it failed.
   pub close_fails : (c e : Cause) (n number : ℕ) → EndsByCause reads writes (WroteFull reads writes s) (WroteSome reads writes) x w n c y u
-      → IsOutput e → EndFails writes s c u v → EndsByCause reads writes (WroteAll reads writes) (WroteEarly reads writes) x w number e y v
-  close_fails NotUtf8 e n number h k f = finish_bad_fails e n number h (λ l held. (k, f l held))
-  close_fails NotANumber e n number h k f = finish_bad_fails e n number h (λ l held. (k, f l held))
-  close_fails Overflow e n number h k f = finish_early_fails SumFails e n number h k f
-  close_fails Memory e n number h k f = finish_early_fails MemoryFails e n number h k f
-  close_fails (Input c) e n number h k f = finish_early_fails (InputFails c) e n number h k f
-  close_fails (Output c) e n number h k f = absurd f
+      → EndFails writes s c u e v → EndsByCause reads writes (WroteAll reads writes) (WroteEarly reads writes) x w number e y v
+  close_fails NotUtf8 e n number h f = finish_bad_fails NotUtf8 e n number h f
+  close_fails NotANumber e n number h f = finish_bad_fails NotANumber e n number h f
+  close_fails Overflow e n number h f = finish_early_fails SumFails e n number h f
+  close_fails Memory e n number h f = finish_early_fails MemoryFails e n number h f
+  close_fails (Input c) e n number h f = finish_early_fails (InputFails c) e n number h f
+  close_fails (Output c) e n number h f = absurd f
 
 -- What follows from a fact about an `Ok`, and about an `Err`.
 pub on_ok : {A E P Q : Type 0} (r : Result A E) → (P → Q) → IfOk r (λ _. P) → IfOk r (λ _. Q)
 on_ok (Ok x) f h = f h
 on_ok (Err e) f h = h
-
-pub on_err : {A E P Q : Type 0} (r : Result A E) → (P → Q) → IfErr r (λ _. P) → IfErr r (λ _. Q)
-on_err (Ok x) f h = h
-on_err (Err e) f h = f h
 
 pub on_error : {A E : Type 0} {P Q : E → Type 0} (r : Result A E) → ((e : E) → P e → Q e) → IfErr r P → IfErr r Q
 on_error (Ok x) f h = h
@@ -374,39 +373,29 @@ line_one sum = append-nil (sum_line sum)
 
 -- A sum and its line are written.
 module _ {O : Type 0} (writes : Runs WriteMark O) (rules : MarkLaws writes) (w u v : O) where
-  text_more : (p q : List ℕ) → TakesWholeText writes w p u → TakesWholeText writes u q v → TakesWholeText writes w (p ++ q) v
-  text_more p q h k = (h.0 ++ k.0, rules.follows w u v h.0 k.0 h.1 k.1, rw (taken_both h.0 k.0, h.2, k.2) refl)
-
-  some_more : (p q : List ℕ) → TakesWholeText writes w p u → TakesPrefix writes u q v → TakesPrefix writes w (p ++ q) v
-  some_more p q h k = (h.0 ++ k.0, front_follows writes rules w u v p q h.0 k.0 h.1 h.2 k.1)
-
   pub line_written : (digits : List ℕ) (sum : ℕ) → digits ≡ decimal sum → TakesWholeText writes w digits u → TakesWholeText writes u (10 ∷ []) v
       → TakesWholeText writes w (sum_line sum) v
-  line_written digits sum e h k = rw e at (text_more digits (10 ∷ []) h k)
+  line_written digits sum e h k = rw e at (text_more writes rules w u v digits (10 ∷ []) h k)
 
-  pub line_fails : (digits : List ℕ) (sum : ℕ) → digits ≡ decimal sum → TakesWholeText writes w digits u → TakesPrefix writes u (10 ∷ []) v
-      → TakesPrefix writes w (sum_line sum) v
-  line_fails digits sum e h k = rw e at (some_more digits (10 ∷ []) h k)
+  pub line_fails : (digits : List ℕ) (sum : ℕ) (error : Error) → digits ≡ decimal sum → TakesWholeText writes w digits u
+      → FailsTaking writes u (10 ∷ []) error v → FailsTaking writes w (sum_line sum) error v
+  line_fails digits sum error e h k = rw e at (fails_more writes rules w u v digits (10 ∷ []) error h k)
 
-  pub digits_fail : (digits : List ℕ) (sum : ℕ) → digits ≡ decimal sum → TakesPrefix writes w digits v → TakesPrefix writes w (sum_line sum) v
-  digits_fail digits sum e h =
-      let more : TakesPrefix writes w (digits ++ 10 ∷ []) v = (h.0, front_of_more writes w v digits (10 ∷ []) h.0 h.1) in rw e at more
-
-  pub flush_fails : (text : List ℕ) → TakesWholeText writes w text u → TakesWholeText writes u [] v → TakesPrefix writes w text v
-  flush_fails text h k =
-      let all = text_more text [] h k in
-      (all.0, (all.1, ([], sym (append-nil (bytes_taken all.0) ∙ all.2 ∙ append-nil text))))
+  pub digits_fail : (digits : List ℕ) (sum : ℕ) (error : Error) → digits ≡ decimal sum → FailsTaking writes w digits error v
+      → FailsTaking writes w (sum_line sum) error v
+  digits_fail digits sum error e h = rw e at (fails_sooner writes rules w u v digits (10 ∷ []) error h)
 
 -- The sum of the last window.
 module _ {O : Type 0} (writes : Runs WriteMark O) (rules : MarkLaws writes) (w v : O) (o : Option ℕ) (ls : List ℕ) (is : option_to_list o ≡ ls) where
   pub last_unwritten : o ≡ None → TakesWholeText writes w (text_of_sums ls) w
-  last_unwritten e = rw (sym is, e) ([], rules.rests w, refl)
+  last_unwritten e = rw (sym is, e) ([], rules.rests w, tt, refl)
 
   pub last_written : (sum : ℕ) → o ≡ Some sum → TakesWholeText writes w (sum_line sum) v → TakesWholeText writes w (text_of_sums ls) v
   last_written sum e h = rw (sym is, e, line_one sum) h
 
-  pub last_fails : (sum : ℕ) → o ≡ Some sum → TakesPrefix writes w (sum_line sum) v → TakesPrefix writes w (text_of_sums ls) v
-  last_fails sum e h = rw (sym is, e, line_one sum) h
+  pub last_fails : (sum : ℕ) (error : Error) → o ≡ Some sum → FailsTaking writes w (sum_line sum) error v
+      → FailsTaking writes w (text_of_sums ls) error v
+  last_fails sum error e h = rw (sym is, e, line_one sum) h
 
 -- A line and its number are added.
 module _ {O : Type 0} (writes : Runs WriteMark O) (rules : MarkLaws writes) (line text : List ℕ) (s t : Sums) (w v : O) (x : ℕ)
@@ -417,12 +406,12 @@ module _ {O : Type 0} (writes : Runs WriteMark O) (rules : MarkLaws writes) (lin
   module _ (o : Option ℕ)
       (step : (l : List ℕ) → HoldsWindow s l → HoldsWindow t (l ++ if_even x) × (full_sums (l ++ if_even x) ≡ full_sums l ++ option_to_list o)) where
     pub add_none : o ≡ None → AddsLine writes line s w t w
-    add_none f = (x, number_is, [], ([], rules.rests w, refl), λ l h. rw f at (step l h))
+    add_none f = (x, number_is, [], ([], rules.rests w, tt, refl), λ l h. rw f at (step l h))
 
     pub add_some : (sum : ℕ) → o ≡ Some sum → TakesWholeText writes w (sum_line sum) v → AddsLine writes line s w t v
     add_some sum f h = (x, number_is, sum ∷ [], rw (line_one sum) h, λ l k. rw f at (step l k))
 
-    pub add_unwritten : (sum : ℕ) (error : Error) → o ≡ Some sum → TakesPrefix writes w (sum_line sum) v
+    pub add_unwritten : (sum : ℕ) (error : Error) → o ≡ Some sum → FailsTaking writes w (sum_line sum) error v
         → AddFails writes line s w (Output error) t v
     add_unwritten sum error f h = (x, number_is, sum ∷ [], rw (line_one sum) h, λ l k. (rw f at (step l k)).1)
 

@@ -1,7 +1,7 @@
 -- Laws of a text that is read line by line: where its lines are, which number is the first that is bad, and what is written.
 use Rattle.std.proofs.Common.{◌≡◌, ◌==◌, ℕ, ◌+◌, ◌-◌, ◌<◌, ◌%◌, ◌∙◌, Bool, true, false, not}
 use Rattle.std.proofs.Common.{List, [], ◌∷◌, ◌++◌, Some, None, ap, append-nil, append_assoc, arith, drop, filter, if◌then◌else◌}
-use Rattle.std.proofs.Common.{length, nat_lt, ne_eqb, refl, sym, take, inl, inr, lt-ltb, le-ltb, length-append, ◌⊎◌}
+use Rattle.std.proofs.Common.{length, nat_lt, ne_eqb, refl, sym, take, inl, inr, le-ltb, length-append, ◌⊎◌}
 use Rattle.std.proofs.lemmas.Grind.{flat_map-append}
 use Rattle.std.proofs.lemmas.List.{take-append-drop}
 use Rattle.std.proofs.lemmas.List.Elements.{filter-append}
@@ -136,17 +136,6 @@ none_bad lines h =
     rw (append-nil lines) at (front_long lines [] h) ∙ omega arith in
     rw (long, not_less (length lines)) refl
 
-less_one : (n : ℕ) → nat_lt n (n + 1) ≡ true
-less_one n = lt-ltb n (n + 1) (omega arith)
-
-pub bad_first : (lines : List (List ℕ)) (line : List ℕ) → AllNumbers lines → line_number line ≡ None
-    → first_bad (lines ++ line ∷ []) ≡ Some (length lines)
-bad_first lines line h e =
-    let none : prefix_len (λ line. not (is_none (line_number line))) (line ∷ []) ≡ 0 = rw e refl in
-    let long : prefix_len (λ line. not (is_none (line_number line))) (lines ++ line ∷ []) ≡ length lines =
-    front_long lines (line ∷ []) h ∙ omega (arith, none) in
-    rw (long, length-append lines (line ∷ []), less_one (length lines)) refl
-
 map_both : (lines more : List (List ℕ)) → AllNumbers lines
     → map_while line_number (lines ++ more) ≡ map_while line_number lines ++ map_while line_number more
 map_both [] more h = refl
@@ -161,12 +150,6 @@ pub evens_more : (lines : List (List ℕ)) (line : List ℕ) (x : ℕ) → AllNu
 evens_more lines line x h e =
     let one : even_numbers (line ∷ []) ≡ if_even x = rw e refl in
     evens_both lines (line ∷ []) h ∙ ap (λ k. even_numbers lines ++ k) one
-
-pub evens_bad : (lines : List (List ℕ)) (line : List ℕ) → AllNumbers lines → line_number line ≡ None
-    → even_numbers (lines ++ line ∷ []) ≡ even_numbers lines
-evens_bad lines line h e =
-    let none : even_numbers (line ∷ []) ≡ [] = rw e refl in
-    evens_both lines (line ∷ []) h ∙ ap (λ k. even_numbers lines ++ k) none ∙ append-nil (even_numbers lines)
 
 -- What is written for whole lines is a prefix of what is written for a text that goes on.
 pub text_front : (text more : List ℕ) → EndsInNewline text → AllNumbers (byte_lines text)

@@ -1,15 +1,15 @@
 -- What the pipeline reads and writes, and where it stops.
-use Rattle.std.specs.Prelude.{◌≡◌, ◌≢◌, ◌⊎◌, ⊤, ◌≤◌, ◌+◌, ◌-◌, ◌^◌, ℕ, Bool, true, false, List, [], ◌∷◌, ◌++◌, None, Some, length, min}
+use Rattle.std.specs.Prelude.{◌≡◌, ◌≢◌, ◌⊎◌, ◌≤◌, ◌<◌, ◌+◌, ◌-◌, ◌^◌, ℕ, Bool, true, false, List, [], ◌∷◌, ◌++◌, None, Some, length, min}
 use Rattle.futures_lite.specs.Lines.{byte_lines}
 use Rattle.futures_lite.specs.Marks.{ReadMark, WriteMark, bytes, bytes_taken}
 use Rattle.futures_lite.specs.Own.{Runs}
 use Rattle.futures_lite.specs.Readers.{StandsFirst, ToldStripped, Without}
-use Rattle.futures_lite.specs.Writers.{EndsFlushed, TakesFront}
+use Rattle.futures_lite.specs.Writers.{FailsAfter, FlushedOnce, OnlyWrites, TakesFront}
 use Rattle.std.specs.IoError.{error_kind}
 use Rattle.std.specs.declared.io.Error.{Error}
 use Rattle.std.specs.declared.io.ErrorKind.TheVariants.{OutOfMemory}
-use Rattle.example_pipeline.specs.Pipeline.{HoldsWindow, even_numbers, first_bad, full_sums, full_text, if_even, last_sums, line_number, line_text, part_sum}
-use Rattle.example_pipeline.specs.Pipeline.{sums_text, text_of_sums, window_sums}
+use Rattle.example_pipeline.specs.Pipeline.{HoldsWindow, IsBadLine, even_numbers, first_bad, full_sums, full_text, if_even, last_sums, line_number, line_text}
+use Rattle.example_pipeline.specs.Pipeline.{part_sum, sums_text, text_of_sums, window_sums}
 use Rattle.example_pipeline.specs.declared.fault.Cause.{Cause}
 use Rattle.example_pipeline.specs.declared.fault.Cause.TheVariants.{Input, Memory, NotANumber, NotUtf8, Output, Overflow}
 use Rattle.example_pipeline.specs.declared.fault.PipelineError.{PipelineError}
@@ -18,6 +18,11 @@ use Rattle.example_pipeline.specs.declared.sums.Sums.{Sums}
 -- The text is whole lines: it is empty, or its last byte is a newline.
 abbrev pub EndsInNewline : List ℕ → Type 0
 EndsInNewline text = (text ≡ []) ⊎ ((front : List ℕ) × (text ≡ front ++ 10 ∷ []))
+
+-- The bytes of a line were read. If it has no newline, the end of file came behind it.
+abbrev pub IsLine : List ℕ → List ReadMark → Type 0
+IsLine line rest = ((front : List ℕ) × Without 10 front × (line ≡ front ++ 10 ∷ []) × (rest ≡ bytes line))
+    ⊎ (Without 10 line × (0 < length line) × (rest ≡ bytes line ++ ReadMark.end ∷ []))
 
 -- So many lines, as a number of 64 bits counts them.
 abbrev pub counted_lines : ℕ → ℕ
@@ -44,17 +49,26 @@ module _ {T : Type 0} (reads : Runs ReadMark T) where
       ⊎ (ToldStripped reads x (bytes cut) y × (error_kind e ≡ OutOfMemory)))
 
 module _ {O : Type 0} (writes : Runs WriteMark O) where
-  -- The writer took just the bytes of a text.
+  -- The writer took just the bytes of a text, by writes alone.
   abbrev pub TakesWholeText : O → List ℕ → O → Type 0
-  TakesWholeText w text v = (took : List WriteMark) × writes w took v × (bytes_taken took ≡ text)
+  TakesWholeText w text v = (took : List WriteMark) × writes w took v × OnlyWrites took × (bytes_taken took ≡ text)
 
-  -- The writer took a prefix of a text.
-  abbrev pub TakesPrefix : O → List ℕ → O → Type 0
-  TakesPrefix w text v = (took : List WriteMark) × TakesFront writes w text took v
+  -- The writer took a prefix of a text, by writes alone, and then failed with the error.
+  abbrev pub FailsTaking : O → List ℕ → Error → O → Type 0
+  FailsTaking w text e v = (took : List WriteMark) × TakesFront writes w text took v × FailsAfter OnlyWrites took e
 
-  -- The writer was flushed.
+  -- The cause is an error of the output, and the writer failed with it as `FailsTaking` says.
+  abbrev pub FailsOutput : O → List ℕ → Cause → O → Type 0
+  FailsOutput w text (Output e) v = FailsTaking w text e v
+  FailsOutput w text _ v = ⊥
+
+  -- The writer was flushed once, and took no byte.
   abbrev pub TakesFlush : O → O → Type 0
-  TakesFlush w v = (flush : List WriteMark) × writes w flush v × (bytes_taken flush ≡ []) × EndsFlushed flush
+  TakesFlush w v = (flush : List WriteMark) × writes w flush v × (bytes_taken flush ≡ []) × FlushedOnce flush
+
+  -- The flush failed with the error, and the writer took no byte.
+  abbrev pub FailsFlush : O → Error → O → Type 0
+  FailsFlush w e v = (flush : List WriteMark) × writes w flush v × (bytes_taken flush ≡ []) × FailsAfter OnlyWrites flush e
 
   -- The writer took just the bytes of a text, and was flushed after them.
   abbrev pub TakesFlushed : O → List ℕ → O → Type 0
@@ -67,14 +81,14 @@ module _ {O : Type 0} (writes : Runs WriteMark O) where
 
   -- A line was not added, or the sum of the window was not written.
   abbrev pub AddFails : List ℕ → Sums → O → Cause → Sums → O → Type 0
-  AddFails line s w NotUtf8 t v = (line_number (line_text line) ≡ None) × (t ≡ s) × (v ≡ w)
-  AddFails line s w NotANumber t v = (line_number (line_text line) ≡ None) × (t ≡ s) × (v ≡ w)
+  AddFails line s w NotUtf8 t v = (line_number (line_text line) ≡ None) × IsBadLine (line_text line) NotUtf8 × (t ≡ s) × (v ≡ w)
+  AddFails line s w NotANumber t v = (line_number (line_text line) ≡ None) × IsBadLine (line_text line) NotANumber × (t ≡ s) × (v ≡ w)
   AddFails line s w Overflow t v = (x : ℕ) × (line_number (line_text line) ≡ Some x) × (if_even x ≡ x ∷ [])
       × ((l : List ℕ) → HoldsWindow s l → 2 ^ 64 ≤ part_sum l + x) × (v ≡ w)
   AddFails line s w Memory t v = ⊥
   AddFails line s w (Input e) t v = ⊥
   AddFails line s w (Output e) t v = (x : ℕ) × (line_number (line_text line) ≡ Some x) × (added : List ℕ)
-      × TakesPrefix w (text_of_sums added) v × ((l : List ℕ) → HoldsWindow s l → full_sums (l ++ if_even x) ≡ full_sums l ++ added)
+      × FailsTaking w (text_of_sums added) e v × ((l : List ℕ) → HoldsWindow s l → full_sums (l ++ if_even x) ≡ full_sums l ++ added)
 
   -- The output was ended at an error of this cause.
   abbrev pub EndsOutput : Sums → Cause → O → O → Type 0
@@ -85,36 +99,31 @@ module _ {O : Type 0} (writes : Runs WriteMark O) where
   EndsOutput s (Input e) w v = TakesFlush w v
   EndsOutput s (Output e) w v = v ≡ w
 
-  -- It was not, since it failed.
-  abbrev pub EndFails : Sums → Cause → O → O → Type 0
-  EndFails s NotUtf8 w v = (l : List ℕ) → HoldsWindow s l → TakesPrefix w (text_of_sums (last_sums l)) v
-  EndFails s NotANumber w v = (l : List ℕ) → HoldsWindow s l → TakesPrefix w (text_of_sums (last_sums l)) v
-  EndFails s Overflow w v = TakesWholeText w [] v
-  EndFails s Memory w v = TakesWholeText w [] v
-  EndFails s (Input e) w v = TakesWholeText w [] v
-  EndFails s (Output e) w v = ⊥
+  -- It was not, since it failed with the error `e`.
+  abbrev pub EndFails : Sums → Cause → O → Cause → O → Type 0
+  EndFails s NotUtf8 w e v = (l : List ℕ) → HoldsWindow s l → FailsOutput w (text_of_sums (last_sums l)) e v
+  EndFails s NotANumber w e v = (l : List ℕ) → HoldsWindow s l → FailsOutput w (text_of_sums (last_sums l)) e v
+  EndFails s Overflow w e v = FailsOutput w [] e v
+  EndFails s Memory w e v = FailsOutput w [] e v
+  EndFails s (Input _) w e v = FailsOutput w [] e v
+  EndFails s (Output _) w e v = ⊥
 
 -- What the reader gave behind whole lines before the pipeline stopped: bytes of a line, and the error.
 abbrev pub InputFails : Error → List ℕ → List ReadMark → Type 0
 InputFails e text rest = (cut : List ℕ) × Without 10 cut × (rest ≡ bytes cut ++ ReadMark.fault (error_kind e) ∷ [])
 
--- Or a line whose number makes a sum too large.
+-- Or one line that is no number, and the cause says why.
+abbrev pub LineFails : Cause → List ℕ → List ReadMark → Type 0
+LineFails cause text rest = (line : List ℕ) × IsLine line rest × (line_number (line_text line) ≡ None) × IsBadLine (line_text line) cause
+
+-- Or one line whose number makes a sum too large.
 abbrev pub SumFails : List ℕ → List ReadMark → Type 0
-SumFails text rest = (line : List ℕ) × ((rest ≡ bytes line) ⊎ (rest ≡ bytes line ++ ReadMark.end ∷ [])) × (sum : ℕ) × (2 ^ 64 ≤ sum)
+SumFails text rest = (line : List ℕ) × IsLine line rest × (sum : ℕ) × (2 ^ 64 ≤ sum)
     × (window_sums (even_numbers (byte_lines (text ++ line))) ≡ full_sums (even_numbers (byte_lines text)) ++ sum ∷ [])
 
 -- Or bytes of a line for which memory was refused, and maybe an error that says so.
 abbrev pub MemoryFails : List ℕ → List ReadMark → Type 0
 MemoryFails text rest = (cut : List ℕ) × Without 10 cut × ((rest ≡ bytes cut) ⊎ (rest ≡ bytes cut ++ ReadMark.fault OutOfMemory ∷ []))
-
--- The error is one of the output.
-abbrev pub IsOutput : Cause → Type 0
-IsOutput NotUtf8 = ⊥
-IsOutput NotANumber = ⊥
-IsOutput Overflow = ⊥
-IsOutput Memory = ⊥
-IsOutput (Input e) = ⊥
-IsOutput (Output e) = ⊤
 
 -- Why a line was not read: memory was refused, or the input gave this error.
 abbrev pub IsReading : Error → Cause → Type 0
@@ -132,40 +141,43 @@ module _ {T O : Type 0} (reads : Runs ReadMark T) (writes : Runs WriteMark O) wh
     abbrev pub EndsWithText : T → O → T → O → Type 0
     EndsWithText x w y v = (text : List ℕ) × GivesWholeText reads x text y × (first_bad (byte_lines text) ≡ None) × Wrote w (byte_lines text) v
 
-    -- A text was read to its first line that is no number, which has this number.
-    pub record EndsBadly (number : ℕ) (x : T) (w : O) (y : T) (v : O) : Type 0 where
+    -- Whole lines were read, each a number, and then one that is none, for this cause. It is the line with this number.
+    pub record EndsBadly (cause : Cause) (number : ℕ) (x : T) (w : O) (y : T) (v : O) : Type 0 where
       pub text : List ℕ
-      pub before : ℕ
-      pub read : GivesText reads x text y
-      pub first : first_bad (byte_lines text) ≡ Some before
-      pub numbered : number ≡ counted_lines (before + 1)
+      pub rest : List ReadMark
+      pub read : ToldStripped reads x (bytes text ++ rest) y
+      pub whole : EndsInNewline text
+      pub why : LineFails cause text rest
+      pub first : first_bad (byte_lines text) ≡ None
+      pub numbered : number ≡ counted_lines (length (byte_lines text) + 1)
       pub written : Wrote w (byte_lines text) v
 
-    -- Whole lines were read, each a number, and then `rest`, for which `Rest` holds. What is written for them is a prefix
-    -- of what is written for a text that goes on.
+    -- Whole lines were read, each a number, and then `rest`, for which `Rest` holds. It is of the line with this number.
+    -- What is written for the whole lines is a prefix of what is written for a text that goes on.
     pub record EndsEarly (Rest : List ℕ → List ReadMark → Type 0) (number : ℕ) (x : T) (w : O) (y : T) (v : O) : Type 0 where
       pub text : List ℕ
       pub rest : List ReadMark
       pub read : ToldStripped reads x (bytes text ++ rest) y
+      pub whole : EndsInNewline text
       pub why : Rest text rest
       pub first : first_bad (byte_lines text) ≡ None
       pub numbered : number ≡ counted_lines (length (byte_lines text) + 1)
       pub written : Early w (byte_lines text) v
       pub front : (more : List ℕ) → StandsFirst (full_text (byte_lines text)) (sums_text (byte_lines (text ++ more)))
 
-    -- A text was read, and a prefix of what is written for it was taken.
-    abbrev pub EndsUnwritten : T → O → T → O → Type 0
-    EndsUnwritten x w y v = (text : List ℕ) × (rest : List ReadMark) × ToldStripped reads x (bytes text ++ rest) y
-        × TakesPrefix writes w (sums_text (byte_lines text)) v
+    -- A text was read. The writer took a prefix of what is written for it, and then failed with the error.
+    abbrev pub EndsUnwritten : Error → T → O → T → O → Type 0
+    EndsUnwritten e x w y v = (text : List ℕ) × (rest : List ReadMark) × ToldStripped reads x (bytes text ++ rest) y
+        × FailsTaking writes w (sums_text (byte_lines text)) e v
 
     -- The run ended with an error of this cause, at the line with this number.
     abbrev pub EndsByCause : T → O → ℕ → Cause → T → O → Type 0
-    EndsByCause x w number NotUtf8 y v = EndsBadly number x w y v
-    EndsByCause x w number NotANumber y v = EndsBadly number x w y v
+    EndsByCause x w number NotUtf8 y v = EndsBadly NotUtf8 number x w y v
+    EndsByCause x w number NotANumber y v = EndsBadly NotANumber number x w y v
     EndsByCause x w number Overflow y v = EndsEarly SumFails number x w y v
     EndsByCause x w number Memory y v = EndsEarly MemoryFails number x w y v
     EndsByCause x w number (Input e) y v = EndsEarly (InputFails e) number x w y v
-    EndsByCause x w number (Output e) y v = EndsUnwritten x w y v
+    EndsByCause x w number (Output e) y v = EndsUnwritten e x w y v
 
   -- The sums of full windows were written, and the last window is in `s`.
   abbrev pub WroteFull : Sums → O → List (List ℕ) → O → Type 0

@@ -1,4 +1,5 @@
-//! Numbers in lines: the even ones are added up by threes, and each sum is written as a line as soon as it is known.
+//! Numbers in lines: the even ones are added up by threes, and each sum is written as a line. The output comes 64 KiB at
+//! a time, and the rest at the end.
 #![tactic(auto)]
 
 mod fault;

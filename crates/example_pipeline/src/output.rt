@@ -1,7 +1,7 @@
 //! Sums as lines of the output.
-ghost use Rattle.std.specs.Prelude.{IfErr, IfOk, []};
+ghost use Rattle.std.specs.Prelude.{IfErr, IfOk};
 ghost use Rattle.example_pipeline.specs.Pipeline.{sum_line};
-ghost use Rattle.example_pipeline.specs.Runs.{TakesPrefix, TakesWholeText, TakesFlush};
+ghost use Rattle.example_pipeline.specs.Runs.{FailsFlush, FailsTaking, TakesFlush, TakesWholeText};
 
 use futures_lite::AsyncWrite;
 use futures_lite::future::BlockOn;
@@ -18,7 +18,7 @@ pub fn write_sum<R: Wait, O: AsyncWrite>(
     sum: u64,
 ) -> io::Result<()>
     ensures written { IfOk result (λ _. TakesWholeText O.writes output.old (sum_line sum) output.new) }
-    ensures failed { IfErr result (λ _. TakesPrefix O.writes output.old (sum_line sum) output.new) }
+    ensures failed { IfErr result (λ e. FailsTaking O.writes output.old (sum_line sum) e output.new) }
 {
     let mut buffer = Buffer::new();
     match write(on, rt, output, buffer.format(sum).as_bytes()) {
@@ -35,7 +35,7 @@ fn write<R: Wait, O: AsyncWrite>(
     text: &[u8],
 ) -> io::Result<()>
     ensures written { IfOk result (λ _. TakesWholeText O.writes output.old text.now output.new) }
-    ensures failed { IfErr result (λ _. TakesPrefix O.writes output.old text.now output.new) }
+    ensures failed { IfErr result (λ e. FailsTaking O.writes output.old text.now e output.new) }
 {
     match wait_write_all(on, rt, output, text) {
         Ok(written) => written,
@@ -46,7 +46,7 @@ fn write<R: Wait, O: AsyncWrite>(
 /// Flushes.
 pub fn flush<R: Wait, O: AsyncWrite>(on: &mut BlockOn, rt: &R, output: &mut O) -> io::Result<()>
     ensures flushed { IfOk result (λ _. TakesFlush O.writes output.old output.new) }
-    ensures failed { IfErr result (λ _. TakesWholeText O.writes output.old [] output.new) }
+    ensures failed { IfErr result (λ e. FailsFlush O.writes output.old e output.new) }
 {
     match wait_flush(on, rt, output) {
         Ok(flushed) => flushed,

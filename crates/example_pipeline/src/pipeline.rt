@@ -1,8 +1,8 @@
 //! Lines become numbers, numbers become sums, and sums become text.
 ghost use Rattle.std.specs.Prelude.{◌≡◌, ◌≤◌, ◌+◌, ◌++◌, ◌∷◌, ◌^◌, [], IfErr, IfOk, List, option_to_list, ℕ};
 ghost use Rattle.example_pipeline.specs.Pipeline.{HoldsWindow, full_sums, if_even, last_sums, part_sum, text_of_sums};
-ghost use Rattle.example_pipeline.specs.Runs.{AddFails, AddsLines, AddsLine, AddsUpTo, EndFails, EndsOutput, TakesFlush, IsOutput, IsReading, RunStops, SumsWhole};
-ghost use Rattle.example_pipeline.specs.Runs.{TakesFlushed, TakesPrefix, TakesWholeText};
+ghost use Rattle.example_pipeline.specs.Runs.{AddFails, AddsLines, AddsLine, AddsUpTo, EndFails, EndsOutput, IsReading, RunStops, SumsWhole};
+ghost use Rattle.example_pipeline.specs.Runs.{FailsOutput, FailsTaking, TakesFlush, TakesFlushed, TakesWholeText};
 ghost use Rattle.example_pipeline.specs.declared.fault.Cause.TheVariants.{Overflow};
 
 use crate::fault::{Cause, PipelineError};
@@ -21,10 +21,11 @@ use std::sync::Wait;
 /// Reads lines to the end of the input, and writes the sums of windows of three of their even numbers, each as a line,
 /// as soon as the window is full. Then it flushes.
 ///
-/// On `Ok`, just the text of these sums was written (`SumsWhole`). It stops at the first line that is no number, and at
-/// each error (`RunStops`). Before a bad line, the sums of all lines before it were written, that of the last window too.
-/// At an error of the input, an overflow or a refusal of memory, the sums of the full windows were written, which are a
-/// prefix of the text for any input that goes on. Both were flushed. At an error of the output it took a prefix of the text.
+/// On `Ok`, just the text of these sums was written, and then flushed once (`SumsWhole`). It stops at the first line that
+/// is no number, and at each error (`RunStops`). Nothing is read behind that line. Before a bad line, the sums of all lines
+/// before it were written, that of the last window too. At an error of the input, an overflow or a refusal of memory, the
+/// sums of the full windows were written, which are a prefix of the text for any input that goes on. Both were flushed. If
+/// the output fails, it took a prefix of the text, and that failure came last.
 pub fn run<R, T, O>(
     on: &mut BlockOn,
     rt: &R,
@@ -147,7 +148,7 @@ fn close<R: Wait, O: AsyncWrite>(
     error: &PipelineError,
 ) -> Result<(), PipelineError>
     ensures closed { IfOk result (λ _. EndsOutput O.writes sums.now error.now.cause output.old output.new) }
-    ensures failed { IfErr result (λ e. IsOutput e.cause × EndFails O.writes sums.now error.now.cause output.old output.new) }
+    ensures failed { IfErr result (λ e. EndFails O.writes sums.now error.now.cause output.old e.cause output.new) }
 {
     match &error.cause {
         Cause::NotUtf8 | Cause::NotANumber => finish(on, rt, output, sums, error.line),
@@ -168,8 +169,8 @@ fn finish<R: Wait, O: AsyncWrite>(
 ) -> Result<(), PipelineError>
     ensures written { IfOk result (λ _. (l : List ℕ) → HoldsWindow sums.now l
         → TakesFlushed O.writes output.old (text_of_sums (last_sums l)) output.new) }
-    ensures failed { IfErr result (λ e. IsOutput e.cause × ((l : List ℕ) → HoldsWindow sums.now l
-        → TakesPrefix O.writes output.old (text_of_sums (last_sums l)) output.new)) }
+    ensures failed { IfErr result (λ e. (l : List ℕ) → HoldsWindow sums.now l
+        → FailsOutput O.writes output.old (text_of_sums (last_sums l)) e.cause output.new) }
 {
     match write_last(on, rt, output, sums) {
         Ok(()) => finish_early(on, rt, output, line),
@@ -189,8 +190,8 @@ fn write_last<R: Wait, O: AsyncWrite>(
 ) -> io::Result<()>
     ensures written { IfOk result (λ _. (l : List ℕ) → HoldsWindow sums.now l
         → TakesWholeText O.writes output.old (text_of_sums (last_sums l)) output.new) }
-    ensures failed { IfErr result (λ _. (l : List ℕ) → HoldsWindow sums.now l
-        → TakesPrefix O.writes output.old (text_of_sums (last_sums l)) output.new) }
+    ensures failed { IfErr result (λ e. (l : List ℕ) → HoldsWindow sums.now l
+        → FailsTaking O.writes output.old (text_of_sums (last_sums l)) e output.new) }
 {
     match sums.last() {
         Some(sum) => write_sum(on, rt, output, sum),
@@ -206,7 +207,7 @@ fn finish_early<R: Wait, O: AsyncWrite>(
     line: u64,
 ) -> Result<(), PipelineError>
     ensures flushed { IfOk result (λ _. TakesFlush O.writes output.old output.new) }
-    ensures failed { IfErr result (λ e. IsOutput e.cause × TakesWholeText O.writes output.old [] output.new) }
+    ensures failed { IfErr result (λ e. FailsOutput O.writes output.old [] e.cause output.new) }
 {
     match flush(on, rt, output) {
         Ok(()) => Ok(()),

@@ -13,7 +13,7 @@ returns-in-Ok-clause-stopped g c =
     on_error c.finish.result
     (λ e h. finish_whole_fails g.T.ReadSpec.reads g.O.WriteSpec.writes g.T.ReadSpec.read_laws g.O.WriteSpec.write_laws c.args.reader.now
     c.add_lines.new.reader c.args.output.now c.add_lines.new.output c.finish.new.output c.add_lines.new.sums e.cause e.line
-    c.in-Ok.ensures.whole (λ l held. (h.0, h.1 l held)))
+    c.in-Ok.ensures.whole h)
     c.finish.ensures.failed
 
 pub returns-in-Ok-close-clause-stopped : goal.returns-in-Ok-close-clause-stopped
@@ -26,5 +26,4 @@ pub returns-in-Err-close-clause-stopped : goal.returns-in-Err-close-clause-stopp
 returns-in-Err-close-clause-stopped g c =
     close_fails g.T.ReadSpec.reads g.O.WriteSpec.writes g.T.ReadSpec.read_laws g.O.WriteSpec.write_laws c.args.reader.now
     c.add_lines.new.reader c.args.output.now c.add_lines.new.output c.close.new.output c.add_lines.new.sums c.in-Err.e.cause
-    c.in-Err-close.failed.cause c.in-Err.e.line c.in-Err-close.failed.line c.in-Err.ensures.stopped c.in-Err-close.ensures.failed.0
-    c.in-Err-close.ensures.failed.1
+    c.in-Err-close.failed.cause c.in-Err.e.line c.in-Err-close.failed.line c.in-Err.ensures.stopped c.in-Err-close.ensures.failed
