@@ -12,10 +12,11 @@ use Rattle.futures_lite.specs.Readers.{ToldStripped}
 use Rattle.example_pipeline.proofs.Lines.{AllNumbers, OneLine, evens_more, lines_more, none_bad, numbers_more, text_front}
 use Rattle.example_pipeline.proofs.Lines.{texts_both, window_both}
 use Rattle.example_pipeline.proofs.Taken.{fails_more, fails_sooner, flush_fails, text_more}
-use Rattle.example_pipeline.specs.Pipeline.{HoldsWindow, IsBadLine, Passes, even_numbers, full_sums, full_text, if_even, last_sums, line_number, line_text, sum_line}
-use Rattle.example_pipeline.specs.Pipeline.{sums_text, text_of_sums}
-use Rattle.example_pipeline.specs.Runs.{AddFails, AddsLines, AddsLine, EndFails, EndsOutput, EndsBadly, EndsByCause, EndsEarly, EndsUnwritten, FailsOutput, FailsTaking, FailsWithin, TakesFlush}
-use Rattle.example_pipeline.specs.Runs.{InputFails, IsReading, MemoryFails, GivesWholeText, GivesLine, IsLine, SumFails, SumsWhole}
+use Rattle.example_pipeline.specs.Pipeline.{HoldsWindow, IsBadLine, SumPasses, even_numbers, full_sums, full_text, if_even, last_sums, line_number}
+use Rattle.example_pipeline.specs.Pipeline.{line_text, sum_line, sums_text, text_of_sums}
+use Rattle.example_pipeline.specs.Runs.{AddFails, AddsLines, AddsLine, EndFails, EndsOutput, EndsBadly, EndsByCause, EndsEarly, EndsUnwritten}
+use Rattle.example_pipeline.specs.Runs.{FailsOutput, FailsTaking, FailsWithin, TakesFlush}
+use Rattle.example_pipeline.specs.Runs.{InputFails, IsReading, MemoryFails, GivesWholeText, GivesLine, LineRead, SumFails, SumsWhole}
 use Rattle.example_pipeline.specs.Runs.{CutAtLine, EndsInNewline, TakesFlushed, TakesWholeText, WroteAll, WroteEarly, WroteFull, WroteSome, counted_lines}
 use Rattle.example_pipeline.specs.declared.fault.Cause.{Cause}
 use Rattle.example_pipeline.specs.declared.fault.Cause.TheVariants.{Input, Memory, NotANumber, NotUtf8, Output, Overflow}
@@ -61,7 +62,7 @@ module _ {T O : Type 0} (reads : Runs ReadMark T) (writes : Runs WriteMark O) (l
 
   -- What stands behind the whole lines, as marks.
   rest_told : (x y z : T) (text line : List ℕ) (whole : Bool) → 0 < length line → ToldStripped reads x (bytes text) y
-      → GivesLine reads y line whole z → (rest : List ReadMark) × ToldStripped reads x (bytes text ++ rest) z × IsLine line rest
+      → GivesLine reads y line whole z → (rest : List ReadMark) × ToldStripped reads x (bytes text ++ rest) z × LineRead line rest
   rest_told x y z text line true long h k =
       (bytes line, told_follow laws x y z (bytes text) (bytes line) h k.0, inl (k.1.0, k.1.1, k.1.2, refl))
   rest_told x y z text line false long h k = (
@@ -408,6 +409,6 @@ module _ {O : Type 0} (writes : Runs WriteMark O) (rules : MarkLaws writes) (lin
         → AddFails writes line s w (Output error) t v
     add_unwritten sum error f h = (x, number_is, sum ∷ [], rw (line_one sum) h, λ l k. (rw f at (step l k)).1)
 
-  pub add_large : (cause : Cause) → (cause ≡ Overflow) × (if_even x ≡ x ∷ []) × ((l : List ℕ) → HoldsWindow s l → Passes l x)
+  pub add_large : (cause : Cause) → (cause ≡ Overflow) × (if_even x ≡ x ∷ []) × ((l : List ℕ) → HoldsWindow s l → SumPasses l x)
       → AddFails writes line s w cause t w
   add_large cause h = rw h.0 (x, number_is, h.1, h.2, refl)

@@ -69,8 +69,8 @@ part_sum (a ∷ b ∷ []) = a + b
 part_sum (a ∷ b ∷ c ∷ xs) = part_sum xs
 
 -- The sum of the last window, which is not full, fits 64 bits. With this number it passes them.
-abbrev pub Passes : List ℕ → ℕ → Type 0
-Passes l x = (part_sum l < 2 ^ 64) × (2 ^ 64 ≤ part_sum l + x)
+abbrev pub SumPasses : List ℕ → ℕ → Type 0
+SumPasses l x = (part_sum l < 2 ^ 64) × (2 ^ 64 ≤ part_sum l + x)
 
 -- The sum of the last window, if it has a number and is not full.
 abbrev pub last_sums : List ℕ → List ℕ

@@ -8,7 +8,7 @@ use Rattle.futures_lite.specs.Writers.{FailsAfter, FlushedOnce, OnlyWrites, Take
 use Rattle.std.specs.IoError.{error_kind}
 use Rattle.std.specs.declared.io.Error.{Error}
 use Rattle.std.specs.declared.io.ErrorKind.TheVariants.{OutOfMemory}
-use Rattle.example_pipeline.specs.Pipeline.{HoldsWindow, IsBadLine, Passes, even_numbers, first_bad, full_sums, full_text, if_even, last_sums, line_number}
+use Rattle.example_pipeline.specs.Pipeline.{HoldsWindow, IsBadLine, SumPasses, even_numbers, first_bad, full_sums, full_text, if_even, last_sums, line_number}
 use Rattle.example_pipeline.specs.Pipeline.{line_text, sums_text, text_of_sums}
 use Rattle.example_pipeline.specs.declared.fault.Cause.{Cause}
 use Rattle.example_pipeline.specs.declared.fault.Cause.TheVariants.{Input, Memory, NotANumber, NotUtf8, Output, Overflow}
@@ -20,8 +20,8 @@ abbrev pub EndsInNewline : List ℕ → Type 0
 EndsInNewline text = (text ≡ []) ⊎ ((front : List ℕ) × (text ≡ front ++ 10 ∷ []))
 
 -- The bytes of a line were read. If it has no newline, the end of file came behind it.
-abbrev pub IsLine : List ℕ → List ReadMark → Type 0
-IsLine line rest = ((front : List ℕ) × Without 10 front × (line ≡ front ++ 10 ∷ []) × (rest ≡ bytes line))
+abbrev pub LineRead : List ℕ → List ReadMark → Type 0
+LineRead line rest = ((front : List ℕ) × Without 10 front × (line ≡ front ++ 10 ∷ []) × (rest ≡ bytes line))
     ⊎ (Without 10 line × (0 < length line) × (rest ≡ bytes line ++ ReadMark.end ∷ []))
 
 -- The text is whole lines, or the end of file came behind it.
@@ -84,7 +84,7 @@ module _ {O : Type 0} (writes : Runs WriteMark O) where
   AddFails line s w NotUtf8 t v = (line_number (line_text line) ≡ None) × IsBadLine (line_text line) NotUtf8 × (t ≡ s) × (v ≡ w)
   AddFails line s w NotANumber t v = (line_number (line_text line) ≡ None) × IsBadLine (line_text line) NotANumber × (t ≡ s) × (v ≡ w)
   AddFails line s w Overflow t v = (x : ℕ) × (line_number (line_text line) ≡ Some x) × (if_even x ≡ x ∷ [])
-      × ((l : List ℕ) → HoldsWindow s l → Passes l x) × (v ≡ w)
+      × ((l : List ℕ) → HoldsWindow s l → SumPasses l x) × (v ≡ w)
   AddFails line s w Memory t v = ⊥
   AddFails line s w (Input e) t v = ⊥
   AddFails line s w (Output e) t v = (x : ℕ) × (line_number (line_text line) ≡ Some x) × (added : List ℕ)
@@ -114,12 +114,12 @@ InputFails e text rest = (cut : List ℕ) × Without 10 cut × (rest ≡ bytes c
 
 -- Or one line that is no number, and the cause says why.
 abbrev pub LineFails : Cause → List ℕ → List ReadMark → Type 0
-LineFails cause text rest = (line : List ℕ) × IsLine line rest × (line_number (line_text line) ≡ None) × IsBadLine (line_text line) cause
+LineFails cause text rest = (line : List ℕ) × LineRead line rest × (line_number (line_text line) ≡ None) × IsBadLine (line_text line) cause
 
 -- Or one line whose number is even, and makes the sum of its window too large.
 abbrev pub SumFails : List ℕ → List ReadMark → Type 0
-SumFails text rest = (line : List ℕ) × IsLine line rest × (x : ℕ) × (line_number (line_text line) ≡ Some x) × (if_even x ≡ x ∷ [])
-    × Passes (even_numbers (byte_lines text)) x
+SumFails text rest = (line : List ℕ) × LineRead line rest × (x : ℕ) × (line_number (line_text line) ≡ Some x) × (if_even x ≡ x ∷ [])
+    × SumPasses (even_numbers (byte_lines text)) x
 
 -- Or bytes of a line for which memory was refused, and maybe an error that says so.
 abbrev pub MemoryFails : List ℕ → List ReadMark → Type 0
