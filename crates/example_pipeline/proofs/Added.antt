@@ -1,5 +1,5 @@
 -- The steps of adding lines, and how a run ends.
-use Rattle.std.proofs.Common.{◌≡◌, ℕ, ◌+◌, ◌-◌, ◌^◌, ◌<◌, ◌≤◌, ◌∙◌, Bool, true, false, inl, inr, List, [], ◌∷◌, ◌++◌, Some, None, ap, append-nil, append_assoc}
+use Rattle.std.proofs.Common.{◌≡◌, ℕ, ◌+◌, ◌-◌, ◌^◌, ◌<◌, ◌∙◌, Bool, true, false, inl, inr, List, [], ◌∷◌, ◌++◌, Some, None, ap, append-nil, append_assoc}
 use Rattle.std.proofs.Common.{arith, length, refl, sym, min, length-append, Result, Ok, Err, Option, option_to_list, IfOk, IfErr, decimal}
 use Rattle.std.proofs.lemmas.List.{map-append}
 use Rattle.std.specs.IoError.{error_kind}
@@ -10,13 +10,14 @@ use Rattle.futures_lite.specs.Marks.{ReadMark, WriteMark, bytes}
 use Rattle.futures_lite.specs.Own.{MarkLaws, Runs}
 use Rattle.futures_lite.specs.Readers.{ToldStripped}
 use Rattle.example_pipeline.proofs.Lines.{AllNumbers, OneLine, evens_more, lines_more, none_bad, numbers_more, text_front}
-use Rattle.example_pipeline.proofs.Lines.{texts_both, window_both, window_last}
+use Rattle.example_pipeline.proofs.Lines.{texts_both, window_both}
 use Rattle.example_pipeline.proofs.Taken.{fails_more, fails_sooner, flush_fails, text_more}
-use Rattle.example_pipeline.specs.Pipeline.{HoldsWindow, IsBadLine, even_numbers, full_sums, full_text, if_even, last_sums, line_number, line_text, sum_line}
-use Rattle.example_pipeline.specs.Pipeline.{part_sum, sums_text, text_of_sums, window_sums}
-use Rattle.example_pipeline.specs.Runs.{AddFails, AddsLines, AddsLine, EndFails, EndsOutput, EndsBadly, EndsByCause, EndsEarly, EndsUnwritten, FailsOutput, FailsTaking, FailsWithin, TakesFlush}
-use Rattle.example_pipeline.specs.Runs.{InputFails, IsReading, MemoryFails, GivesWholeText, GivesLine, GivesText, IsLine, SumFails, SumsWhole}
-use Rattle.example_pipeline.specs.Runs.{EndsInNewline, TakesFlushed, TakesWholeText, WroteAll, WroteEarly, WroteFull, WroteSome, counted_lines}
+use Rattle.example_pipeline.specs.Pipeline.{HoldsWindow, IsBadLine, SumPasses, even_numbers, full_sums, full_text, if_even, last_sums, line_number}
+use Rattle.example_pipeline.specs.Pipeline.{line_text, sum_line, sums_text, text_of_sums}
+use Rattle.example_pipeline.specs.Runs.{AddFails, AddsLines, AddsLine, EndFails, EndsOutput, EndsBadly, EndsByCause, EndsEarly, EndsUnwritten}
+use Rattle.example_pipeline.specs.Runs.{FailsOutput, FailsTaking, FailsWithin, TakesFlush}
+use Rattle.example_pipeline.specs.Runs.{InputFails, IsReading, MemoryFails, GivesWholeText, GivesLine, LineRead, SumFails, SumsWhole}
+use Rattle.example_pipeline.specs.Runs.{CutAtLine, EndsInNewline, TakesFlushed, TakesWholeText, WroteAll, WroteEarly, WroteFull, WroteSome, counted_lines}
 use Rattle.example_pipeline.specs.declared.fault.Cause.{Cause}
 use Rattle.example_pipeline.specs.declared.fault.Cause.TheVariants.{Input, Memory, NotANumber, NotUtf8, Output, Overflow}
 use Rattle.example_pipeline.specs.declared.sums.Sums.{Sums}
@@ -50,18 +51,18 @@ module _ {T O : Type 0} (reads : Runs ReadMark T) (writes : Runs WriteMark O) (l
       rw (map-append ReadMark.byte text line, append_assoc (bytes text) (bytes line) (ReadMark.end ∷ []))
       (told_follow laws x y z (bytes text) (bytes line ++ ReadMark.end ∷ []) h k)
 
-  text_told : (x y z : T) (text line : List ℕ) (whole : Bool) → ToldStripped reads x (bytes text) y → GivesLine reads y line whole z
-      → GivesText reads x (text ++ line) z
-  text_told x y z text line true h k = inl (more_told x y z text line h k.0)
-  text_told x y z text line false h k = inr (last_told x y z text line h k.0)
-
-  told_rest : (x z : T) (text : List ℕ) → GivesText reads x text z → (rest : List ReadMark) × ToldStripped reads x (bytes text ++ rest) z
-  told_rest x z text (inl h) = ([], rw (append-nil (bytes text)) h)
-  told_rest x z text (inr h) = (ReadMark.end ∷ [], h)
+  line_told : (x y z : T) (text line : List ℕ) (whole : Bool) → ToldStripped reads x (bytes text) y → GivesLine reads y line whole z
+      → (rest : List ReadMark) × ToldStripped reads x (bytes (text ++ line) ++ rest) z × CutAtLine (text ++ line) rest
+  line_told x y z text line true h k = (
+    [],
+    rw (append-nil (bytes (text ++ line))) (more_told x y z text line h k.0),
+    inl (inr (text ++ k.1.0, rw k.1.2 (sym (append_assoc text k.1.0 (10 ∷ []))))),
+  )
+  line_told x y z text line false h k = (ReadMark.end ∷ [], last_told x y z text line h k.0, inr refl)
 
   -- What stands behind the whole lines, as marks.
   rest_told : (x y z : T) (text line : List ℕ) (whole : Bool) → 0 < length line → ToldStripped reads x (bytes text) y
-      → GivesLine reads y line whole z → (rest : List ReadMark) × ToldStripped reads x (bytes text ++ rest) z × IsLine line rest
+      → GivesLine reads y line whole z → (rest : List ReadMark) × ToldStripped reads x (bytes text ++ rest) z × LineRead line rest
   rest_told x y z text line true long h k =
       (bytes line, told_follow laws x y z (bytes text) (bytes line) h k.0, inl (k.1.0, k.1.1, k.1.2, refl))
   rest_told x y z text line false long h k = (
@@ -163,19 +164,12 @@ module _ {T O : Type 0} (reads : Runs ReadMark T) (writes : Runs WriteMark O) (l
     overflow : (h : AddFails writes line s u Overflow t v)
         → EndsEarly reads writes (WroteFull reads writes t) (WroteSome reads writes) SumFails (min (n + 1) (2 ^ 64 - 1)) x w z v
     overflow h =
-        let told = rest_told x y z so_far.text line whole long so_far.told read in
-        let evens = evens_are h.0 h.1 ∙ ap (λ k. even_numbers (byte_lines so_far.text) ++ k) h.2 in record {
+        let told = rest_told x y z so_far.text line whole long so_far.told read in record {
           text = so_far.text;
           rest = told.0;
           read = told.1;
           whole = so_far.whole;
-          why = (
-            line,
-            told.2,
-            part_sum (even_numbers (byte_lines so_far.text)) + h.0,
-            h.3 (even_numbers (byte_lines so_far.text)) so_far.holds,
-            ap window_sums evens ∙ window_last (even_numbers (byte_lines so_far.text)) h.0,
-          );
+          why = (line, told.2, h.0, h.1, h.2, h.3 (even_numbers (byte_lines so_far.text)) so_far.holds);
           first = none_bad (byte_lines so_far.text) so_far.good;
           numbered = counted_next n (length (byte_lines so_far.text)) so_far.numbered;
           written = rw h.4 so_far.wrote;
@@ -189,8 +183,8 @@ module _ {T O : Type 0} (reads : Runs ReadMark T) (writes : Runs WriteMark O) (l
     unwritten error a added e h step =
         let all = fails_more writes rules w u v (full_text (byte_lines so_far.text)) (text_of_sums added) error so_far.wrote h in
         let front : FailsTaking writes w (full_text (byte_lines (so_far.text ++ line))) error v = rw (full_are a added e step) all in
-        let told = told_rest x z (so_far.text ++ line) (text_told x y z so_far.text line whole so_far.told read) in
-        (so_far.text ++ line, told.0, told.1, some_of_all w v (byte_lines (so_far.text ++ line)) error front)
+        let told = line_told x y z so_far.text line whole so_far.told read in
+        (so_far.text ++ line, told.0, told.1, told.2, some_of_all w v (byte_lines (so_far.text ++ line)) error front)
 
     -- A line was not added.
     pub stop_adding : (e : Cause) → AddFails writes line s u e t v
@@ -274,8 +268,7 @@ module _ {T O : Type 0} (reads : Runs ReadMark T) (writes : Runs WriteMark O) (l
       → ((l : List ℕ) → HoldsWindow s l → FailsOutput writes u (text_of_sums (last_sums l)) e v)
       → EndsByCause reads writes (WroteAll reads writes) (WroteEarly reads writes) x w number e y v
   finish_whole_fails (Output e) number h k =
-      let told = told_rest reads writes laws rules x y h.0 (inr h.1) in
-      (h.0, told.0, told.1, some_wrote_all (byte_lines h.0) e h.3 k)
+      (h.0, ReadMark.end ∷ [], h.1, inr refl, some_wrote_all (byte_lines h.0) e h.3 k)
   finish_whole_fails NotUtf8 number h k = absurd (k (even_numbers (byte_lines h.0)) h.3.1)
   finish_whole_fails NotANumber number h k = absurd (k (even_numbers (byte_lines h.0)) h.3.1)
   finish_whole_fails Overflow number h k = absurd (k (even_numbers (byte_lines h.0)) h.3.1)
@@ -300,7 +293,7 @@ module _ {T O : Type 0} (reads : Runs ReadMark T) (writes : Runs WriteMark O) (l
   pub finish_bad_fails : (c e : Cause) (n number : ℕ) → EndsBadly reads writes (WroteFull reads writes s) (WroteSome reads writes) c n x w y u
       → ((l : List ℕ) → HoldsWindow s l → FailsOutput writes u (text_of_sums (last_sums l)) e v)
       → EndsByCause reads writes (WroteAll reads writes) (WroteEarly reads writes) x w number e y v
-  finish_bad_fails c (Output e) n number h k = (h.text, h.rest, h.read, some_wrote_all (byte_lines h.text) e h.written k)
+  finish_bad_fails c (Output e) n number h k = (h.text, h.rest, h.read, inl h.whole, some_wrote_all (byte_lines h.text) e h.written k)
   finish_bad_fails c NotUtf8 n number h k = absurd (k (even_numbers (byte_lines h.text)) h.written.1)
   finish_bad_fails c NotANumber n number h k = absurd (k (even_numbers (byte_lines h.text)) h.written.1)
   finish_bad_fails c Overflow n number h k = absurd (k (even_numbers (byte_lines h.text)) h.written.1)
@@ -330,6 +323,7 @@ module _ {T O : Type 0} (reads : Runs ReadMark T) (writes : Runs WriteMark O) (l
     h.text,
     h.rest,
     h.read,
+    inl h.whole,
     some_of_all reads writes laws rules w v (byte_lines h.text) e
         (flush_fails writes rules w u v (full_text (byte_lines h.text)) (Output e) h.written k),
   )
@@ -415,6 +409,6 @@ module _ {O : Type 0} (writes : Runs WriteMark O) (rules : MarkLaws writes) (lin
         → AddFails writes line s w (Output error) t v
     add_unwritten sum error f h = (x, number_is, sum ∷ [], rw (line_one sum) h, λ l k. (rw f at (step l k)).1)
 
-  pub add_large : (cause : Cause) → (cause ≡ Overflow) × (if_even x ≡ x ∷ []) × ((l : List ℕ) → HoldsWindow s l → 2 ^ 64 ≤ part_sum l + x)
+  pub add_large : (cause : Cause) → (cause ≡ Overflow) × (if_even x ≡ x ∷ []) × ((l : List ℕ) → HoldsWindow s l → SumPasses l x)
       → AddFails writes line s w cause t w
   add_large cause h = rw h.0 (x, number_is, h.1, h.2, refl)

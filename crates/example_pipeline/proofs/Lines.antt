@@ -14,7 +14,7 @@ use Rattle.futures_lite.specs.Lists.{map_while}
 use Rattle.futures_lite.specs.Lines.{byte_lines, last_piece, pieces_from, without_return}
 use Rattle.futures_lite.specs.Readers.{StandsFirst, Without}
 use Rattle.example_pipeline.specs.Pipeline.{even_numbers, first_bad, full_sums, full_text, if_even, last_sums, line_number, line_text}
-use Rattle.example_pipeline.specs.Pipeline.{part_sum, sum_line, sums_text, text_of_sums, window_sums}
+use Rattle.example_pipeline.specs.Pipeline.{sum_line, sums_text, text_of_sums, window_sums}
 use Rattle.example_pipeline.specs.Runs.{EndsInNewline}
 
 -- Windows.
@@ -23,12 +23,6 @@ window_both [] = refl
 window_both (a ∷ []) = refl
 window_both (a ∷ b ∷ []) = refl
 window_both (a ∷ b ∷ c ∷ l) = ap (λ k. (a + b + c) ∷ k) (window_both l)
-
-pub window_last : (l : List ℕ) (x : ℕ) → window_sums (l ++ x ∷ []) ≡ full_sums l ++ (part_sum l + x) ∷ []
-window_last [] x = ap (λ k. k ∷ []) (omega arith)
-window_last (a ∷ []) x = refl
-window_last (a ∷ b ∷ []) x = refl
-window_last (a ∷ b ∷ c ∷ l) x = ap (λ k. (a + b + c) ∷ k) (window_last l x)
 
 pub window_front : (l m : List ℕ) → (rest : List ℕ) × (window_sums (l ++ m) ≡ full_sums l ++ rest)
 window_front [] m = (window_sums m, refl)

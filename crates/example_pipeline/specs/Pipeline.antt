@@ -1,6 +1,6 @@
 -- What the pipeline makes of lines: the even ones of their numbers, the sums of windows of three, and the text of
 -- those.
-use Rattle.std.specs.Prelude.{◌≡◌, ◌==◌, ℕ, ◌+◌, ◌-◌, ◌^◌, ◌%◌, ◌&&◌, List, [], ◌∷◌, ◌++◌, Option, Some, None, decimal}
+use Rattle.std.specs.Prelude.{◌≡◌, ◌==◌, ◌<◌, ◌≤◌, ℕ, ◌+◌, ◌-◌, ◌^◌, ◌%◌, ◌&&◌, List, [], ◌∷◌, ◌++◌, Option, Some, None, decimal}
 use Rattle.std.specs.Prelude.{IsUtf8, drop, if◌then◌else◌, is_none, flat_map, length, nat_lt, take}
 use Rattle.std.specs.List.{filter, position}
 use Rattle.std.specs.Str.{all_ascii_digits, bytes_eq}
@@ -67,6 +67,10 @@ part_sum [] = 0
 part_sum (a ∷ []) = a
 part_sum (a ∷ b ∷ []) = a + b
 part_sum (a ∷ b ∷ c ∷ xs) = part_sum xs
+
+-- The sum of the last window, which is not full, fits 64 bits. With this number it passes them.
+abbrev pub SumPasses : List ℕ → ℕ → Type 0
+SumPasses l x = (part_sum l < 2 ^ 64) × (2 ^ 64 ≤ part_sum l + x)
 
 -- The sum of the last window, if it has a number and is not full.
 abbrev pub last_sums : List ℕ → List ℕ

@@ -1,5 +1,5 @@
 -- What the pipeline reads and writes, and where it stops.
-use Rattle.std.specs.Prelude.{◌≡◌, ◌≢◌, ◌⊎◌, ◌≤◌, ◌<◌, ◌+◌, ◌-◌, ◌^◌, ℕ, Bool, true, false, List, [], ◌∷◌, ◌++◌, None, Some, length, min}
+use Rattle.std.specs.Prelude.{◌≡◌, ◌≢◌, ◌⊎◌, ◌<◌, ◌+◌, ◌-◌, ◌^◌, ℕ, Bool, true, false, List, [], ◌∷◌, ◌++◌, None, Some, length, min}
 use Rattle.futures_lite.specs.Lines.{byte_lines}
 use Rattle.futures_lite.specs.Marks.{ReadMark, WriteMark, bytes, bytes_taken}
 use Rattle.futures_lite.specs.Own.{Runs}
@@ -8,8 +8,8 @@ use Rattle.futures_lite.specs.Writers.{FailsAfter, FlushedOnce, OnlyWrites, Take
 use Rattle.std.specs.IoError.{error_kind}
 use Rattle.std.specs.declared.io.Error.{Error}
 use Rattle.std.specs.declared.io.ErrorKind.TheVariants.{OutOfMemory}
-use Rattle.example_pipeline.specs.Pipeline.{HoldsWindow, IsBadLine, even_numbers, first_bad, full_sums, full_text, if_even, last_sums, line_number, line_text}
-use Rattle.example_pipeline.specs.Pipeline.{part_sum, sums_text, text_of_sums, window_sums}
+use Rattle.example_pipeline.specs.Pipeline.{HoldsWindow, IsBadLine, SumPasses, even_numbers, first_bad, full_sums, full_text, if_even, last_sums, line_number}
+use Rattle.example_pipeline.specs.Pipeline.{line_text, sums_text, text_of_sums}
 use Rattle.example_pipeline.specs.declared.fault.Cause.{Cause}
 use Rattle.example_pipeline.specs.declared.fault.Cause.TheVariants.{Input, Memory, NotANumber, NotUtf8, Output, Overflow}
 use Rattle.example_pipeline.specs.declared.fault.PipelineError.{PipelineError}
@@ -20,9 +20,13 @@ abbrev pub EndsInNewline : List ℕ → Type 0
 EndsInNewline text = (text ≡ []) ⊎ ((front : List ℕ) × (text ≡ front ++ 10 ∷ []))
 
 -- The bytes of a line were read. If it has no newline, the end of file came behind it.
-abbrev pub IsLine : List ℕ → List ReadMark → Type 0
-IsLine line rest = ((front : List ℕ) × Without 10 front × (line ≡ front ++ 10 ∷ []) × (rest ≡ bytes line))
+abbrev pub LineRead : List ℕ → List ReadMark → Type 0
+LineRead line rest = ((front : List ℕ) × Without 10 front × (line ≡ front ++ 10 ∷ []) × (rest ≡ bytes line))
     ⊎ (Without 10 line × (0 < length line) × (rest ≡ bytes line ++ ReadMark.end ∷ []))
+
+-- The text is whole lines, or the end of file came behind it.
+abbrev pub CutAtLine : List ℕ → List ReadMark → Type 0
+CutAtLine text rest = EndsInNewline text ⊎ (rest ≡ ReadMark.end ∷ [])
 
 -- So many lines, as a number of 64 bits counts them.
 abbrev pub counted_lines : ℕ → ℕ
@@ -32,10 +36,6 @@ module _ {T : Type 0} (reads : Runs ReadMark T) where
   -- The reader gave just the bytes of a text, and then the end of file.
   abbrev pub GivesWholeText : T → List ℕ → T → Type 0
   GivesWholeText x text y = ToldStripped reads x (bytes text ++ ReadMark.end ∷ []) y
-
-  -- The reader gave just the bytes of a text, and maybe the end of file.
-  abbrev pub GivesText : T → List ℕ → T → Type 0
-  GivesText x text y = ToldStripped reads x (bytes text) y ⊎ GivesWholeText x text y
 
   -- The reader gave the bytes of a line. If it has no newline, the end of file came behind it.
   abbrev pub GivesLine : T → List ℕ → Bool → T → Type 0
@@ -84,7 +84,7 @@ module _ {O : Type 0} (writes : Runs WriteMark O) where
   AddFails line s w NotUtf8 t v = (line_number (line_text line) ≡ None) × IsBadLine (line_text line) NotUtf8 × (t ≡ s) × (v ≡ w)
   AddFails line s w NotANumber t v = (line_number (line_text line) ≡ None) × IsBadLine (line_text line) NotANumber × (t ≡ s) × (v ≡ w)
   AddFails line s w Overflow t v = (x : ℕ) × (line_number (line_text line) ≡ Some x) × (if_even x ≡ x ∷ [])
-      × ((l : List ℕ) → HoldsWindow s l → 2 ^ 64 ≤ part_sum l + x) × (v ≡ w)
+      × ((l : List ℕ) → HoldsWindow s l → SumPasses l x) × (v ≡ w)
   AddFails line s w Memory t v = ⊥
   AddFails line s w (Input e) t v = ⊥
   AddFails line s w (Output e) t v = (x : ℕ) × (line_number (line_text line) ≡ Some x) × (added : List ℕ)
@@ -114,12 +114,12 @@ InputFails e text rest = (cut : List ℕ) × Without 10 cut × (rest ≡ bytes c
 
 -- Or one line that is no number, and the cause says why.
 abbrev pub LineFails : Cause → List ℕ → List ReadMark → Type 0
-LineFails cause text rest = (line : List ℕ) × IsLine line rest × (line_number (line_text line) ≡ None) × IsBadLine (line_text line) cause
+LineFails cause text rest = (line : List ℕ) × LineRead line rest × (line_number (line_text line) ≡ None) × IsBadLine (line_text line) cause
 
--- Or one line whose number makes a sum too large.
+-- Or one line whose number is even, and makes the sum of its window too large.
 abbrev pub SumFails : List ℕ → List ReadMark → Type 0
-SumFails text rest = (line : List ℕ) × IsLine line rest × (sum : ℕ) × (2 ^ 64 ≤ sum)
-    × (window_sums (even_numbers (byte_lines (text ++ line))) ≡ full_sums (even_numbers (byte_lines text)) ++ sum ∷ [])
+SumFails text rest = (line : List ℕ) × LineRead line rest × (x : ℕ) × (line_number (line_text line) ≡ Some x) × (if_even x ≡ x ∷ [])
+    × SumPasses (even_numbers (byte_lines text)) x
 
 -- Or bytes of a line for which memory was refused, and maybe an error that says so.
 abbrev pub MemoryFails : List ℕ → List ReadMark → Type 0
@@ -165,10 +165,10 @@ module _ {T O : Type 0} (reads : Runs ReadMark T) (writes : Runs WriteMark O) wh
       pub written : Early w (byte_lines text) v
       pub front : (more : List ℕ) → StandsFirst (full_text (byte_lines text)) (sums_text (byte_lines (text ++ more)))
 
-    -- A text was read. The writer took a prefix of what is written for it, and then failed with the error.
+    -- Lines were read. The writer took a prefix of what is written for them, and then failed with the error.
     abbrev pub EndsUnwritten : Error → T → O → T → O → Type 0
     EndsUnwritten e x w y v = (text : List ℕ) × (rest : List ReadMark) × ToldStripped reads x (bytes text ++ rest) y
-        × FailsTaking writes w (sums_text (byte_lines text)) e v
+        × CutAtLine text rest × FailsTaking writes w (sums_text (byte_lines text)) e v
 
     -- The run ended with an error of this cause, at the line with this number.
     abbrev pub EndsByCause : T → O → ℕ → Cause → T → O → Type 0

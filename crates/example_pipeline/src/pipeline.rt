@@ -1,6 +1,6 @@
 //! Lines become numbers, numbers become sums, and sums become text.
-ghost use Rattle.std.specs.Prelude.{◌≡◌, ◌≤◌, ◌+◌, ◌++◌, ◌∷◌, ◌^◌, [], IfErr, IfOk, List, option_to_list, ℕ};
-ghost use Rattle.example_pipeline.specs.Pipeline.{HoldsWindow, full_sums, if_even, last_sums, part_sum, text_of_sums};
+ghost use Rattle.std.specs.Prelude.{◌≡◌, ◌++◌, ◌∷◌, [], IfErr, IfOk, List, option_to_list, ℕ};
+ghost use Rattle.example_pipeline.specs.Pipeline.{HoldsWindow, SumPasses, full_sums, if_even, last_sums, text_of_sums};
 ghost use Rattle.example_pipeline.specs.Runs.{AddFails, AddsLines, AddsLine, AddsUpTo, EndFails, EndsOutput, IsReading, RunStops, SumsWhole};
 ghost use Rattle.example_pipeline.specs.Runs.{FailsOutput, FailsTaking, TakesFlush, TakesFlushed, TakesWholeText};
 ghost use Rattle.example_pipeline.specs.declared.fault.Cause.TheVariants.{Overflow};
@@ -130,7 +130,7 @@ fn add_number(sums: &mut Sums, item: u64) -> Result<Option<u64>, Cause>
     ensures added { IfOk result (λ sum. (l : List ℕ) → HoldsWindow sums.old l
         → HoldsWindow sums.new (l ++ if_even item) × (full_sums (l ++ if_even item) ≡ full_sums l ++ option_to_list sum)) }
     ensures large { IfErr result (λ e. (e ≡ Overflow) × (if_even item ≡ item ∷ [])
-        × ((l : List ℕ) → HoldsWindow sums.old l → 2 ^ 64 ≤ part_sum l + item)) }
+        × ((l : List ℕ) → HoldsWindow sums.old l → SumPasses l item)) }
 {
     if item % 2 == 0 {
         sums.add(item)

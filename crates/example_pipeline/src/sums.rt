@@ -1,6 +1,6 @@
 //! The sums of windows of three numbers.
-ghost use Rattle.std.specs.Prelude.{◌≡◌, ◌≤◌, ◌+◌, ◌++◌, ◌∷◌, ◌^◌, [], List, IfErr, IfOk, option_to_list, ℕ};
-ghost use Rattle.example_pipeline.specs.Pipeline.{HoldsWindow, full_sums, last_sums, part_sum};
+ghost use Rattle.std.specs.Prelude.{◌≡◌, ◌++◌, ◌∷◌, [], List, IfErr, IfOk, option_to_list, ℕ};
+ghost use Rattle.example_pipeline.specs.Pipeline.{HoldsWindow, SumPasses, full_sums, last_sums};
 ghost use Rattle.example_pipeline.specs.declared.fault.Cause.TheVariants.{Overflow};
 
 use crate::fault::Cause;
@@ -30,7 +30,7 @@ impl Sums {
     pub fn add(&mut self, item: u64) -> Result<Option<u64>, Cause>
         ensures added { IfOk result (λ sum. (l : List ℕ) → HoldsWindow self.old l
             → HoldsWindow self.new (l ++ item ∷ []) × (full_sums (l ++ item ∷ []) ≡ full_sums l ++ option_to_list sum)) }
-        ensures large { IfErr result (λ e. (e ≡ Overflow) × ((l : List ℕ) → HoldsWindow self.old l → 2 ^ 64 ≤ part_sum l + item)) }
+        ensures large { IfErr result (λ e. (e ≡ Overflow) × ((l : List ℕ) → HoldsWindow self.old l → SumPasses l item)) }
     {
         let Some(sum) = self.part.checked_add(item) else {
             return Err(Cause::Overflow);
