@@ -82,10 +82,10 @@ class Taking(InAFolder):
                 shutil.copy(f"{TOP}/tools/{tool}", f"{self.room}/library/tools")
 
     def begin(self, *words):
-        """Begins the tool."""
-        around = {"PATH": f"{self.room}/bin", "PYTHONDONTWRITEBYTECODE": "1"}
+        """Begins the tool, which an interrupt ends also if a shell began these tests in the background."""
         words = [sys.executable, f"{self.room}/library/tools/vendor", *words]
-        return subprocess.Popen(words, env=around, stdout=subprocess.PIPE, stderr=subprocess.PIPE, encoding="utf-8")
+        how = {"stdout": subprocess.PIPE, "stderr": subprocess.PIPE, "encoding": "utf-8", "preexec_fn": interruptible}
+        return subprocess.Popen(words, env={"PATH": f"{self.room}/bin", "PYTHONDONTWRITEBYTECODE": "1"}, **how)
 
     def vendor(self, *words, status=0):
         """Runs the tool, which has to end so; returns what it says."""
@@ -235,6 +235,10 @@ class Taking(InAFolder):
         self.be({**SECOND, "docs/RULES.md": "Other rules.\n"})
         self.vendor(self.folder, "--update")
         self.assertEqual(read(self.folder)[f"docs/{FACADE}/RULES.md"], "Other rules.\n")
+
+
+def interruptible():
+    signal.signal(signal.SIGINT, signal.SIG_DFL)
 
 
 def things(texts):
