@@ -1,3 +1,4 @@
+mod exchanges;
 mod http;
 mod lines;
 mod pipeline;

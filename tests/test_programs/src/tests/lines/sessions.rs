@@ -1,4 +1,5 @@
 //! Whole sessions over readers and writers that come in pieces, wait, fail and end.
+use crate::tests::exchanges::Front;
 use example_lines::session::serve_session;
 use framed::{FrameError, FramedRead, LineDelimited, ServeError};
 use futures_lite::future::BlockOn;
@@ -27,34 +28,8 @@ const EXCHANGES: [(&str, &str); 8] = [
 
 type Served = Result<(), ServeError<FrameError, FrameError>>;
 
-/// The first bytes of all requests.
-#[derive(Drop)]
-struct Front {
-    sent: Vec<u8>,
-    /// The replies to the whole requests among them.
-    replies: Vec<u8>,
-    /// Whether they end behind a request.
-    is_whole: bool,
-}
-
 fn front_of(alloc: Global, count: usize) -> Result<Front, Fail> {
-    let mut front = Front {
-        sent: Vec::new(alloc),
-        replies: Vec::new(alloc),
-        is_whole: true,
-    };
-    let mut left = count;
-    for (request, reply) in EXCHANGES {
-        let size = request.len().min(left);
-        front.sent.extend_from_slice(&request.as_bytes()[..size])?;
-        left -= size;
-        if size < request.len() {
-            front.is_whole = size == 0;
-            break;
-        }
-        front.replies.extend_from_slice(reply.as_bytes())?;
-    }
-    Ok(front)
+    Front::of(alloc, &EXCHANGES, count)
 }
 
 /// How many bytes the requests have up to the one whose reply has the byte at this place.
@@ -98,24 +73,12 @@ where
 fn pieces_and_pendings_change_nothing(rt: HostRuntime) -> Result<(), Fail> {
     let all = front_of(rt.alloc(), usize::MAX)?;
     for at in 0..=all.sent.len() {
-        let mut told = Marks::new(rt.alloc());
-        told.chunk(&all.sent[..at])?;
-        told.pending()?;
-        told.chunk(&all.sent[at..])?;
         let mut writer = Takes::new(rt.alloc());
+        let told = all.cut_at(rt.alloc(), at)?;
         assert!(rt; serve_told(&rt, told, &mut writer)?.is_ok(), "cut at {at}");
         assert_eq!(rt; writer.taken(), all.replies.as_slice(), "cut at {at}");
     }
-    let mut told = Marks::new(rt.alloc());
-    for byte in &all.sent {
-        told.pending()?;
-        told.chunk(&[*byte])?;
-    }
-    let mut writer = Takes::new(rt.alloc());
-    for _ in &all.replies {
-        writer.order(Order::Wait)?;
-        writer.order(Order::AtMost(1))?;
-    }
+    let (told, mut writer) = all.by_bytes(rt.alloc())?;
     assert!(rt; serve_told(&rt, told, &mut writer)?.is_ok());
     assert_eq!(rt; writer.taken(), all.replies.as_slice());
     Ok(())
