@@ -1,2 +1,2 @@
-pub mod Budgets
+pub mod PollLimits
 pub mod Tasks

@@ -1,4 +1,4 @@
--- What becomes of tasks that have a budget of polls.
+-- What becomes of tasks that have a poll limit.
 use Rattle.std.specs.Prelude.{◌≡◌, ◌≤◌, ℕ, List, length, Result, Ok, Err, None}
 use Rattle.std.specs.List.{AllZip}
 use Rattle.futures_lite.specs.Answers.{Gives, Poll, Waiting}
@@ -17,6 +17,6 @@ OutcomeWithin {F} {A} run polls x (Err e) = (l : List (Poll A)) × (y : F) × ru
 abbrev pub EachOutcome : {F A : Type 0} → Runs (Poll A) F → ℕ → List F → List (Result A Exhausted) → Type 0
 EachOutcome run polls = AllZip (OutcomeWithin run polls)
 
--- The task of a future with a budget, before it is polled.
+-- The task of a future with a poll limit, before it is polled.
 abbrev pub task_within : {F A : Type 0} → ℕ → F → Task (PollLimited F) (Result A Exhausted)
 task_within polls x = record { future = record { inner = x; left = polls }; value = None; slot = None }

@@ -1,4 +1,4 @@
-//! A small executor: futures of several types, each polled when it is new or woken, within a budget of polls.
+//! A small executor: futures of several types, each polled when it is new or woken, within a poll limit.
 #![tactic(auto)]
 
 mod executor;
@@ -27,7 +27,7 @@ fn main(rt: HostRuntime) -> io::Result<()> {
     for outcome in run_each(&rt, futures, 10)? {
         match outcome {
             Ok(value) => println!(rt; "{value}")?,
-            Err(Exhausted) => println!(rt; "its budget ended")?,
+            Err(Exhausted) => println!(rt; "its poll limit ended")?,
         }
     }
     Ok(())

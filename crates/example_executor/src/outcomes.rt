@@ -41,7 +41,7 @@ where
     Ok(outcomes)
 }
 
-/// Makes a task of each future, with a budget.
+/// Makes a task of each future, with a poll limit.
 fn tasks_within<F: Future + Drop>(
     alloc: Global,
     futures: Vec<F>,

@@ -21,11 +21,12 @@ use std::sync::Wait;
 /// Reads lines to the end of the input, and writes the sums of windows of three of their even numbers, each as a line,
 /// as soon as the window is full. Then it flushes.
 ///
-/// On `Ok`, just the text of these sums was written, and then flushed once (`SumsWhole`). It stops at the first line that
-/// is no number, and at each error (`RunStops`). Nothing is read behind that line. Before a bad line, the sums of all lines
-/// before it were written, that of the last window too. At an error of the input, an overflow or a refusal of memory, the
-/// sums of the full windows were written, which are a prefix of the text for any input that goes on. Both were flushed. If
-/// the output fails, it took a prefix of the text, and that failure came last.
+/// On `Ok`, just the text of these sums was written, and then flushed once (`SumsWhole`). It stops at the first line
+/// that is no number, and at each error (`RunStops`). Unless the output failed, nothing is read behind the line that it
+/// names. Before a bad line, the sums of all lines before it were written, that of the last window too. At an error of
+/// the input, an overflow or a refusal of memory, the sums of the full windows were written, which are a prefix of the
+/// text for any input that goes on. Both were flushed. If the output fails, it took a prefix of the text, and that
+/// failure came last.
 pub fn run<R, T, O>(
     on: &mut BlockOn,
     rt: &R,

@@ -1,4 +1,4 @@
--- The marks that reading leaves, and the takings that writing leaves.
+-- The marks that reading leaves, and those that writing leaves.
 pub use Rattle.lite_io_base.specs.Marks.{AllGiven, IsGiven, ReadMark, bytes, count_of, fill_marks, filled_marks, given_count, moved_marks}
 pub use Rattle.lite_io_base.specs.Marks.{read_marks}
 pub use Rattle.lite_io_base.specs.WriteMarks.{WriteMark, bytes_in, bytes_taken, done_marks, write_marks}

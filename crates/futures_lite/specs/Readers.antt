@@ -5,7 +5,7 @@ pub use Rattle.lite_io_base.specs.Told.{ReadsScript}
 pub use Rattle.lite_io_base.specs.Known.{Known, Knows, ReadsKnown, unknown}
 pub use Rattle.lite_io_base.specs.Steps.{Steps}
 pub use Rattle.lite_io_base.specs.SeekKeeps.{SeekKeeps}
-pub use Rattle.lite_io_base.specs.Steady.{CalmReadLaws, NoPendingRead, OneTale, SteadyReadLaws, strip_marks}
+pub use Rattle.lite_io_base.specs.Steady.{CalmReadLaws, NoPendingRead, OneListOfMarks, SteadyReadLaws, strip_marks}
 pub use Rattle.lite_buffered.specs.BufReader
 pub use Rattle.lite_buffered.specs.Budgeted
 pub use Rattle.lite_buffered.specs.Chain

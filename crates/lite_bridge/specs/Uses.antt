@@ -9,7 +9,7 @@ pub use Rattle.lite_buffered.specs.BufReader.{ThroughBuffer, bytes_ahead, reader
 pub use Rattle.lite_buffered.specs.SeeksThrough.{SeeksThrough}
 pub use Rattle.lite_buffered.specs.declared.buf_reader.BufReader.{BufReader}
 pub use Rattle.lite_io_base.specs.Kinds.{by_kind}
-pub use Rattle.lite_io_base.specs.Laws.Steady.{told_one_tale}
+pub use Rattle.lite_io_base.specs.Laws.Steady.{told_marks_agree}
 pub use Rattle.lite_io_base.specs.Laws.Steps.{steps_laws}
 pub use Rattle.lite_io_base.specs.Marks.{ReadMark, bytes, fill_marks, read_marks}
 pub use Rattle.lite_io_base.specs.Runs.{MarkLaws, room_in}

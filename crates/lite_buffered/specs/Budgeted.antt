@@ -64,7 +64,7 @@ left_behind_mark budget ReadMark.end n = n
 abbrev pub PacesMarks : ℕ × ℕ → List ReadMark → List ReadMark → ℕ × ℕ → Type 0
 PacesMarks = Paces ReadMark.pending left_behind_mark
 
--- The run of a reader with a budget: the inner reader's tale, with a `Pending` added after so many bytes and errors in
+-- The run of a reader with a budget: the inner reader's marks, with a `Pending` added after so many bytes and errors in
 -- a row. After each `Pending` the whole budget is left again.
 pub record BudgetsMarks {R : Type 0} (reads : Runs ReadMark R) (x : Budgeted R) (ms : List ReadMark)
     (y : Budgeted R) : Type 0 where

@@ -30,7 +30,7 @@ pub record IsDeterministic {M R : Type 0} (same : R → R → Type 0) (fold : Re
   pub one_value : (p q r : M) (l m : List ReadMark) (v w : R) → fold.gives p l v q → fold.gives p m w r → Comparable l m
       → same v w × (q ≡ r) × (l ≡ m)
 
--- The values that `fold` produces from a tale without `Pending`s. Bytes are consumed, and then some marks produce a
+-- The values that `fold` produces from marks without `Pending`s. Bytes are consumed, and then some marks produce a
 -- value, and so on. Behind the last value more bytes may be consumed.
 pub data MarkValues {M R : Type 0} (fold : ReadFold M R) : M → List ReadMark → List R → Type 0 where
   held : (p q : M) (xs : List ℕ) → FoldsTo fold.takes p xs q → MarkValues fold p (bytes xs) []

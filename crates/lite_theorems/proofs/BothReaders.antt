@@ -168,9 +168,9 @@ module _ {R : Type 0} {reads : Runs ReadMark R} where
     agree_up : (x x' y y' : R) (xs ys : List ℕ) (v w : ReadResult) → alike x y → ReadsUp ⊥ ample x xs v x'
         → ReadsUp ⊥ ample y ys w y' → SameByKind v w × (xs ≡ ys)
     agree_up x x' y y' xs ys v w e h k =
-        let tales =
+        let lists =
         subst (λ t. Comparable t (strip_marks k.told)) h.cut (s.steady x y x' y' h.told k.told e h.came k.came) in
-        same_told [] xs ys h.last k.last v w h.value k.value (rw (← k.cut) tales)
+        same_told [] xs ys h.last k.last v w h.value k.value (rw (← k.cut) lists)
 
     ample_up : needs_none → (m : Type 0) (x x' : R) (xs : List ℕ) (v : ReadResult) → HasReadMemory v
         → ReadsUp m reads x xs v x' → ReadsUp ⊥ ample x xs v x'

@@ -41,15 +41,15 @@ module _ {C : Type 0} (holds : C → List (String Global) → Type 0) where
   )
 
   -- lines of which P holds, whatever is told behind them
-  pub collects_so : (tale : List ReadMark) (P : List Line → Type 0) (v : Value) → Says [] P v
-      → ((more : List ReadMark) → P (lines_told [] (tale ++ more)))
-      → CollectsOf holds tale v
-  collects_so tale P (Ok c) h each = (h.0, h.1, λ more. h.2 (lines_told [] (tale ++ more)) (each more))
-  collects_so tale P (Err (Source e)) h each =
-      let r = h.1 (lines_told [] tale) (subst (λ k. P (lines_told [] k)) (append-nil tale) (each [])) in
+  pub collects_so : (marks : List ReadMark) (P : List Line → Type 0) (v : Value) → Says [] P v
+      → ((more : List ReadMark) → P (lines_told [] (marks ++ more)))
+      → CollectsOf holds marks v
+  collects_so marks P (Ok c) h each = (h.0, h.1, λ more. h.2 (lines_told [] (marks ++ more)) (each more))
+  collects_so marks P (Err (Source e)) h each =
+      let r = h.1 (lines_told [] marks) (subst (λ k. P (lines_told [] k)) (append-nil marks) (each [])) in
       (h.0, r.0, r.1, r.2)
-  collects_so tale P (Err (Memory m)) h each =
-      let r = h.2 (lines_told [] tale) (subst (λ k. P (lines_told [] k)) (append-nil tale) (each [])) in
+  collects_so marks P (Err (Memory m)) h each =
+      let r = h.2 (lines_told [] marks) (subst (λ k. P (lines_told [] k)) (append-nil marks) (each [])) in
       (h.0, r.0, h.1, r.1)
 
   module _ {N : Type 0} (may_refuse : C → String Global → Type 0) (part : N → Option C) where

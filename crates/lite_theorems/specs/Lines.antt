@@ -8,7 +8,7 @@ use Rattle.std.specs.declared.io.ErrorKind.TheVariants.{InvalidData}
 abbrev pub Line : Type 0
 Line = Result (List ℕ) ErrorKind
 
--- The lines of what a reader produced (its tale), with its errors in their places, up to an end of file at which no
+-- The lines of the marks that a reader left, with its errors in their places, up to an end of file at which no
 -- line is open. A line ends at a newline, 0x0A, and is without one carriage return before that. Or it ends at the end
 -- of file and keeps the carriage return. `held` is the open line's bytes so far.
 abbrev pub lines_told : (held : List ℕ) → List ReadMark → List Line
@@ -39,28 +39,28 @@ StandsFor e [] = error_kind e ≡ OutOfMemory
 StandsFor e (Ok xs ∷ l) = (error_kind e ≡ OutOfMemory) ⊎ ((error_kind e ≡ InvalidData) × ¬ IsUtf8 xs)
 StandsFor e (Err kind ∷ l) = (error_kind e ≡ OutOfMemory) ⊎ (error_kind e ≡ kind)
 
--- What is collected of the lines of a tale. `Ok` holds all lines, whatever may come after the tale. An error of the
+-- What is collected of the lines of these marks. `Ok` holds all lines, whatever marks may follow. An error of the
 -- reader came after the lines before it. An allocation failure holds the lines before the one that was refused.
 abbrev pub CollectsOf : {C : Type 0} → (C → List (String Global) → Type 0) → List ReadMark
     → Result C (TryCollectError C (String Global) Error) → Type 0
-CollectsOf holds tale (Ok c) = (texts : List (String Global)) × holds c texts
-    × ((more : List ReadMark) → lines_told [] (tale ++ more) ≡ as_lines texts)
-CollectsOf holds tale (Err (Source e)) =
-    (texts : List (String Global)) × (rest : List Line) × (lines_told [] tale ≡ as_lines texts ++ rest)
+CollectsOf holds marks (Ok c) = (texts : List (String Global)) × holds c texts
+    × ((more : List ReadMark) → lines_told [] (marks ++ more) ≡ as_lines texts)
+CollectsOf holds marks (Err (Source e)) =
+    (texts : List (String Global)) × (rest : List Line) × (lines_told [] marks ≡ as_lines texts ++ rest)
     × StandsFor e rest
-CollectsOf holds tale (Err (Memory m)) =
+CollectsOf holds marks (Err (Memory m)) =
     (texts : List (String Global)) × (rest : List Line) × holds m.collected texts
-    × (lines_told [] tale ≡ as_lines texts ++ Ok (string_bytes m.item) ∷ rest)
+    × (lines_told [] marks ≡ as_lines texts ++ Ok (string_bytes m.item) ∷ rest)
 
 module _ {R C : Type 0} (reads : Runs ReadMark R) (holds : C → List (String Global) → Type 0) where
-  -- The reader produced a tale, and the value is what `CollectsOf` says of its first `limit` bytes. Bytes that were
-  -- read ahead, `front`, come before the tale.
+  -- The reader left these marks, and the value is what `CollectsOf` says of its first `limit` bytes. Bytes that were
+  -- read ahead, `front`, come before them.
   pub record CollectsLines (front : List ℕ) (reader : R) (limit : ℕ)
       (value : Result C (TryCollectError C (String Global) Error)) : Type 0 where
-    pub tale : List ReadMark
+    pub marks : List ReadMark
     pub later : R
-    pub told : reads reader tale later
-    pub collects : CollectsOf holds (limited limit (bytes front ++ tale)) value
+    pub told : reads reader marks later
+    pub collects : CollectsOf holds (limited limit (bytes front ++ marks)) value
 
 -- Whenever a run of the future `x` ends with a value, `P` holds of that value.
 abbrev pub AtEachValue : {F V : Type 0} → Runs (Poll V) F → F → (V → Type 0) → Type 0

@@ -1,4 +1,7 @@
 //! How a program ends.
+ghost use Rattle.std.specs.Prelude.{◌≡◌, ◌⊎◌, IfErr, IfOk};
+ghost use Rattle.std.specs.Process.{exit_status};
+
 use std::fmt::Display;
 use std::io::{self, Eprint, ErrorKind};
 use std::process::ExitCode;
@@ -22,11 +25,10 @@ impl ProgramError for io::Error {
 ///
 /// The error is printed on standard error, as one line with the name of the program. If nobody reads the output any more,
 /// nothing is printed, and the status is [`BROKEN_PIPE`].
-pub fn end<R: Eprint, E: ProgramError + Drop>(
-    rt: &R,
-    name: &str,
-    ended: Result<(), E>,
-) -> ExitCode {
+pub fn end<R: Eprint, E: ProgramError + Drop>(rt: &R, name: &str, ended: Result<(), E>) -> ExitCode
+    ensures ok { IfOk ended (λ _. exit_status result ≡ 0) }
+    ensures failed { IfErr ended (λ _. (exit_status result ≡ 1) ⊎ (exit_status result ≡ 141)) }
+{
     match ended {
         Ok(()) => ExitCode::from(0),
         Err(e) => {
@@ -40,7 +42,9 @@ pub fn end<R: Eprint, E: ProgramError + Drop>(
 }
 
 /// Prints on standard error how the program is called, and returns the status 2.
-pub fn misused<R: Eprint>(rt: &R, name: &str, usage: &str) -> ExitCode {
+pub fn misused<R: Eprint>(rt: &R, name: &str, usage: &str) -> ExitCode
+    ensures { exit_status result ≡ 2 }
+{
     let _ = eprintln!(rt; "{name}: usage: {usage}");
     ExitCode::from(2)
 }

@@ -10,9 +10,10 @@ const PAUSE: u64 = 1;
 /// How many bytes are one MB, as it counts them.
 const MEGABYTE: u64 = 1_000_000;
 
-/// A reader that prints on standard error, once a second, how many bytes it has read, and how many a second.
+/// A reader that prints on standard error how many bytes it has read, and how many a second.
 ///
-/// It reads what the reader in it reads. Nothing is printed within the first second.
+/// It reads what the reader in it reads. It prints when a read returns, at most once a second, and not within the first
+/// one. So it is silent while it waits for input.
 #[derive(Drop)]
 pub struct Watched<T, R> {
     inner: T,
@@ -25,7 +26,9 @@ pub struct Watched<T, R> {
 
 impl<T: Read, R: Clock + Eprint> Watched<T, R> {
     /// Returns a reader that prints under this name, or never if it is `quiet` or its clock fails.
-    pub fn new(inner: T, rt: R, name: &'static str, quiet: bool) -> Watched<T, R> {
+    pub fn new(inner: T, rt: R, name: &'static str, quiet: bool) -> Watched<T, R>
+        ensures { ⟦<Watched<T, R> as Read>⟧.remaining result ≡ T.remaining inner }
+    {
         let times = match Instant::now(&rt) {
             Ok(now) if !quiet => Some((now, now)),
             _ => None,

@@ -1,7 +1,7 @@
 -- Laws of std readers and writers.
 use Rattle.std.specs.Prelude.{◌≡◌, ◌<◌, ℕ, zero, suc, List, [], ◌∷◌, ◌++◌, length, take, Option, None, Some, Result, Ok, Err, ⊤}
 use Rattle.lite_bridge.specs.Uses.{◌∙◌, append-nil, ap, arith, refl, subst, sym, ReadsAtMost, Keeps, ReadConsumes, WriteAppends, SeekMoves, StaysAt}
-use Rattle.lite_bridge.specs.Uses.{Error, SeekFrom, End, Poll, Pending, Ready, by_kind, ReadMark, bytes, read_marks, MarkLaws, told_one_tale}
+use Rattle.lite_bridge.specs.Uses.{Error, SeekFrom, End, Poll, Pending, Ready, by_kind, ReadMark, bytes, read_marks, MarkLaws, told_marks_agree}
 use Rattle.lite_bridge.specs.Uses.{CalmReadLaws, NoPendingRead, SteadyReadLaws, strip_marks, CalmWriteLaws, SteadyWriteLaws, WriteMark, bytes_taken}
 use Rattle.lite_bridge.specs.Uses.{done_marks, write_marks, ReadsScript, Comparable, Runs}
 use Rattle.lite_base.specs.Calm.{CalmRuns}
@@ -95,17 +95,17 @@ spends_told [] y (ReadMark.byte b ∷ l) h n = absurd h
 spends_told x y (ReadMark.pending ∷ l) h n = absurd h
 spends_told x y (ReadMark.fault kind ∷ l) h n = absurd n
 
-known_one_tale : (x x' y z : Option (List ℕ)) (l m : List ReadMark) → SameKnown x x' → SpendsWell x l y
+known_marks_agree : (x x' y z : Option (List ℕ)) (l m : List ReadMark) → SameKnown x x' → SpendsWell x l y
     → SpendsWell x' m z
     → Comparable (strip_marks l) (strip_marks m)
-known_one_tale (Some xs) (Some ys) (Some y) (Some z) l m e h k =
-    told_one_tale (bytes xs) (bytes ys) (bytes y) (bytes z) l m (rw e) (spends_told xs y l h.0 h.1)
+known_marks_agree (Some xs) (Some ys) (Some y) (Some z) l m e h k =
+    told_marks_agree (bytes xs) (bytes ys) (bytes y) (bytes z) l m (rw e) (spends_told xs y l h.0 h.1)
     (spends_told ys z m k.0 k.1)
-known_one_tale (Some xs) (Some ys) None z l m e h k = absurd h.0
-known_one_tale (Some xs) (Some ys) (Some y) None l m e h k = absurd k.0
-known_one_tale _ _ y z l m e h k = absurd e
+known_marks_agree (Some xs) (Some ys) None z l m e h k = absurd h.0
+known_marks_agree (Some xs) (Some ys) (Some y) None l m e h k = absurd k.0
+known_marks_agree _ _ y z l m e h k = absurd e
 
--- If no read failed, two readers of which the same bytes are known have one tale.
+-- If no read failed, two readers of which the same bytes are known leave the same marks.
 pub spends_steady : {S : Type 0} (remaining : S → Option (List ℕ))
     → SteadyReadLaws (λ (x : S) l y. SpendsKnown (remaining x) l (remaining y))
     (λ x l y. SpendsWell (remaining x) l (remaining y)) ⊥
@@ -117,7 +117,7 @@ spends_steady remaining =
         follows = λ x y z l m h k.
             ((spends_laws remaining).follows x y z l m h.0 k.0, no_fault_both l m h.1 k.1);
       };
-      steady = λ x y x' y'. known_one_tale _ _ _ _;
+      steady = λ x y x' y'. known_marks_agree _ _ _ _;
       found = λ n. absurd n;
     }
 

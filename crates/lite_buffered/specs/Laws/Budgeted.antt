@@ -28,12 +28,12 @@ paced_falls p q i (ReadMark.end ∷ o) (inr h) g = absurd g.0
 paced_falls p q i (_ ∷ o) (inr h) g = let e = paced_falls (p.0, p.1 - 1) q h.1 o h.3 g.1 in omega (arith, e, h.0)
 
 -- Without `Pending`s, the marks passed on are those that came in.
-paced_tale : (p q : ℕ × ℕ) (i o : List ReadMark) → PacesMarks p i o q → strip_marks o ≡ strip_marks i
-paced_tale p q i [] h = rw h.0
-paced_tale p q i (m ∷ o) (inl h) = rw h.1 (paced_tale (p.0, p.0) q i o h.2)
-paced_tale p q i (ReadMark.pending ∷ o) (inr h) = rw h.2 (paced_tale (p.0, p.0) q h.1 o h.3)
-paced_tale p q i (m ∷ o) (inr h) =
-    rw h.2 (ap (λ l. m ∷ l) (paced_tale (p.0, left_behind_mark p.0 m p.1) q h.1 o h.3))
+paced_marks : (p q : ℕ × ℕ) (i o : List ReadMark) → PacesMarks p i o q → strip_marks o ≡ strip_marks i
+paced_marks p q i [] h = rw h.0
+paced_marks p q i (m ∷ o) (inl h) = rw h.1 (paced_marks (p.0, p.0) q i o h.2)
+paced_marks p q i (ReadMark.pending ∷ o) (inr h) = rw h.2 (paced_marks (p.0, p.0) q h.1 o h.3)
+paced_marks p q i (m ∷ o) (inr h) =
+    rw h.2 (ap (λ l. m ∷ l) (paced_marks (p.0, left_behind_mark p.0 m p.1) q h.1 o h.3))
 
 pub paced_spends : (p q : ℕ × ℕ) (i o : List ReadMark) (xs ys : List ℕ) → PacesMarks p i o q → ReadsKnown xs i ys
     → ReadsKnown xs o ys
@@ -98,7 +98,7 @@ module _ {R : Type 0} {reads : Runs ReadMark R} where
   budgets_steady s =
       record {
         laws = budgets_laws s.laws;
-        steady = λ x y x' y' l m e h k. rw (paced_tale _ _ h.came l h.paced, paced_tale _ _ k.came m k.paced)
+        steady = λ x y x' y' l m e h k. rw (paced_marks _ _ h.came l h.paced, paced_marks _ _ k.came m k.paced)
             (s.steady x.reader y.reader x'.reader y'.reader h.came k.came e h.ran k.ran);
         found = λ n x y l h. record {
           came = h.came;

@@ -1,17 +1,17 @@
--- Laws of tales without their `Pending`s.
+-- Laws of marks without their `Pending`s.
 use Rattle.std.specs.Prelude.{⊤, List, [], ◌∷◌, ◌≡◌, ℕ, ◌++◌, refl}
 use Rattle.lite_io_base.specs.Uses.{ap, sym, Comparable, MutBor, Lent, Runs}
 use Rattle.lite_base.specs.Laws.Steady.{lent_takes_none}
 use Rattle.lite_io_base.specs.Marks.{ReadMark, bytes, moved_marks}
-use Rattle.lite_io_base.specs.Steady.{CalmReadLaws, NoPendingRead, SteadyReadLaws, strip_marks, OneTale}
+use Rattle.lite_io_base.specs.Steady.{CalmReadLaws, NoPendingRead, SteadyReadLaws, strip_marks, OneListOfMarks}
 use Rattle.lite_io_base.specs.Laws.Told.{told_laws}
 use Rattle.lite_io_base.specs.Told.{ReadsScript}
 use Rattle.lite_io_base.specs.Laws.Lent.{lent_laws}
 use Rattle.lite_io_base.specs.Runs.{MarkLaws}
 
--- A reader that never allocates is steady if readers that are alike have one tale in all runs.
+-- A reader that never allocates is steady if readers that are alike leave the same marks in all runs.
 pub steady_read_always : {S : Type 0} {reads : Runs ReadMark S} {alike : S → S → Type 0} → MarkLaws reads
-    → OneTale reads alike → SteadyReadLaws reads reads ⊤ alike
+    → OneListOfMarks reads alike → SteadyReadLaws reads reads ⊤ alike
 steady_read_always laws s = record { laws = laws; steady = s; found = λ n x y l h. h }
 
 -- The same laws hold behind a mutable reference.
@@ -40,7 +40,7 @@ comparable_swapped [] m c = comparable_none m
 comparable_swapped (a ∷ l) [] c = tt
 comparable_swapped (a ∷ l) (b ∷ m) c = (sym c.0, comparable_swapped l m c.1)
 
--- If one tale is a prefix of another, it still is without their `Pending`s.
+-- If one list of marks is a prefix of another, it still is without their `Pending`s.
 pub comparable_stripped : (l m : List ReadMark) → Comparable l m → Comparable (strip_marks l) (strip_marks m)
 comparable_stripped [] m c = tt
 comparable_stripped (a ∷ l) [] c = comparable_none (strip_marks (a ∷ l))
@@ -66,7 +66,7 @@ pub strip_marks-bytes : (xs : List ℕ) → strip_marks (bytes xs) ≡ bytes xs
 strip_marks-bytes [] = refl
 strip_marks-bytes (x ∷ xs) = rw (strip_marks-bytes xs)
 
--- A tale without a `Pending` is unchanged without its `Pending`s.
+-- Marks without a `Pending` are unchanged without their `Pending`s.
 pub stripped_no_pending : (l : List ReadMark) → NoPendingRead l → strip_marks l ≡ l
 stripped_no_pending [] h = refl
 stripped_no_pending (ReadMark.pending ∷ l) h = absurd h
@@ -91,7 +91,7 @@ no_wait_moved room (x ∷ xs) = no_wait_bytes xs
 no_wait_moved (r ∷ room) [] = tt
 no_wait_moved [] [] = tt
 
--- Two runs of a fixed tale: one is a prefix of the other.
+-- Two runs of fixed marks: one is a prefix of the other.
 told_comparable : (t x y l m : List ReadMark) → ReadsScript t l x → ReadsScript t m y → Comparable l m
 told_comparable [] x y (a ∷ l) (b ∷ m) h k = (cc (h.0, k.0), told_comparable [] x y l m h.1 k.1)
 told_comparable (c ∷ t) x y (a ∷ l) (b ∷ m) h k = (cc (h.0, k.0), told_comparable t x y l m h.1 k.1)
@@ -104,13 +104,13 @@ told_stripped [] y (a ∷ l) h = rw h.0 (refl, told_stripped [] y l h.1)
 told_stripped (ReadMark.pending ∷ x) y (a ∷ l) h = rw h.0 (told_stripped x y l h.1)
 told_stripped (_ ∷ x) y (a ∷ l) h = rw h.0 (refl, told_stripped x y l h.1)
 
--- Two fixed tales that are equal without their `Pending`s lead to runs that are one tale without them.
-pub told_one_tale : (t u x y l m : List ReadMark) → strip_marks t ≡ strip_marks u → ReadsScript t l x
+-- Two lists of fixed marks that are equal without their `Pending`s lead to runs that are equal without them.
+pub told_marks_agree : (t u x y l m : List ReadMark) → strip_marks t ≡ strip_marks u → ReadsScript t l x
     → ReadsScript u m y → Comparable (strip_marks l) (strip_marks m)
-told_one_tale t u x y l m same h k =
+told_marks_agree t u x y l m same h k =
     told_comparable _ _ (strip_marks y) _ _ (rw same at (told_stripped t x l h)) (told_stripped u y m k)
 
--- If a fixed tale has no `Pending`, neither its run nor what is left has one.
+-- If fixed marks have no `Pending`, neither their run nor what is left has one.
 pub told_no_wait : (t x l : List ReadMark) → NoPendingRead t → ReadsScript t l x → NoPendingRead l × NoPendingRead x
 told_no_wait t x [] n h = (tt, rw h n)
 told_no_wait [] x (a ∷ l) n h = rw h.0 (told_no_wait [] x l tt h.1)
@@ -123,7 +123,7 @@ module _ {S : Type 0} where
     pub told_steady : SteadyReadLaws (λ x l y. ReadsScript (marks x) l (marks y))
         (λ x l y. ReadsScript (marks x) l (marks y)) ⊤ (λ x y. strip_marks (marks x) ≡ strip_marks (marks y))
     told_steady =
-        steady_read_always (told_laws marks) (λ x y x' y'. told_one_tale _ _ _ _)
+        steady_read_always (told_laws marks) (λ x y x' y'. told_marks_agree _ _ _ _)
 
     pub told_calm : CalmReadLaws (λ x l y. ReadsScript (marks x) l (marks y)) (λ x. NoPendingRead (marks x))
     told_calm =
@@ -139,7 +139,7 @@ module _ {S : Type 0} where
     slice_steady =
         steady_read_always (told_laws (λ x. bytes _))
         (λ x y x' y' l m e.
-        told_one_tale (bytes _) (bytes _) (bytes _) (bytes _) l m (rw e))
+        told_marks_agree (bytes _) (bytes _) (bytes _) (bytes _) l m (rw e))
 
     pub slice_calm : CalmReadLaws (λ x l y. ReadsScript (bytes (held x)) l (bytes (held y))) (λ x. ⊤)
     slice_calm =

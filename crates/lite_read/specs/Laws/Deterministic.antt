@@ -1,4 +1,4 @@
--- The values that a deterministic fold makes of a tale do not depend on its `Pending`s.
+-- The values that a deterministic fold makes of marks do not depend on their `Pending`s.
 use Rattle.std.specs.Prelude.{◌≡◌, ℕ, List, [], ◌∷◌, ◌++◌}
 use Rattle.lite_read.specs.Uses.{refl, subst, append_assoc, map-append, FoldsTo, Poll, Ready, Pending, Comparable, ComparableBy, strip, NoPending}
 use Rattle.lite_read.specs.Uses.{Runs, Segments, ReadMark, bytes, CalmReadLaws, NoPendingRead, SteadyReadLaws, strip_marks}
@@ -27,13 +27,13 @@ comparable_front (a ∷ l) k (b ∷ m) c = (c.0, comparable_front l k m c.1)
 comparable_front _ k _ c = tt
 
 module _ {M R : Type 0} (fold : ReadFold M R) where
-  -- Bytes consumed before a tale do not change its values.
-  tale_values_behind : (p m : M) (xs : List ℕ) (t : List ReadMark) (vs : List R) → FoldsTo fold.takes p xs m
+  -- Bytes consumed before the marks do not change their values.
+  mark_values_behind : (p m : M) (xs : List ℕ) (t : List ReadMark) (vs : List R) → FoldsTo fold.takes p xs m
       → MarkValues fold m t vs
       → MarkValues fold p (bytes xs ++ t) vs
-  tale_values_behind p m xs _ _ f (MarkValues.held _ q ys g) =
+  mark_values_behind p m xs _ _ f (MarkValues.held _ q ys g) =
       rw (← (map-append ReadMark.byte xs ys)) (MarkValues.held p q (xs ++ ys) (folds_follow fold.takes p m q xs ys f g))
-  tale_values_behind p m xs _ _ f (MarkValues.next _ n q ys last rest v vs g h s) =
+  mark_values_behind p m xs _ _ f (MarkValues.next _ n q ys last rest v vs g h s) =
       rw (← append_assoc, ← map-append)
       (MarkValues.next p n q (xs ++ ys) last rest v vs (folds_follow fold.takes p m n xs ys f g) h s)
 
@@ -45,7 +45,7 @@ module _ {M R : Type 0} (fold : ReadFold M R) where
     segments_values p q i (Pending ∷ l) h =
         let w = h.4 in
         let cut = rw w.given.0 at (segment_front p h.2 i h.0 h.1 Pending w h.3) in
-        rw (past_pending i h.1 w.taken cut) (tale_values_behind p w.between w.taken _ _ w.folds
+        rw (past_pending i h.1 w.taken cut) (mark_values_behind p w.between w.taken _ _ w.folds
         (rw w.given.2 at (segments_values h.2 q h.1 l h.5)))
     segments_values p q i (Ready r ∷ l) h =
         let c = h.4 in
@@ -53,7 +53,7 @@ module _ {M R : Type 0} (fold : ReadFold M R) where
         rw (past_value i c.last h.1 c.taken (s.at_once c.between h.2 c.last r c.given) cut)
         (MarkValues.next p c.between h.2 c.taken c.last _ r _ c.folds c.given (segments_values h.2 q h.1 l h.5))
 
-    -- If one of two tales is a prefix of the other, their first values are the same, and so are the states after them.
+    -- If one of two lists of marks is a prefix of the other, their first values are the same, and so are the states after them.
     aligned : (p x y q r : M) (xs ys : List ℕ) (l m k n : List ReadMark) (v w : R) → FoldsTo fold.takes p xs x
         → FoldsTo fold.takes p ys y
         → fold.gives x l v q → fold.gives y m w r → Comparable (bytes xs ++ (l ++ k)) (bytes ys ++ (m ++ n)) → same v w
@@ -70,17 +70,17 @@ module _ {M R : Type 0} (fold : ReadFold M R) where
         let way = s.one_way p g.0 f.0 b (rw byte g.1) f.1 in
         aligned f.0 x y q r xs ys l m k n v w f.2 (rw (← way) g.2) h j c.1
 
-    -- If one of two tales is a prefix of the other, their values are the same as far as both go.
-    tale_values_alike : (p : M) (t u : List ReadMark) (vs ws : List R) → MarkValues fold p t vs
+    -- If one of two lists of marks is a prefix of the other, their values are the same as far as both go.
+    mark_values_alike : (p : M) (t u : List ReadMark) (vs ws : List R) → MarkValues fold p t vs
         → MarkValues fold p u ws → Comparable t u → ComparableBy same vs ws
-    tale_values_alike p _ _ _ _ (MarkValues.next _ m q xs last rest v vs f h a)
+    mark_values_alike p _ _ _ _ (MarkValues.next _ m q xs last rest v vs f h a)
         (MarkValues.next _ n r ys end more w ws g j b) c =
         let first = aligned p m n q r xs ys last end rest more v w f g h j c in (
           first.0,
-          tale_values_alike q rest more vs ws a
+          mark_values_alike q rest more vs ws a
               (rw first.1 b) first.2,
         )
-    tale_values_alike p _ _ _ _ _ _ c = tt
+    mark_values_alike p _ _ _ _ _ _ c = tt
 
     -- Readers that are alike are made into values that are the same, as far as both go.
     module _ {S : Type 0} {reads ample : Runs ReadMark S} {needs_none : Type 0} {alike : S → S → Type 0}
@@ -89,7 +89,7 @@ module _ {M R : Type 0} (fold : ReadFold M R) where
         pub segmented_alike : (l m : List (Poll R)) → alike x y → Segmented fold ample x p l x' q
             → Segmented fold ample y p m y' r → ComparableBy same (strip l) (strip m)
         segmented_alike l m e h k =
-            tale_values_alike p (strip_marks h.marks) (strip_marks k.marks) _ _
+            mark_values_alike p (strip_marks h.marks) (strip_marks k.marks) _ _
             (segments_values p q h.marks l h.cut) (segments_values p r k.marks m k.cut)
             (laws.steady x y x' y' h.marks k.marks e h.came k.came)
 

@@ -1,4 +1,4 @@
--- The pieces that are cut out of a tale do not depend on its `Pending`s.
+-- The pieces that are cut out of marks do not depend on their `Pending`s.
 use Rattle.std.specs.Prelude.{⊤, ◌≡◌, ◌<◌, ℕ, List, [], ◌∷◌, Option, Some, None, Result, length}
 use Rattle.lite_read.specs.Uses.{◌∙◌, inl, inr, refl, ap, sym, arith, error_kind, Error, ErrorKind, OptionBy, Sameness, CalmLaws, SteadyLawsBy, runs_of, Runs}
 use Rattle.lite_read.specs.Uses.{ReadMark, CalmReadLaws, SteadyReadLaws}

@@ -1,4 +1,4 @@
--- A text that is read from a tale does not depend on its `Pending`s.
+-- A text that is read from marks does not depend on their `Pending`s.
 use Rattle.std.specs.Prelude.{◌≡◌, ℕ, List, Result, Ok, Err}
 use Rattle.lite_read.specs.Uses.{inl, inr, ◌∙◌, sym, ap, Error, Comparable, ReadMark}
 use Rattle.lite_read.specs.ReadFold.{ReadFold}

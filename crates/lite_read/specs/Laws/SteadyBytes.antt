@@ -21,7 +21,7 @@ record FailsHere (kind : ErrorKind) (rest : List ByteItem → Type 0) (l : List 
   pub cut : l ≡ Some (Err error) ∷ after
   pub more : rest after
 
--- The results of `bytes` over a tale without `Pending`s: each mark is one result, except that an interruption, which is
+-- The results of `bytes` over marks without `Pending`s: each mark is one result, except that an interruption, which is
 -- `Pending`, is none.
 abbrev TaleAnswers : List ReadMark → List ByteItem → Type 0
 TaleAnswers [] l = l ≡ []
@@ -46,7 +46,7 @@ said _ _ h = absurd h.0
 abbrev SameBytes : List ByteItem → List ByteItem → Type 0
 SameBytes = ComparableBy (OptionBy SameByKind)
 
--- If both tales begin with one error, the results are the same when those of the rest are.
+-- If both lists of marks begin with one error, the results are the same when those of the rest are.
 module _ (kind : ErrorKind) (i j : List ReadMark) (l m : List ByteItem) where
   both_fail : TaleAnswers (ReadMark.fault kind ∷ i) l → TaleAnswers (ReadMark.fault kind ∷ j) m
       → ((l m : List ByteItem) → TaleAnswers i l → TaleAnswers j m → SameBytes l m) → SameBytes l m
@@ -55,7 +55,7 @@ module _ (kind : ErrorKind) (i j : List ReadMark) (l m : List ByteItem) where
   both_fail (inr h) (inl k) rest = absurd (h.heard k.0)
   both_fail (inr h) (inr k) rest = rw (h.cut, k.cut) (h.is ∙ sym k.is, rest h.after k.after h.more k.more)
 
--- If one of two tales is a prefix of the other, their results are the same as far as both go.
+-- If one of two lists of marks is a prefix of the other, their results are the same as far as both go.
 say_same : (i j : List ReadMark) (l m : List ByteItem) → TaleAnswers i l → TaleAnswers j m → Comparable i j
     → SameBytes l m
 say_same [] j l m h k c = rw h tt

@@ -36,7 +36,7 @@ stops_not : (v : CopyResult) (x : ℕ) → stop_of v ≡ ReadMark.byte x → ⊥
 stops_not (Ok n) x e = cc
 stops_not (Err e) x h = cc
 
--- If two tales are bytes and then such a mark, and one is a prefix of the other, they are equal.
+-- If two lists of marks are bytes and then such a mark, and one is a prefix of the other, they are equal.
 one_stop : (v w : CopyResult) (xs ys : List ℕ)
     → Comparable (bytes xs ++ stop_of v ∷ []) (bytes ys ++ stop_of w ∷ []) → (xs ≡ ys) × (stop_of v ≡ stop_of w)
 one_stop v w [] [] c = (refl, c.0)
@@ -52,9 +52,9 @@ abbrev OkCounts : CopyResult → ℕ → List ℕ → Type 0
 OkCounts (Ok n) held xs = n ≡ (held + length xs) % 2 ^ 64
 OkCounts (Err e) held xs = ⊤
 
--- The tale without its `Pending`s is some bytes and then the mark of this value, and an `Ok` counts these bytes.
-abbrev TaleOfValue : CopyResult → ℕ → List ReadMark → Type 0
-TaleOfValue v held tale = (xs : List ℕ) × (strip_marks tale ≡ bytes xs ++ stop_of v ∷ []) × OkCounts v held xs
+-- The marks without their `Pending`s are some bytes and then the mark of this value, and an `Ok` counts these bytes.
+abbrev MarksOfValue : CopyResult → ℕ → List ReadMark → Type 0
+MarksOfValue v held marks = (xs : List ℕ) × (strip_marks marks ≡ bytes xs ++ stop_of v ∷ []) × OkCounts v held xs
 
 same_value : (v w : CopyResult) (held : ℕ) (xs ys : List ℕ) → (xs ≡ ys) × (stop_of v ≡ stop_of w)
     → OkCounts v held xs → OkCounts w held ys → SameByKind v w
@@ -62,7 +62,7 @@ same_value (Ok n) (Ok k) held xs ys both h g = cc
 same_value (Err e) (Err f) held xs ys both h g = cc both.1
 same_value _ _ held xs ys both h g = absurd (cc both.1)
 
-same_told : (v w : CopyResult) (held : ℕ) (i j : List ReadMark) → TaleOfValue v held i → TaleOfValue w held j
+same_told : (v w : CopyResult) (held : ℕ) (i j : List ReadMark) → MarksOfValue v held i → MarksOfValue w held j
     → Comparable (strip_marks i) (strip_marks j) → SameByKind v w
 same_told v w held i j h g c =
     same_value v w held h.0 g.0 (one_stop v w h.0 g.0 (rw (← g.1, ← h.1) c)) h.2 g.2
@@ -71,15 +71,15 @@ no_bytes : (phase : Phase) → bytes_told (met_in phase) ≡ []
 no_bytes Copying = refl
 no_bytes Flushing = refl
 
--- At most one value is given, and `TaleOfValue` holds of it.
+-- At most one value is given, and `MarksOfValue` holds of it.
 abbrev AllTold : List CopyResult → ℕ → List ReadMark → Type 0
-AllTold [] held tale = ⊤
-AllTold (v ∷ l) held tale = TaleOfValue v held tale × (l ≡ [])
+AllTold [] held marks = ⊤
+AllTold (v ∷ l) held marks = MarksOfValue v held marks × (l ≡ [])
 
-stopped : (read tale : List ReadMark) (v : CopyResult) → BytesAlone read → tale ≡ read ++ stop_of v ∷ []
-    → strip_marks tale ≡ bytes (bytes_told read) ++ stop_of v ∷ []
-stopped read tale (Ok n) on cut = rw (cut, strip_marks-append, goes_stripped read on)
-stopped read tale (Err e) on cut = rw (cut, strip_marks-append, goes_stripped read on)
+stopped : (read marks : List ReadMark) (v : CopyResult) → BytesAlone read → marks ≡ read ++ stop_of v ∷ []
+    → strip_marks marks ≡ bytes (bytes_told read) ++ stop_of v ∷ []
+stopped read marks (Ok n) on cut = rw (cut, strip_marks-append, goes_stripped read on)
+stopped read marks (Err e) on cut = rw (cut, strip_marks-append, goes_stripped read on)
 
 -- If no write failed, an error is one of the reader.
 reader_failed : (e : Error) (fault : List ReadMark) (last : List WriteMark) (after : List ℕ) (met : List ReadMark)
@@ -107,9 +107,9 @@ module _ {R W : Type 0} where
   CopyAlike alike x y = alike (source_of x) (source_of y) × (held_of x ≡ held_of y) × (met_in x.phase ≡ met_in y.phase)
       × (x.amount ≡ y.amount)
 
-  -- The reader's whole tale: the end of file if it was met before, and then these marks.
-  abbrev tale_of : CopyFuture R W → List ReadMark → List ReadMark
-  tale_of x told = met_in x.phase ++ told
+  -- All marks of the reader: the end of file if it was met before, and then these marks.
+  abbrev marks_of : CopyFuture R W → List ReadMark → List ReadMark
+  marks_of x told = met_in x.phase ++ told
 
   -- How many bytes were read before: those written and those still held.
   abbrev before_of : CopyFuture R W → ℕ
@@ -131,7 +131,7 @@ module _ {R W : Type 0} where
         sym (rw (told, empty, append-nil) at h.copied.balanced)
 
     ok_told : (n : ℕ) → CopyValue (Ok n ∷ []) h.copied.failed h.copied.last (held_of y) (met_in y.phase) y.amount
-        → TaleOfValue (Ok n) (before_of x) (tale_of x h.told)
+        → MarksOfValue (Ok n) (before_of x) (marks_of x h.told)
     ok_told n value =
         let c = h.copied in
         let a = ok_value _ _ y.amount n c.failed c.last value in
@@ -144,7 +144,7 @@ module _ {R W : Type 0} where
         )
 
     err_told : (e : Error) → CopyValue (Err e ∷ []) h.copied.failed h.copied.last (held_of y) (met_in y.phase) y.amount
-        → TaleOfValue (Err e) (before_of x) (tale_of x h.told)
+        → MarksOfValue (Err e) (before_of x) (marks_of x h.told)
     err_told e value =
         let c = h.copied in
         let f =
@@ -155,14 +155,14 @@ module _ {R W : Type 0} where
 
     told_at : (given : List CopyResult)
         → CopyValue given h.copied.failed h.copied.last (held_of y) (met_in y.phase) y.amount
-        → AllTold given (before_of x) (tale_of x h.told)
+        → AllTold given (before_of x) (marks_of x h.told)
     told_at [] a = tt
     told_at (Ok n ∷ []) a = (ok_told n a, refl)
     told_at (Err e ∷ []) a = (err_told e a, refl)
     told_at (Ok n ∷ v ∷ given) a = absurd a
     told_at (Err e ∷ v ∷ given) a = absurd a
 
-    all_told : AllTold (strip out) (before_of x) (tale_of x h.told)
+    all_told : AllTold (strip out) (before_of x) (marks_of x h.told)
     all_told = told_at _ h.copied.value
 
 all_same : (l m : List CopyResult) (held : ℕ) (i j : List ReadMark) → AllTold l held i → AllTold m held j
@@ -192,10 +192,10 @@ module _ {R W : Type 0} {reads : Runs ReadMark R} {writes : Runs WriteMark W} wh
             let j = k.moves in
             let one = all_told x x' l i in
             let two = all_told y y' m j in
-            let tales =
+            let lists =
             s.steady _ _ _ _ i.told j.told e.0 i.came j.came in
             let both =
-            comparable_behind (strip_marks (met_in x.phase)) _ _ tales in
+            comparable_behind (strip_marks (met_in x.phase)) _ _ lists in
             let begun : before_of y ≡ before_of x = omega (arith, e.3, ap length e.1) in
             let other = rw begun at two in
             all_same _ _ _ _ _ one other (rw (strip_marks-append _ i.told, strip_marks-append _ j.told, ← e.2) both);

@@ -1,6 +1,6 @@
 use Rattle.std.proofs.Common.{◌≡◌, ◌∙◌, ◌<◌, ◌+◌, ◌++◌, IfErr, IsErrAnd, Result, Ok, Err, arith, drop, length, take}
 use Rattle.std.proofs.lemmas.Grind.{common_steps}
-use Rattle.example_executor.proofs.Budgets.{each_outcome, may_run, none_finished}
+use Rattle.example_executor.proofs.PollLimits.{each_outcome, may_run, none_finished}
 use Rattle.example_executor.specs.Tasks.{WhereTooFew, finished}
 use Rattle.example_executor.specs.declared.fault.RunError.{RunError}
 use Rattle.example_executor.specs.declared.fault.RunError.TheVariants.{Memory, Queue, TooFew}

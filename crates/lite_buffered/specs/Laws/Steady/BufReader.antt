@@ -34,10 +34,10 @@ AheadAlike alike x y = (0 < reader_capacity x) × (0 < reader_capacity y) × (by
 module _ {R : Type 0} {reads : Runs ReadMark R} where
   module _ {ample : Runs ReadMark R} {needs_none : Type 0} {alike : R → R → Type 0}
       (s : SteadyReadLaws reads ample needs_none alike) where
-    one_tale : (x y x' y' : BufReader R) (l m : List ReadMark) → AheadAlike alike x y → ThroughBuffer ample x l x'
+    marks_agree : (x y x' y' : BufReader R) (l m : List ReadMark) → AheadAlike alike x y → ThroughBuffer ample x l x'
         → ThroughBuffer ample y m y'
         → Comparable (strip_marks l) (strip_marks m)
-    one_tale x y x' y' l m e h k =
+    marks_agree x y x' y' l m e h k =
         let came = s.steady x.inner y.inner x'.inner y'.inner h.came k.came e.3 h.ran k.ran in
         let first = passes_apart (reader_capacity x) (bytes_ahead x) (bytes_ahead x') h.came l e.0 h.passes in
         let second = passes_apart (reader_capacity y) (bytes_ahead y) (bytes_ahead y') k.came m e.1 k.passes in
@@ -48,7 +48,7 @@ module _ {R : Type 0} {reads : Runs ReadMark R} where
     pub buf_reader_steady : SteadyReadLaws (ThroughBuffer reads) (ThroughBuffer ample) needs_none (AheadAlike alike)
     buf_reader_steady = record {
       laws = through_laws s.laws;
-      steady = one_tale;
+      steady = marks_agree;
       found = λ n x y l h. record {
         came = h.came;
         ran = s.found n _ _ _ h.ran;

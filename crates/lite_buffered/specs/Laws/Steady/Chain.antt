@@ -58,20 +58,20 @@ module _ {R S : Type 0} {first : Runs ReadMark R} {second : Runs ReadMark S} whe
         let after = t.steady x.second y.second x'.second y'.second h.after k.after d h.second_ran k.second_ran in
         rw (h.cut, strip_marks-append, k.cut, strip_marks-append, same) (comparable_behind _ _ _ after)
 
-    one_tale : (a b c : Bool) (x y x' y' : Chain R S) (l m : List ReadMark) → alike1 x.first y.first
+    marks_agree : (a b c : Bool) (x y x' y' : Chain R S) (l m : List ReadMark) → alike1 x.first y.first
         → alike2 x.second y.second → JoinsReaders ample1 ample2 a b x l x'
         → JoinsReaders ample1 ample2 a c y m y' → Comparable (strip_marks l) (strip_marks m)
-    one_tale false false false x y x' y' l m e d h k = s.steady x.first y.first x'.first y'.first l m e h.0 k.0
-    one_tale false true false x y x' y' l m e d h k =
+    marks_agree false false false x y x' y' l m e d h k = s.steady x.first y.first x'.first y'.first l m e h.0 k.0
+    marks_agree false true false x y x' y' l m e d h k =
         past_cut x x' l m h k.1
         (s.steady x.first y.first x'.first y'.first (h.before ++ ReadMark.end ∷ []) m e (whole x x' l h) k.0)
-    one_tale false false true x y x' y' l m e d h k =
+    marks_agree false false true x y x' y' l m e d h k =
         comparable_swapped _ _ (past_cut y y' m l k h.1 (comparable_swapped _ _
         (s.steady x.first y.first x'.first y'.first l (k.before ++ ReadMark.end ∷ []) e h.0 (whole y y' m k))))
-    one_tale false true true x y x' y' l m e d h k = both_cross x y x' y' l m e d h k
-    one_tale true true true x y x' y' l m e d h k = t.steady x.second y.second x'.second y'.second l m d h.0 k.0
-    one_tale true false c x y x' y' l m e d h k = absurd h
-    one_tale true true false x y x' y' l m e d h k = absurd k
+    marks_agree false true true x y x' y' l m e d h k = both_cross x y x' y' l m e d h k
+    marks_agree true true true x y x' y' l m e d h k = t.steady x.second y.second x'.second y'.second l m d h.0 k.0
+    marks_agree true false c x y x' y' l m e d h k = absurd h
+    marks_agree true true false x y x' y' l m e d h k = absurd k
 
     all_ample : none1 × none2 → (a b : Bool) (x y : Chain R S) (l : List ReadMark) → JoinsReaders first second a b x l y
         → JoinsReaders ample1 ample2 a b x l y
@@ -96,7 +96,7 @@ module _ {R S : Type 0} {first : Runs ReadMark R} {second : Runs ReadMark S} whe
         record {
           laws = chains_laws ample1 ample2 s.laws t.laws;
           steady = λ x y x' y' l m e h k.
-              one_tale x.has_ended x'.has_ended y'.has_ended x y x' y' l m e.1 e.2 h
+              marks_agree x.has_ended x'.has_ended y'.has_ended x y x' y' l m e.1 e.2 h
               (rw e.0 k);
           found = λ n x y l h. all_ample n x.has_ended y.has_ended x y l h;
         }

@@ -50,10 +50,10 @@ LimitAlike alike x y = alike x.inner y.inner × (x.limit ≡ y.limit)
 module _ {R : Type 0} {reads : Runs ReadMark R} where
   module _ {ample : Runs ReadMark R} {needs_none : Type 0} {alike : R → R → Type 0}
       (s : SteadyReadLaws reads ample needs_none alike) where
-    one_tale : (x y x' y' : Take R) (l m : List ReadMark) → LimitAlike alike x y → ReadsWithin ample x l x'
+    marks_agree : (x y x' y' : Take R) (l m : List ReadMark) → LimitAlike alike x y → ReadsWithin ample x l x'
         → ReadsWithin ample y m y'
         → Comparable (strip_marks l) (strip_marks m)
-    one_tale x y x' y' l m e h k =
+    marks_agree x y x' y' l m e h k =
         let fits = fits_stripped x.limit x'.limit h.front h.fits in
         let fits2 = rw (← e.1) at (fits_stripped y.limit y'.limit k.front k.fits) in
         let ends = ends_stripped x'.limit h.ends h.used_up in
@@ -65,7 +65,7 @@ module _ {R : Type 0} {reads : Runs ReadMark R} where
     pub take_steady : SteadyReadLaws (ReadsWithin reads) (ReadsWithin ample) needs_none (LimitAlike alike)
     take_steady = record {
       laws = takes_laws s.laws;
-      steady = one_tale;
+      steady = marks_agree;
       found = λ n x y l h. record {
         front = h.front;
         ends = h.ends;

@@ -52,7 +52,7 @@ module _ {R C : Type 0} (reads : Runs ReadMark R) (may_refuse : C → String Glo
       in
       let says = says holds may_refuse (λ (f : TryCollect C). f.items) out x.folder y.folder h.ins [] v has h.consumed g in
       record {
-        tale = b.came;
+        marks = b.came;
         later = buffered_of left;
         told = subst (λ r. reads (buffered_of r) b.came (buffered_of left)) inner b.ran;
         collects = collects_so holds (limited limit (front ++ b.came)) (Given h.ins) v says each;

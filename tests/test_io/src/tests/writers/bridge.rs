@@ -1,4 +1,4 @@
-//! A tale over any reader of std, and takings over any writer of std, beside one another on one type.
+//! Marks over any reader of std, and over any writer of std, beside one another on one type.
 ghost use Rattle.test_io.specs.Bridge.{Drains, Holds};
 ghost use Rattle.test_io.specs.Laws.Bridge.{drains_laws, holds_laws};
 
@@ -49,7 +49,7 @@ impl<T: Write> AsyncWrite for Bridge<T> {
 }
 
 #[test]
-fn readers_and_writers_of_std_have_a_tale_and_takings(rt: HostRuntime) -> Result<(), Fail> {
+fn readers_and_writers_of_std_have_marks(rt: HostRuntime) -> Result<(), Fail> {
     let mut reader = Bridge {
         inner: b"ab".as_slice(),
     };

@@ -1,4 +1,4 @@
--- Tasks that have a budget: what becomes of each.
+-- Tasks that have a poll limit: what becomes of each.
 use Rattle.std.proofs.Common.{◌≡◌, ◌≤◌, ◌<◌, ◌+◌, ℕ, suc, List, [], ◌∷◌, length, map, Option, Some, None, Result, Ok, Err}
 use Rattle.std.proofs.Common.{arith, refl}
 use Rattle.std.specs.List.{AllByRecursion, cons_option, filter_map}
