@@ -9,9 +9,22 @@ mod task;
 use futures_lite::future::{self, Either, Exhausted};
 use futures_lite::{StreamExt, stream};
 use outcomes::run_each;
+use programs::end;
+use std::alloc::AllocGlobal;
 use std::io;
+use std::process::ExitCode;
+use std::random::RandomSource;
+use std::sync::Wait;
 
-fn main(rt: HostRuntime) -> io::Result<()> {
+fn main(rt: HostRuntime) -> ExitCode {
+    end(&rt, "example_executor", print(&rt))
+}
+
+/// Prints what becomes of three futures.
+fn print<R>(rt: &R) -> io::Result<()>
+where
+    R: Wait + RandomSource + AllocGlobal + Print,
+{
     let numbers = stream::iter_vec(vec![in rt.alloc(); 1u8, 2, 3, 4]?);
     // It is pending after each number, and wakes its own task.
     let sum = numbers
@@ -24,7 +37,7 @@ fn main(rt: HostRuntime) -> io::Result<()> {
         Either::Right(Either::Left(sum)),
         Either::Left(future::ready(7u8)),
     ]?;
-    for outcome in run_each(&rt, futures, 10)? {
+    for outcome in run_each(rt, futures, 10)? {
         match outcome {
             Ok(value) => println!(rt; "{value}")?,
             Err(Exhausted) => println!(rt; "its poll limit ended")?,

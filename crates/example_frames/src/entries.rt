@@ -9,6 +9,7 @@ use futures_lite::future::BlockOn;
 use futures_lite::io::{AsyncBufRead, CountedRead};
 use std::alloc::AllocGlobal;
 use std::sync::Wait;
+use thiserror::Error;
 use tokio_util::codec::{LinesCodec, LinesCodecError};
 
 /// A name has at most so many bytes.
@@ -27,15 +28,19 @@ pub struct Entry {
 }
 
 /// Why an entry was not read.
-#[derive(Debug, Drop)]
+#[derive(Debug, Drop, Error)]
 pub enum EntryError {
     /// The name is too long, or is not UTF-8; or the reader failed; or memory was refused.
+    #[error("a name was not read: {0}")]
     Name(LinesCodecError),
     /// The body is too long, or the input ended within it; or the reader failed; or memory was refused.
+    #[error("a body was not read: {0}")]
     Body(FrameError),
     /// The input ended behind the name, or within it.
+    #[error("the input ended within an entry")]
     CutOff,
     /// Memory was refused for the list of entries.
+    #[error("out of memory")]
     Memory,
 }
 

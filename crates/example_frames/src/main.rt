@@ -19,18 +19,24 @@ use framing::{read_all, send_and_read, write_frame};
 use futures_lite::future::BlockOn;
 use futures_lite::io::{BufReader, Cursor};
 use netstring::Netstring;
-use programs::end;
+use programs::{end, without_words};
 use std::alloc::AllocGlobal;
 use std::io::BufRead;
 use std::process::ExitCode;
 use std::random::RandomSource;
 use std::sync::Wait;
 
+/// The name of the program.
+const NAME: &str = "example_frames";
+
 /// Frames have at most so many bytes.
 const LIMIT: u32 = 1 << 16;
 
 fn main(rt: HostRuntime) -> ExitCode {
-    end(&rt, "example_frames", there_and_back(&rt, &rt))
+    match without_words(&rt, NAME) {
+        Ok(()) => end(&rt, NAME, there_and_back(&rt, &rt)),
+        Err(status) => status,
+    }
 }
 
 /// Writes the lines as frames, and prints what is read of them. `rt` is the host as one that may wait.
@@ -42,7 +48,13 @@ where
     let mut sent = Cursor::new(Vec::new(rt.alloc()));
     let mut codec = LengthDelimited { max: LIMIT };
     for line in std::io::BufReader::new(rt.alloc(), host.stdin())?.lines(rt.alloc()) {
-        write_frame(&mut on, rt, &mut sent, &mut codec, line?.as_str())?;
+        write_frame(
+            &mut on,
+            rt,
+            &mut sent,
+            &mut codec,
+            line.map_err(Fault::Input)?.as_str(),
+        )?;
     }
     show(host, rt, &mut on, &sent.into_inner())?;
     let long = (2 * LIMIT).to_be_bytes();

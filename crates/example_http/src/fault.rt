@@ -1,17 +1,22 @@
 //! Why the program ends before its input.
 use crate::http_error::HttpError;
-use std::{fmt, io};
+use std::io;
+use thiserror::Error;
 
 /// Why the program ends before its input.
-#[derive(Debug, Drop)]
+#[derive(Debug, Drop, Error)]
 pub enum ProgramError {
     /// The system supplied no random keys.
+    #[error("no random keys: {0}")]
     Keys(io::Error),
     /// The input returned this error.
+    #[error("cannot read: {0}")]
     Input(io::Error),
     /// The output returned this error.
+    #[error("cannot write: {0}")]
     Output(io::Error),
     /// Memory was refused.
+    #[error("out of memory")]
     Memory,
 }
 
@@ -30,17 +35,6 @@ impl programs::ProgramError for ProgramError {
         match self {
             ProgramError::Output(e) => e.is_broken_pipe(),
             _ => false,
-        }
-    }
-}
-
-impl fmt::Display for ProgramError {
-    fn fmt<W: fmt::Write>(&self, f: &mut fmt::Formatter<W>) -> fmt::Result {
-        match self {
-            ProgramError::Keys(e) => write!(f, "no random keys: {e}"),
-            ProgramError::Input(e) => write!(f, "cannot read: {e}"),
-            ProgramError::Output(e) => write!(f, "cannot write: {e}"),
-            ProgramError::Memory => f.write_str("out of memory"),
         }
     }
 }

@@ -27,7 +27,7 @@ use futures_lite::AsyncReadExt;
 use futures_lite::future::BlockOn;
 use futures_lite::io::{AssertAsync, BufReader, BufWriter};
 use http_server::Config;
-use programs::end;
+use programs::{end, without_words};
 use session::serve_session;
 use std::alloc::AllocGlobal;
 use std::hash::RandomState;
@@ -35,11 +35,17 @@ use std::process::ExitCode;
 use std::random::RandomSource;
 use std::sync::Wait;
 
+/// The name of the program.
+const NAME: &str = "example_http";
+
 /// How many bytes are read in a row before the program yields.
 const BYTES: usize = 1 << 16;
 
 fn main(rt: HostRuntime) -> ExitCode {
-    end(&rt, "example_http", serve_standard(&rt, &rt))
+    match without_words(&rt, NAME) {
+        Ok(()) => end(&rt, NAME, serve_standard(&rt, &rt)),
+        Err(status) => status,
+    }
 }
 
 /// Serves standard input. `rt` is the host as one that may wait.

@@ -17,12 +17,15 @@ use framed::{FramedRead, LineDelimited};
 use futures_lite::AsyncReadExt;
 use futures_lite::future::BlockOn;
 use futures_lite::io::{AssertAsync, BufReader, BufWriter};
-use programs::end;
+use programs::{end, without_words};
 use session::serve_session;
 use std::alloc::AllocGlobal;
 use std::process::ExitCode;
 use std::random::RandomSource;
 use std::sync::Wait;
+
+/// The name of the program.
+const NAME: &str = "example_lines";
 
 /// How many bytes are read in a row before the program yields.
 const BYTES: usize = 1 << 16;
@@ -31,7 +34,10 @@ const BYTES: usize = 1 << 16;
 const LIMIT: usize = 1 << 16;
 
 fn main(rt: HostRuntime) -> ExitCode {
-    end(&rt, "example_lines", serve_standard(&rt, &rt))
+    match without_words(&rt, NAME) {
+        Ok(()) => end(&rt, NAME, serve_standard(&rt, &rt)),
+        Err(status) => status,
+    }
 }
 
 /// Serves standard input. `rt` is the host as one that may wait.

@@ -13,40 +13,69 @@ use futures_lite::stream::iter_vec;
 use gather::{
     NotDigits, all_doubled, digits, evens_doubled, flattened, joined, numbered, pairs, parted, sums,
 };
+use programs::end;
+use std::alloc::AllocGlobal;
 use std::io::{self, ErrorKind};
+use std::process::ExitCode;
+use std::random::RandomSource;
+use std::sync::Wait;
 use sum::{counted, total};
 use text::{all, front_lines, lines, packed};
 
-fn main(rt: HostRuntime) -> io::Result<()> {
+fn main(rt: HostRuntime) -> ExitCode {
+    end(&rt, "example_nests", print(&rt))
+}
+
+/// Prints what each nest gives.
+fn print<R>(rt: &R) -> io::Result<()>
+where
+    R: Wait + RandomSource + AllocGlobal + Print,
+{
+    print_streams(rt)?;
+    print_readers(rt)?;
+    together::print(rt)
+}
+
+/// Prints what the nests of streams give.
+fn print_streams<R>(rt: &R) -> io::Result<()>
+where
+    R: Wait + RandomSource + AllocGlobal + Print,
+{
     let numbers = vec![in rt.alloc(); 3u32, 4, 10, 11]?;
     let bytes = vec![in rt.alloc(); 1u8, 2]?;
-    println!(rt; "{:?}", evens_doubled(&rt, numbers.clone()?)?)?;
-    println!(rt; "{:?}", all_doubled(&rt, iter_vec(numbers.clone()?))?)?;
-    println!(rt; "{}", counted(&rt, numbers.clone()?, 3)?)?;
-    println!(rt; "{}", total(&rt, numbers.clone()?)?)?;
-    println!(rt; "{:?}", first_large(&rt, numbers.clone()?)?)?;
-    println!(rt; "{:?}", pairs(&rt, bytes.clone()?, numbers.clone()?)?)?;
-    println!(rt; "{:?}", joined(&rt, bytes.clone()?, bytes)?)?;
-    println!(rt; "{}", all_even(&rt, numbers.clone()?)?)?;
-    println!(rt; "{:?}", last_small(&rt, numbers.clone()?)?)?;
-    println!(rt; "{:?}", place_of_even(&rt, numbers.clone()?)?)?;
-    println!(rt; "{:?}", numbered(&rt, numbers.clone()?)?)?;
-    println!(rt; "{:?}", parted(&rt, numbers.clone()?)?)?;
-    println!(rt; "{:?}", sums(&rt, numbers.clone()?)?)?;
-    println!(rt; "{:?}", flattened(&rt, numbers.clone()?)?)?;
-    match digits(&rt, numbers) {
+    println!(rt; "{:?}", evens_doubled(rt, numbers.clone()?)?)?;
+    println!(rt; "{:?}", all_doubled(rt, iter_vec(numbers.clone()?))?)?;
+    println!(rt; "{}", counted(rt, numbers.clone()?, 3)?)?;
+    println!(rt; "{}", total(rt, numbers.clone()?)?)?;
+    println!(rt; "{:?}", first_large(rt, numbers.clone()?)?)?;
+    println!(rt; "{:?}", pairs(rt, bytes.clone()?, numbers.clone()?)?)?;
+    println!(rt; "{:?}", joined(rt, bytes.clone()?, bytes)?)?;
+    println!(rt; "{}", all_even(rt, numbers.clone()?)?)?;
+    println!(rt; "{:?}", last_small(rt, numbers.clone()?)?)?;
+    println!(rt; "{:?}", place_of_even(rt, numbers.clone()?)?)?;
+    println!(rt; "{:?}", numbered(rt, numbers.clone()?)?)?;
+    println!(rt; "{:?}", parted(rt, numbers.clone()?)?)?;
+    println!(rt; "{:?}", sums(rt, numbers.clone()?)?)?;
+    println!(rt; "{:?}", flattened(rt, numbers.clone()?)?)?;
+    match digits(rt, numbers) {
         Ok(all) => println!(rt; "{all:?}")?,
         Err(NotDigits::Item(x)) => println!(rt; "{x} is no digit")?,
         Err(NotDigits::Memory) => return Err(ErrorKind::OutOfMemory.into()),
     }
-    println!(rt; "{:?}", lines(&rt, b"one\ntwo\r\nthree")?)?;
-    let second = b"wo\nthree".to_vec(rt.alloc())?;
-    println!(rt; "{:?}", front_lines(&rt, b"one\nt", second, 7)?)?;
-    let mut read = Vec::new(rt.alloc());
-    let n = all(&rt, b"abc", &mut read)??;
-    println!(rt; "{n} {read:?}")?;
-    let bytes = packed(&rt, b"ab")??;
-    println!(rt; "{bytes:?}")?;
-    together::print(&rt, &rt)?;
     Ok(())
+}
+
+/// Prints what the nests of readers give.
+fn print_readers<R>(rt: &R) -> io::Result<()>
+where
+    R: Wait + RandomSource + AllocGlobal + Print,
+{
+    println!(rt; "{:?}", lines(rt, b"one\ntwo\r\nthree")?)?;
+    let second = b"wo\nthree".to_vec(rt.alloc())?;
+    println!(rt; "{:?}", front_lines(rt, b"one\nt", second, 7)?)?;
+    let mut read = Vec::new(rt.alloc());
+    let n = all(rt, b"abc", &mut read)??;
+    println!(rt; "{n} {read:?}")?;
+    let bytes = packed(rt, b"ab")??;
+    println!(rt; "{bytes:?}")
 }

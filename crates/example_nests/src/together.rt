@@ -90,30 +90,30 @@ where
 }
 
 /// Prints a value of each.
-pub fn print<R>(host: &HostRuntime, rt: &R) -> io::Result<()>
+pub fn print<R>(rt: &R) -> io::Result<()>
 where
-    R: Wait + RandomSource + AllocGlobal,
+    R: Wait + RandomSource + AllocGlobal + Print,
 {
-    println!(host; "{}", preferred(rt, 1, 2)?)?;
-    println!(host; "{}", only_first(rt, 1)?)?;
-    println!(host; "{}", only_third(rt, 3)?)?;
-    println!(host; "{}", raced(rt, 2, 42)?)?;
-    println!(host; "{}", raced_alike(rt, 4, 42)?)?;
-    println!(host; "{:?}", tried(rt, Ok(3), Err(4))?)?;
-    println!(host; "{:?}", tried_both(rt, 1, 2)?)?;
-    println!(host; "{:?}", failed_at_once(rt, 7)?)?;
-    print_unfolded(host, rt)
+    println!(rt; "{}", preferred(rt, 1, 2)?)?;
+    println!(rt; "{}", only_first(rt, 1)?)?;
+    println!(rt; "{}", only_third(rt, 3)?)?;
+    println!(rt; "{}", raced(rt, 2, 42)?)?;
+    println!(rt; "{}", raced_alike(rt, 4, 42)?)?;
+    println!(rt; "{:?}", tried(rt, Ok(3), Err(4))?)?;
+    println!(rt; "{:?}", tried_both(rt, 1, 2)?)?;
+    println!(rt; "{:?}", failed_at_once(rt, 7)?)?;
+    print_unfolded(rt)
 }
 
 /// Prints three numbers that a function unfolds from a seed. That the stream may be polled is found with no proof file.
-fn print_unfolded<R>(host: &HostRuntime, rt: &R) -> io::Result<()>
+fn print_unfolded<R>(rt: &R) -> io::Result<()>
 where
-    R: Wait + RandomSource + AllocGlobal,
+    R: Wait + RandomSource + AllocGlobal + Print,
 {
     let numbers = unfold(
         0,
         |n: u32| ready(if n < 3 { Some((n, n + 1)) } else { None }),
     );
     let all = block_on(rt, numbers.with_budget(2).collect::<Vec<u32>>(rt.alloc()))?;
-    println!(host; "{:?}", all.map_err(|_| AllocError)?)
+    println!(rt; "{:?}", all.map_err(|_| AllocError)?)
 }

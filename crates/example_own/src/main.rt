@@ -18,11 +18,24 @@ mod ticks;
 mod total;
 mod upper;
 
+use programs::end;
+use std::alloc::AllocGlobal;
 use std::io;
+use std::process::ExitCode;
+use std::random::RandomSource;
+use std::sync::Wait;
 
-fn main(rt: HostRuntime) -> io::Result<()> {
-    futures_here::show(&rt)?;
-    streams_here::show(&rt)?;
-    merged::show(&rt)?;
-    readers_here::show(&rt)
+fn main(rt: HostRuntime) -> ExitCode {
+    end(&rt, "example_own", show(&rt))
+}
+
+/// Uses each of them, and prints what it gave.
+fn show<R>(rt: &R) -> io::Result<()>
+where
+    R: Wait + RandomSource + AllocGlobal + Print,
+{
+    futures_here::show(rt)?;
+    streams_here::show(rt)?;
+    merged::show(rt)?;
+    readers_here::show(rt)
 }

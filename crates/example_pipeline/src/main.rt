@@ -24,6 +24,9 @@ use std::sync::Wait;
 /// The name of the program.
 const NAME: &str = "example_pipeline";
 
+/// How it is called.
+const USAGE: &str = "example_pipeline [--quiet]";
+
 /// How many bytes are read in a row before the program yields.
 const BYTES: usize = 1 << 20;
 
@@ -31,12 +34,12 @@ const BYTES: usize = 1 << 20;
 const BUFFER: usize = 1 << 16;
 
 fn main(rt: HostRuntime) -> ExitCode {
-    match Command::of(&rt) {
+    match Command::of(&rt, NAME, USAGE) {
         Ok(command) if command.words.is_empty() => {
             end(&rt, NAME, run_standard(&rt, &rt, command.quiet))
         }
-        Ok(_) => misused(&rt, NAME, "example_pipeline [--quiet]"),
-        Err(e) => end(&rt, NAME, Err(e)),
+        Ok(_) => misused(&rt, NAME, USAGE),
+        Err(status) => status,
     }
 }
 

@@ -10,12 +10,25 @@ mod sender;
 mod transfer;
 
 use callers::{evens, tripled};
+use programs::end;
 use queue::Queue;
+use std::alloc::AllocGlobal;
 use std::io;
+use std::process::ExitCode;
+use std::random::RandomSource;
+use std::sync::Wait;
 
-fn main(rt: HostRuntime) -> io::Result<()> {
+fn main(rt: HostRuntime) -> ExitCode {
+    end(&rt, "example_queue", print(&rt))
+}
+
+/// Prints what came through a queue, and which items it refused.
+fn print<R>(rt: &R) -> io::Result<()>
+where
+    R: Wait + RandomSource + AllocGlobal + Print,
+{
     let numbers = vec![in rt.alloc(); 1u32, 2, 3, 4, 5]?;
-    println!(rt; "{:?}", tripled(&rt, numbers, 2)?)?;
+    println!(rt; "{:?}", tripled(rt, numbers, 2)?)?;
     let mut queue = Queue::new(rt.alloc(), 3);
     for number in 1..5u32 {
         if let Err(refused) = queue.send(number) {
@@ -23,5 +36,5 @@ fn main(rt: HostRuntime) -> io::Result<()> {
         }
     }
     queue.close();
-    println!(rt; "{:?}", evens(&rt, queue)?)
+    println!(rt; "{:?}", evens(rt, queue)?)
 }

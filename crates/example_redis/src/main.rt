@@ -28,7 +28,7 @@ use futures_lite::AsyncReadExt;
 use futures_lite::future::BlockOn;
 use futures_lite::io::{AssertAsync, BufReader, BufWriter};
 use limits::Limits;
-use programs::end;
+use programs::{end, without_words};
 use reply::Replies;
 use requests::Requests;
 use session::serve_session;
@@ -38,6 +38,9 @@ use std::random::RandomSource;
 use std::sync::Wait;
 use store::Store;
 
+/// The name of the program.
+const NAME: &str = "example_redis";
+
 /// How many bytes are read in a row before the program yields.
 const BYTES: usize = 1 << 16;
 
@@ -45,7 +48,10 @@ const BYTES: usize = 1 << 16;
 const DEPTH: usize = 8;
 
 fn main(rt: HostRuntime) -> ExitCode {
-    end(&rt, "example_redis", serve_standard(&rt, &rt))
+    match without_words(&rt, NAME) {
+        Ok(()) => end(&rt, NAME, serve_standard(&rt, &rt)),
+        Err(status) => status,
+    }
 }
 
 /// Serves standard input. `rt` is the host as one that may wait.

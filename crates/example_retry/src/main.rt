@@ -8,11 +8,24 @@ mod retry;
 
 use callers::{paired, retried, waited};
 use later::Later;
+use programs::end;
+use std::alloc::AllocGlobal;
 use std::io;
+use std::process::ExitCode;
+use std::random::RandomSource;
+use std::sync::Wait;
 
-fn main(rt: HostRuntime) -> io::Result<()> {
+fn main(rt: HostRuntime) -> ExitCode {
+    end(&rt, "example_retry", print(&rt))
+}
+
+/// Prints how attempts ended.
+fn print<R>(rt: &R) -> io::Result<()>
+where
+    R: Wait + RandomSource + AllocGlobal + Print,
+{
     let later = waited(
-        &rt,
+        rt,
         3,
         |n: u32| Later {
             left: n,
@@ -20,11 +33,11 @@ fn main(rt: HostRuntime) -> io::Result<()> {
         },
     )?;
     println!(rt; "{later:?}")?;
-    let replied = retried(&rt, 3, 2)?;
+    let replied = retried(rt, 3, 2)?;
     prove!(matches!(replied, Ok(2)));
     println!(rt; "{replied:?}")?;
-    let refused = retried(&rt, 1, 2)?;
+    let refused = retried(rt, 1, 2)?;
     prove!(matches!(refused, Err(1)));
     println!(rt; "{refused:?}")?;
-    println!(rt; "{:?}", paired(&rt, 7, 3, 2)?)
+    println!(rt; "{:?}", paired(rt, 7, 3, 2)?)
 }

@@ -11,21 +11,31 @@ use futures_lite::io::{
     WriteSpec, history, split_journalled,
 };
 use futures_lite::{AsyncRead, AsyncWrite};
+use programs::end;
 use std::alloc::AllocGlobal;
 use std::io::ErrorKind;
 use std::marker::Brand;
+use std::process::ExitCode;
 use std::random::RandomSource;
 use std::sync::Wait;
 use std::thread::Threads;
 use std::{io, thread};
 
-fn main(rt: HostRuntime) -> io::Result<()> {
+fn main(rt: HostRuntime) -> ExitCode {
+    end(&rt, "example_two_threads", print(rt))
+}
+
+/// Uses a journal in two threads, and prints what its history has of both.
+fn print<R>(rt: R) -> io::Result<()>
+where
+    R: Threads + Wait + RandomSource + AllocGlobal + Print + Copy + Send + Sync,
+{
     let cursor = Cursor::new(Vec::from_slice(rt.alloc(), b"abcdefgh")?);
     let Ok(journal) = Journal::new(rt.alloc(), cursor) else {
         return Err(ErrorKind::OutOfMemory.into());
     };
-    // The proof of this call picks the books: `proofs/main/Invariants.antt`.
-    let told = in_two_threads::<HostRuntime, Brand>(rt, journal, NewCounters::new())?;
+    // The proof of this call picks the counters: `proofs/print/Invariants.antt`.
+    let told = in_two_threads::<R, Brand>(rt, journal, NewCounters::new())?;
     println!(rt; "{told}")
 }
 

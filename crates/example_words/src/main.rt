@@ -36,6 +36,9 @@ use std::sync::Wait;
 /// The name of the program.
 const NAME: &str = "example_words";
 
+/// How it is called.
+const USAGE: &str = "example_words map [--quiet] | example_words reduce [--quiet]";
+
 /// How many bytes are read in a row before the program yields.
 const BYTES: usize = 1 << 20;
 
@@ -52,17 +55,13 @@ enum Mode {
 }
 
 fn main(rt: HostRuntime) -> ExitCode {
-    let command = match Command::of(&rt) {
+    let command = match Command::of(&rt, NAME, USAGE) {
         Ok(command) => command,
-        Err(e) => return end(&rt, NAME, Err(e)),
+        Err(status) => return status,
     };
     match mode_of(&command.words) {
         Some(mode) => end(&rt, NAME, run_standard(&rt, &rt, mode, command.quiet)),
-        None => misused(
-            &rt,
-            NAME,
-            "example_words map [--quiet] | example_words reduce [--quiet]",
-        ),
+        None => misused(&rt, NAME, USAGE),
     }
 }
 

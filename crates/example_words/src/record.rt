@@ -7,6 +7,7 @@ use crate::fault::LineError;
 use crate::words::is_word;
 use itoa::Buffer;
 use std::alloc::AllocError;
+use std::num::IntErrorKind;
 
 /// A word, and how often it was counted.
 #[derive(Debug, Clone, Copy, PartialEq, Eq)]
@@ -44,10 +45,8 @@ pub fn parse_record(line: &[u8]) -> Result<Record<'_>, LineError>
     if !is_word(word) {
         return Err(LineError::NoWord);
     }
-    match parse_count(digits) {
-        Some(count) => Ok(Record { word, count }),
-        None => Err(LineError::NoCount),
-    }
+    let count = parse_count(digits)?;
+    Ok(Record { word, count })
 }
 
 // Returns what is before the newline at the end of the line.
@@ -66,19 +65,21 @@ fn split_at_tab(text: &[u8]) -> Option<(&[u8], &[u8])>
 }
 
 // Returns the count that these digits are, if it is written as `push_record` writes it, and not 0.
-fn parse_count(digits: &[u8]) -> Option<u64>
-    ensures { IfSome result (λ n. (digits.now ≡ decimal n) × (0 < n)) }
+fn parse_count(digits: &[u8]) -> Result<u64, LineError>
+    ensures { IfOk result (λ n. (digits.now ≡ decimal n) × (0 < n)) }
 {
     let Ok(text) = str::from_utf8(digits) else {
-        return None;
+        return Err(LineError::NoCount);
     };
-    let Ok(count) = text.parse::<u64>() else {
-        return None;
+    let count = match text.parse::<u64>() {
+        Ok(count) => count,
+        Err(e) if matches!(e.kind(), IntErrorKind::PosOverflow) => return Err(LineError::TooLarge),
+        Err(_) => return Err(LineError::NoCount),
     };
     let mut buffer = Buffer::new();
     if count > 0 && buffer.format(count).as_bytes() == digits {
-        Some(count)
+        Ok(count)
     } else {
-        None
+        Err(LineError::NoCount)
     }
 }

@@ -1,16 +1,22 @@
 //! Why the lines are not counted.
 use programs::ProgramError;
-use std::io::ErrorKind;
-use std::{fmt, io};
+use std::io;
+use thiserror::Error;
 
 /// Why the lines were not counted.
-#[derive(Debug, Drop)]
+#[derive(Debug, Drop, Error)]
 pub enum CountError {
+    /// The line with this number, counted from 1, is not UTF-8.
+    #[error("line {0}: not UTF-8")]
+    NotUtf8(u64),
     /// The line with this number, counted from 1, was not read.
+    #[error("line {0}: cannot read: {1}")]
     Line(u64, io::Error),
     /// The number was not printed.
+    #[error("cannot write: {0}")]
     Output(io::Error),
     /// Memory was refused before the first line.
+    #[error("out of memory")]
     Memory,
 }
 
@@ -19,19 +25,6 @@ impl ProgramError for CountError {
         match self {
             CountError::Output(e) => e.is_broken_pipe(),
             _ => false,
-        }
-    }
-}
-
-impl fmt::Display for CountError {
-    fn fmt<W: fmt::Write>(&self, f: &mut fmt::Formatter<W>) -> fmt::Result {
-        match self {
-            CountError::Line(line, e) if e.kind() == ErrorKind::InvalidData => {
-                write!(f, "line {line}: not UTF-8")
-            }
-            CountError::Line(line, e) => write!(f, "line {line}: {e}"),
-            CountError::Output(e) => write!(f, "output failed: {e}"),
-            CountError::Memory => f.write_str("out of memory"),
         }
     }
 }

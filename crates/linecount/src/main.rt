@@ -10,14 +10,16 @@ use futures_lite::io::{AssertAsync, BufReader, CountedRead};
 use futures_lite::{AsyncBufRead, AsyncBufReadExt, AsyncReadExt, StreamExt, future};
 use programs::{Command, Watched, end, misused};
 use std::alloc::AllocGlobal;
-use std::io;
-use std::io::IsTerminal;
+use std::io::{self, ErrorKind, IsTerminal};
 use std::process::ExitCode;
 use std::random::RandomSource;
 use std::sync::Wait;
 
 /// The name of the program.
 const NAME: &str = "linecount";
+
+/// How it is called.
+const USAGE: &str = "linecount [--quiet]";
 
 /// How many bytes are read in a row before the program yields.
 const BYTES: usize = 1 << 16;
@@ -26,10 +28,10 @@ const BYTES: usize = 1 << 16;
 const LINES: usize = 1 << 12;
 
 fn main(rt: HostRuntime) -> ExitCode {
-    match Command::of(&rt) {
+    match Command::of(&rt, NAME, USAGE) {
         Ok(command) if command.words.is_empty() => end(&rt, NAME, printed(&rt, &rt, command.quiet)),
-        Ok(_) => misused(&rt, NAME, "linecount [--quiet]"),
-        Err(e) => end(&rt, NAME, Err(e)),
+        Ok(_) => misused(&rt, NAME, USAGE),
+        Err(status) => status,
     }
 }
 
@@ -71,6 +73,7 @@ fn numbered_line((before, line): (usize, io::Result<String>)) -> Result<u64, Cou
     let number = (before as u64).saturating_add(1);
     match line {
         Ok(_) => Ok(number),
+        Err(e) if e.kind() == ErrorKind::InvalidData => Err(CountError::NotUtf8(number)),
         Err(e) => Err(CountError::Line(number, e)),
     }
 }

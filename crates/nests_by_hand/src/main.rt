@@ -12,18 +12,31 @@ use closures::hundredths;
 use futures_lite::stream::{iter_vec, script};
 use futures_lite::{Doorbell, Poll, Solo};
 use nest::{first_evens, small_evens, tripled};
+use programs::end;
+use std::alloc::AllocGlobal;
 use std::io;
+use std::process::ExitCode;
+use std::random::RandomSource;
+use std::sync::Wait;
 use twice::triples_agree;
 use unfolding::below_two;
 
-fn main(rt: HostRuntime) -> io::Result<()> {
-    for number in below_two(&rt)? {
+fn main(rt: HostRuntime) -> ExitCode {
+    end(&rt, "nests_by_hand", print(&rt))
+}
+
+/// Prints what the polls answer, and then the calls of `next`.
+fn print<R>(rt: &R) -> io::Result<()>
+where
+    R: Wait + RandomSource + AllocGlobal + Print,
+{
+    for number in below_two(rt)? {
         println!(rt; "{number}")?;
     }
     let numbers = vec![in rt.alloc(); 1u32, 2, 3, 4, 500, 6]?;
     let divisors = vec![in rt.alloc(); 1u64, 7, 30]?;
     let (once, once_more) = (numbers.clone()?, numbers.clone()?);
-    let solo = Solo::new(&rt, Doorbell::spinning())?;
+    let solo = Solo::new(rt, Doorbell::spinning())?;
     let mut answers = Vec::new(rt.alloc());
 
     let mut cx = solo.begin();
@@ -33,7 +46,7 @@ fn main(rt: HostRuntime) -> io::Result<()> {
         .and_then(|_| tripled(once_more, &mut cx, &mut answers));
     cx.cancel();
     ran?;
-    again(&rt, &mut answers)?;
+    again(rt, &mut answers)?;
 
     for answer in answers {
         match answer {
@@ -44,16 +57,19 @@ fn main(rt: HostRuntime) -> io::Result<()> {
     }
 
     let mut numbers = iter_vec(vec![in rt.alloc(); 1u32, 2, 3, 4, 5]?);
-    if let Some((first, second)) = next_two(&rt, &mut numbers)? {
+    if let Some((first, second)) = next_two(rt, &mut numbers)? {
         println!(rt; "{first}, {second}")?;
     }
     let mut left = Vec::new(rt.alloc());
-    append_all(&rt, &mut numbers, &mut left)?;
+    append_all(rt, &mut numbers, &mut left)?;
     println!(rt; "{left:?}")
 }
 
 /// The same nest over two scripts that differ in their pendings alone: what each of them answers, one after the other.
-fn again(rt: &HostRuntime, answers: &mut Vec<Poll<Option<u64>>>) -> io::Result<()> {
+fn again<R: RandomSource + AllocGlobal>(
+    rt: &R,
+    answers: &mut Vec<Poll<Option<u64>>>,
+) -> io::Result<()> {
     let plain = script(vec![in rt.alloc(); Poll::Ready(Some(1u32)), Poll::Ready(Some(6))]?);
     let late = script(vec![in rt.alloc();
         Poll::Pending,

@@ -13,20 +13,23 @@ pub enum Fault {
     Memory,
     /// The output could not be written.
     Output,
+    /// Nobody reads the output any more.
+    BrokenPipe,
 }
 
 impl Fault {
-    /// The status that the program ends with: 2 for bad arguments, else 1.
+    /// The status that the program ends with: 2 for bad arguments, 141 for a broken pipe, else 1.
     pub fn status(self) -> u8
         ensures { result ≡ status_of self }
     {
         match self {
             Fault::Arguments => 2,
             Fault::Memory | Fault::Output => 1,
+            Fault::BrokenPipe => 141,
         }
     }
 
-    /// The line that tells the fault, with its newline.
+    /// The line that tells the fault, with its newline. A broken pipe has none.
     pub fn line(self) -> &'static str
         ensures { result.now ≡ line_of self }
     {
@@ -34,6 +37,7 @@ impl Fault {
             Fault::Arguments => "pollrun: bad arguments\n",
             Fault::Memory => "pollrun: out of memory\n",
             Fault::Output => "pollrun: output failed\n",
+            Fault::BrokenPipe => "",
         }
     }
 }

@@ -1,8 +1,8 @@
 //! `pollrun PIPE POLLS ANSWERS` polls a stream over a script and prints what it answers.
 #![tactic(auto)]
 
-ghost use Rattle.std.specs.Prelude.{◌≢◌, ◌≤◌, IfErr, IfOk};
-ghost use Rattle.pollrun.specs.declared.fault.Fault.TheVariants.{Output};
+ghost use Rattle.std.specs.Prelude.{◌≡◌, ◌≤◌, ◌⊎◌, IfErr, IfOk};
+ghost use Rattle.pollrun.specs.declared.fault.Fault.TheVariants.{Arguments, Memory};
 
 mod fault;
 mod request;
@@ -28,8 +28,8 @@ fn main(rt: HostRuntime) -> ExitCode {
 
 /// Hands the words, the standard streams and a task of its own to `serve`.
 fn served(rt: &HostRuntime) -> Result<u8, Fault>
-    ensures status { IfOk result (λ status. status ≤ 2) }
-    ensures failed { IfErr result (λ fault. fault ≢ Output) }
+    ensures status { IfOk result (λ status. (status ≤ 2) ⊎ (status ≡ 141)) }
+    ensures failed { IfErr result (λ fault. (fault ≡ Arguments) ⊎ (fault ≡ Memory)) }
 {
     let words = words_of(rt)?;
     let Ok(solo) = Solo::new(rt, Doorbell::spinning()) else {
@@ -49,7 +49,7 @@ fn served(rt: &HostRuntime) -> Result<u8, Fault>
 
 /// The words after the program's name. One that is not UTF-8 is no argument of this program's.
 fn words_of(rt: &HostRuntime) -> Result<Vec<String>, Fault>
-    ensures { IfErr result (λ fault. fault ≢ Output) }
+    ensures { IfErr result (λ fault. (fault ≡ Arguments) ⊎ (fault ≡ Memory)) }
 {
     match env::args(rt) {
         Ok(words) => Ok(words.skip(1).collect(rt.alloc())?),

@@ -1,5 +1,5 @@
 //! The program, over any writers.
-ghost use Rattle.std.specs.Prelude.{◌≡◌, ◌≤◌, ◌+ℤ◌, ◌++◌, ◌∷◌, [], List, length, map, IfErr, IfOk, OnOk, string_bytes};
+ghost use Rattle.std.specs.Prelude.{◌≡◌, ◌≤◌, ◌+ℤ◌, ◌++◌, ◌⊎◌, ◌∷◌, [], List, length, map, IfErr, IfOk, OnOk, string_bytes};
 ghost use Rattle.std.specs.Fmt.{signed_decimal};
 ghost use Rattle.std.specs.Io.KnownBytes.{Appends, Keeps};
 ghost use Rattle.lite_base.specs.Answers.{Answer};
@@ -7,7 +7,7 @@ ghost use Rattle.pollrun.specs.Fault.{line_of as line_of_fault};
 ghost use Rattle.pollrun.specs.Job.{pipe_in, scripts_in};
 ghost use Rattle.pollrun.specs.Request.{IsRequest};
 ghost use Rattle.pollrun.specs.Served.{Prints, Served, is_even as evenness};
-ghost use Rattle.pollrun.specs.declared.fault.Fault.TheVariants.{Arguments, Output};
+ghost use Rattle.pollrun.specs.declared.fault.Fault.TheVariants.{Arguments, BrokenPipe, Output};
 ghost use Rattle.pollrun.specs.Spelling.{spelled_list};
 
 use crate::fault::Fault;
@@ -20,15 +20,15 @@ use lite_reshape::make::{chain, filter, step_by};
 use lite_source::make::script;
 use lite_stream::make::{map, take};
 use std::alloc::{AllocError, Global};
-use std::io::{self, Write};
+use std::io::{self, ErrorKind, Write};
 
 /// Reads the words `PIPE POLLS ANSWERS` from left to right, polls the pipe over the script that ANSWERS spells,
 /// and writes what it answered to `out` as one line. Answers the status to end with.
 ///
 /// 0: the line was written. 2: the words are no request; nothing was written to `out`, and
 /// `pollrun: bad arguments` to `err`. 1: memory was refused, nothing was written to `out`, and
-/// `pollrun: out of memory` to `err`; or `out` failed, and `pollrun: output failed` was written to `err`. An `err`
-/// that fails changes no status. The original has no such program.
+/// `pollrun: out of memory` to `err`; or `out` failed, and `pollrun: output failed` was written to `err`. 141: nobody
+/// reads `out` any more. An `err` that fails changes no status. The original has no such program.
 pub fn serve<A: Write, B: Write>(
     alloc: Global,
     cx: &mut Context<'_>,
@@ -40,7 +40,7 @@ pub fn serve<A: Write, B: Write>(
     ensures refused { result ≡ 2 → (pipe : _) (polls : _) (scripts : _) → IsRequest (map string_bytes words.now) pipe polls scripts
         → ⊥ }
     ensures silent { result ≡ 2 → Keeps (A.contents out.old) (A.contents out.new) }
-    ensures status { result ≤ 2 }
+    ensures status { (result ≤ 2) ⊎ (result ≡ 141) }
 {
     match answer(alloc, cx, words, out) {
         Ok(()) => 0,
@@ -77,16 +77,20 @@ fn answer<A: Write>(
 
 fn print<A: Write>(line: &str, out: &mut A) -> Result<(), Fault>
     ensures written { IfOk result (λ _. Appends (A.contents out.old) (A.contents out.new) line.now) }
-    ensures failed { IfErr result (λ fault. fault ≡ Output) }
+    ensures failed { IfErr result (λ fault. (fault ≡ Output) ⊎ (fault ≡ BrokenPipe)) }
 {
-    match out.write_all(line.as_bytes()) {
-        Ok(()) => {}
-        Err(_) => return Err(Fault::Output),
-    }
-    match out.flush() {
+    match written(line, out) {
         Ok(()) => Ok(()),
+        Err(e) if e.kind() == ErrorKind::BrokenPipe => Err(Fault::BrokenPipe),
         Err(_) => Err(Fault::Output),
     }
+}
+
+fn written<A: Write>(line: &str, out: &mut A) -> io::Result<()>
+    ensures { OnOk result (Appends (A.contents out.old) (A.contents out.new) line.now) }
+{
+    out.write_all(line.as_bytes())?;
+    out.flush()
 }
 
 fn line_for(alloc: Global, cx: &mut Context<'_>, request: Request) -> Result<String, AllocError>

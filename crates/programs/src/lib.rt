@@ -5,6 +5,6 @@ mod command;
 mod ending;
 mod watched;
 
-pub use command::Command;
+pub use command::{Command, without_words};
 pub use ending::{BROKEN_PIPE, ProgramError, end, misused};
 pub use watched::Watched;

@@ -179,7 +179,6 @@ fn lines_that_are_no_records_are_refused(rt: HostRuntime) -> Result<(), Fail> {
         b"1 ",
         b"1\r",
         b"\xff",
-        b"18446744073709551616",
     ] {
         let mut line = Vec::from_slice(rt.alloc(), b"a\t1\na\t")?;
         line.extend_from_slice(count)?;
@@ -192,6 +191,12 @@ fn lines_that_are_no_records_are_refused(rt: HostRuntime) -> Result<(), Fail> {
         &rt,
         b"b\t18446744073709551615\nb\t1\n",
         2,
+        LineError::TooLarge,
+    )?;
+    assert_refused(
+        &rt,
+        b"b\t18446744073709551616\n",
+        1,
         LineError::TooLarge,
     )
 }
