@@ -193,12 +193,7 @@ fn lines_that_are_no_records_are_refused(rt: HostRuntime) -> Result<(), Fail> {
         2,
         LineError::TooLarge,
     )?;
-    assert_refused(
-        &rt,
-        b"b\t18446744073709551616\n",
-        1,
-        LineError::TooLarge,
-    )
+    assert_refused(&rt, b"b\t18446744073709551616\n", 1, LineError::TooLarge)
 }
 
 #[test]
