@@ -4,9 +4,7 @@
 use crate::bytes::{BLOCK, blocks_len, buffered, noise, write_blocks};
 use crate::ends::Ends;
 use crate::fault::Fault;
-use futures_lite::io::{
-    AsyncBufReadExt, AsyncReadExt, AsyncWriteExt, BufWriter, Cursor, IoSlice,
-};
+use futures_lite::io::{AsyncBufReadExt, AsyncReadExt, AsyncWriteExt, BufWriter, Cursor, IoSlice};
 use futures_lite::{Context, Future, Poll, Stream, io};
 use std::alloc::Global;
 
