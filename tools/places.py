@@ -29,8 +29,8 @@ NO_CASE = {
     *"iter_array iter_range iter_slice iter_vec".split(),
     # Members of traits, and parts of a poll, that other calls make.
     *"answer finish in_hand poll_close poll_flush poll_seek poll_write_vectored refuse scan_line take_in".split(),
-    # They do what `AsyncAsSync::read` and `read_hexadecimal` do.
-    *"poll_with read_decimal".split(),
+    # They do what `AsyncAsSync::read`, `read_hexadecimal` and `poll_read_vectored` do.
+    *"poll_with read_decimal read_vectored".split(),
     # Calls and checks of journals, which tests alone make.
     *"drive history split_journalled step_close step_flush step_read step_write".split(),
 }

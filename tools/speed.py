@@ -30,7 +30,7 @@ MADE = {
     **dict.fromkeys(("values", "values_by_hand", "wait_frame", "collect_frames"), ("made_values", 1)),
     "take_body": ("made_chunks", 1),
     **dict.fromkeys(("copied", "cloned"), ("made_numbers", 1)),
-    **dict.fromkeys(("cursor_overwrite", "vectored_read", "read_vectored"), ("made_noise", 16)),
+    **dict.fromkeys(("cursor_overwrite", "vectored_read"), ("made_noise", 16)),
 }
 # The plot has ratios from the least to the most; what is beyond is drawn at its edge.
 LEAST, MOST = 0.25, 4.0

@@ -291,23 +291,6 @@ pub(crate) fn empty_read(cx: &mut Context<'_>, n: u64) -> u64 {
     read_blocks(&mut io::empty(), cx, n)
 }
 
-/// As `vectored_read`, by a future for each read.
-#[inline(never)]
-pub(crate) fn read_vectored(alloc: Global, cx: &mut Context<'_>, n: u64) -> Result<u64, Fault> {
-    let bytes = noise(alloc, blocks_len(n)?)?;
-    let mut reader = Cursor::new(bytes.as_slice());
-    let (mut first, mut second) = ([0u8; 8], [0u8; 8]);
-    let mut sum = 0u64;
-    for _ in 0..n {
-        let mut bufs = [IoSliceMut::new(&mut first), IoSliceMut::new(&mut second)];
-        let Poll::Ready(Ok(count)) = reader.read_vectored(&mut bufs).poll(cx) else {
-            break;
-        };
-        sum = sum.wrapping_add(count as u64).wrapping_add(second[7] as u64);
-    }
-    Ok(sum)
-}
-
 /// So many seeks, each by a byte.
 #[inline(never)]
 pub(crate) fn seek(cx: &mut Context<'_>, n: u64) -> u64 {

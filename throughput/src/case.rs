@@ -88,8 +88,19 @@ where
         "held_ready" => Ok(values::held_ready(rt, n)?),
         "held_yield" => Ok(values::held_yield(rt, n)?),
         "blocking_next" => Ok(consuming::blocking_next(*rt, n, n)?),
-        "blocking_read" => bytes::blocking_read(*rt, n),
         "waits_next" => Ok(consuming::waits_next(rt, n, n)?),
+        _ => computed_of_bytes(rt, cx, name, n),
+    }
+}
+
+/// As `computed`, of the cases of readers, writers and frames, and of sizes.
+fn computed_of_bytes<R>(rt: &R, cx: &mut Context<'_>, name: &str, n: u64) -> Result<u64, Fault>
+where
+    R: Wait + RandomSource + AllocGlobal + Copy,
+{
+    let alloc = rt.alloc();
+    match name {
+        "blocking_read" => bytes::blocking_read(*rt, n),
         "waits_read" => bytes::waits_read(rt, n),
         "wait_read" => waits::read(rt, n),
         "wait_read_exact" => waits::read_exact(rt, n),
@@ -115,7 +126,6 @@ where
         "as_sync_read" => bytes::as_sync_read(alloc, cx, n),
         "repeat_read" => Ok(bytes::repeat_read(cx, n)),
         "empty_read" => Ok(bytes::empty_read(cx, n)),
-        "read_vectored" => bytes::read_vectored(alloc, cx, n),
         "seek" => Ok(bytes::seek(cx, n)),
         "cursor_overwrite" => bytes::cursor_overwrite(alloc, cx, n),
         "cursor_extend" => bytes::cursor_extend(alloc, cx, n),

@@ -66,7 +66,7 @@ const FOLDS: [(&str, u64, &[u64]); 50] = [
 
 /// Cases, their sizes, and their numbers: of texts all bytes that are read, of writers all that are written, of futures
 /// all values.
-const NUMBERS: [(&str, u64, u64); 69] = [
+const NUMBERS: [(&str, u64, u64); 68] = [
     ("made_noise", 600, 600),
     ("made_numbers", 6, 6),
     ("made_text", 6, 96),
@@ -125,7 +125,6 @@ const NUMBERS: [(&str, u64, u64); 69] = [
     ("collect_frames", 6, 96),
     ("wait_send_all", 6, 120),
     ("vectored_read", 6, 756),
-    ("read_vectored", 6, 756),
     ("inspect", 4, 12),
     ("last", 4, 6),
     ("nth", 4, 3),

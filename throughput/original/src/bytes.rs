@@ -278,23 +278,6 @@ pub fn empty_read(cx: &mut Context<'_>, n: u64) -> u64 {
     read_blocks(&mut io::empty(), cx, n)
 }
 
-/// As `vectored_read`, by a future for each read.
-#[inline(never)]
-pub fn read_vectored(cx: &mut Context<'_>, n: u64) -> u64 {
-    let bytes = noise(n * BLOCK);
-    let mut reader = Cursor::new(bytes.as_slice());
-    let (mut first, mut second) = ([0u8; 8], [0u8; 8]);
-    let mut sum = 0u64;
-    for _ in 0..n {
-        let mut bufs = [IoSliceMut::new(&mut first), IoSliceMut::new(&mut second)];
-        let Poll::Ready(Ok(count)) = pin!(AsyncReadExt::read_vectored(&mut reader, &mut bufs)).poll(cx) else {
-            break;
-        };
-        sum = sum.wrapping_add(count as u64).wrapping_add(second[7] as u64);
-    }
-    sum
-}
-
 /// So many seeks, each by a byte.
 #[inline(never)]
 pub fn seek(cx: &mut Context<'_>, n: u64) -> u64 {

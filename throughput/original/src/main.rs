@@ -102,7 +102,6 @@ fn computed(cx: &mut Context<'_>, name: &str, n: u64) -> Option<u64> {
         "as_sync_read" => bytes::as_sync_read(cx, n),
         "repeat_read" => bytes::repeat_read(cx, n),
         "empty_read" => bytes::empty_read(cx, n),
-        "read_vectored" => bytes::read_vectored(cx, n),
         "seek" => bytes::seek(cx, n),
         "next" => consuming::next(cx, n, n),
         "count" => consuming::count(cx, n),
