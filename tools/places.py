@@ -1,8 +1,9 @@
-"""What has to be in the places that docs/CONTRIBUTING.md names: tables of polls, contracts of properties, cases or tests, and rows of tables."""
+"""What has to be in the places that docs/CONTRIBUTING.md names: tables of polls, contracts of properties, cases or tests, measured cases, and rows of tables."""
 import functools
 import glob
 import re
 
+from programs import THROUGHPUT
 from repository import BESIDE, FACADE, TOP, crates_in, files_of, read_text, with_below
 from sources import MODULES, Sources
 
@@ -15,6 +16,23 @@ NO_POLLS = {"StreamExt::cloned", "StreamExt::copied", "StreamExt::cycle"}
 NO_ROW = {
     NESTS: {"block_on", "StreamExt::for_each", "race_with_seed"},
     TABLES: {"block_on", "iter_array", "iter_range", "iter_slice", "iter_vec", "race_with_seed"},
+}
+
+# Functions that no case of the measured program calls, by their names.
+NO_CASE = {
+    # They return, lend or set a part of a value, or tell its state.
+    *"borrow borrow_mut buffer calls first_mut get_mut into_inner into_parts is_reading is_stopped limit second_mut set_limit set_position".split(),
+    *"size_hint start take_future take_result".split(),
+    # They have no value.
+    "pending",
+    # Sources that differ from `iter` in the type of their list alone.
+    *"iter_array iter_range iter_slice iter_vec".split(),
+    # Members of traits, and parts of a poll, that other calls make.
+    *"answer finish in_hand poll_close poll_flush poll_seek poll_write_vectored refuse scan_line take_in".split(),
+    # They do what `AsyncAsSync::read`, `read_hexadecimal` and `poll_read_vectored` do.
+    *"poll_with read_decimal read_vectored".split(),
+    # Calls and checks of journals, which tests alone make.
+    *"drive history split_journalled step_close step_flush step_read step_write".split(),
 }
 
 
@@ -53,17 +71,28 @@ def properties_met(traits):
     yield from lacking(MARKS_MET, {" as ".join(it) for it in wanted}, {" as ".join(it) for it in there}, set(), "no function has a contract with")
 
 
+def names_called_in(folders):
+    """Returns the names of what the sources in these folders call. (A call is told by its name alone.)"""
+    files = [f"{folder}/{file}" for folder in folders for file in files_of(f"{TOP}/{folder}")]
+    text = "".join(read_text(f"{TOP}/{it}") for it in files if it.endswith((".rs", ".rt")))
+    return set(re.findall(r"(?<!fn )\b(\w+)(?:::<[^(]*>)?\(", text))
+
+
 def called():
-    """Each public function is called by the cases, a test or a program, besides its example. (A call is told by its name alone.)"""
+    """Each public function is called by the cases, a test or a program, besides its example."""
     crates = crates_in(TOP)
     library = with_below(crates, [FACADE, *BESIDE])
     programs = [f"crates/{it}/src" for it in crates if it not in library and not it.startswith("proved_examples_")]
-    files = [f"{folder}/{file}" for folder in ("replay", "tests", "throughput", *programs) for file in files_of(f"{TOP}/{folder}")]
-    text = "".join(read_text(f"{TOP}/{it}") for it in files if it.endswith((".rs", ".rt")))
-    names = set(re.findall(r"(?<!fn )\b(\w+)(?:::<[^(]*>)?\(", text))
+    names = names_called_in(["replay", "tests", THROUGHPUT, *programs])
     every = {f"{module}::{it.title}": it.name for module, of_module in functions().items() for it in of_module if not it.does_nothing}
     there = {title for title, name in every.items() if name in names}
     yield from lacking("tests", set(every), there, set(), "no case, test or program calls")
+
+
+def measured():
+    """Each public function that does work is called by a case of the measured program. Those of `laws` are for proofs and tests."""
+    names = {it.name for module, of_module in functions().items() if module != "laws" for it in of_module if not it.does_nothing}
+    yield from lacking(THROUGHPUT, names, names & names_called_in([f"{THROUGHPUT}/src"]), NO_CASE, "no case calls")
 
 
 def rows():

@@ -22,7 +22,7 @@ FAULTS = f"{TOP}/tools/faults.c"
 REPLAY, THROUGHPUT = "replay", "throughput"
 BESIDE = {
     REPLAY: "replay: framed futures_lite lite_mock bytes futures itoa rand_core tokio_util",
-    THROUGHPUT: "throughput may_wait=15: framed futures_lite futures bytes tokio_util",
+    THROUGHPUT: "throughput may_wait=25: framed futures_lite futures bytes tokio_util rand_core rand_pcg",
 }
 # A program that no tool ran for so many seconds is removed.
 KEPT_FOR = 3 * 24 * 3600

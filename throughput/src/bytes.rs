@@ -1,11 +1,13 @@
-//! Readers and writers. A case of a reader reads `n` bytes, one of a writer makes `n` writes.
+//! Readers and writers. A case of a reader reads `n` bytes, or makes `n` reads of a block; one of a writer makes `n` writes.
 
 use crate::fault::Fault;
+use crate::merging::BUDGET;
+use crate::polled::with_item;
 use futures_lite::io::{
-    AssertAsync, AsyncBufRead, AsyncRead, AsyncReadExt, AsyncWrite, BlockOn, BufReader,
-    Cursor, IoSliceMut,
+    AssertAsync, AsyncAsSync, AsyncBufRead, AsyncRead, AsyncReadExt, AsyncSeekExt, AsyncWrite,
+    BlockOn, BufReader, Cursor, IoSliceMut, SeekFrom,
 };
-use futures_lite::{Context, Poll, Stream, future};
+use futures_lite::{Context, Future, Poll, Stream, future, io};
 use std::alloc::{AllocError, AllocGlobal, Global};
 use std::io::Read;
 use std::random::RandomSource;
@@ -233,4 +235,72 @@ pub(crate) fn take_read(alloc: Global, cx: &mut Context<'_>, n: u64) -> Result<u
 pub(crate) fn asserted_read(alloc: Global, cx: &mut Context<'_>, n: u64) -> Result<u64, Fault> {
     let bytes = noise(alloc, n)?;
     Ok(read_each(&mut AssertAsync::new(bytes.as_slice()), cx))
+}
+
+/// As `cursor_read`, with a pause after each 128 bytes.
+#[inline(never)]
+pub(crate) fn with_budget_read(alloc: Global, cx: &mut Context<'_>, n: u64) -> Result<u64, Fault> {
+    let bytes = noise(alloc, n)?;
+    let mut reader = Cursor::new(bytes.as_slice()).with_budget(BUDGET);
+    let mut sum = 0u64;
+    let mut room = [0u8; 1];
+    for _ in 0..u64::MAX {
+        match reader.poll_read(cx, &mut room) {
+            Poll::Ready(Ok(1)) => sum = sum.wrapping_add(room[0] as u64),
+            Poll::Ready(_) => break,
+            Poll::Pending => {}
+        }
+    }
+    Ok(sum)
+}
+
+/// As `cursor_read`, by a reader of std that is made for each byte.
+#[inline(never)]
+pub(crate) fn as_sync_read(alloc: Global, cx: &mut Context<'_>, n: u64) -> Result<u64, Fault> {
+    let bytes = noise(alloc, n)?;
+    let mut reader = Cursor::new(bytes.as_slice());
+    let mut sum = 0u64;
+    let mut room = [0u8; 1];
+    for _ in 0..n {
+        let Ok(1) = AsyncAsSync::new(cx, &mut reader).read(&mut room) else {
+            break;
+        };
+        sum = sum.wrapping_add(room[0] as u64);
+    }
+    Ok(sum)
+}
+
+/// Reads blocks, and folds how many bytes each read gave, and the last of the block.
+#[inline(never)]
+fn read_blocks<R: AsyncRead>(reader: &mut R, cx: &mut Context<'_>, blocks: u64) -> u64 {
+    let mut sum = 0u64;
+    let mut block = [0u8; BLOCK as usize];
+    for i in 0..blocks {
+        if let Poll::Ready(Ok(count)) = reader.poll_read(cx, &mut block) {
+            sum = with_item(sum, i ^ count as u64 ^ block[15] as u64);
+        }
+    }
+    sum
+}
+
+pub(crate) fn repeat_read(cx: &mut Context<'_>, n: u64) -> u64 {
+    read_blocks(&mut io::repeat((n & 255) as u8), cx, n)
+}
+
+pub(crate) fn empty_read(cx: &mut Context<'_>, n: u64) -> u64 {
+    read_blocks(&mut io::empty(), cx, n)
+}
+
+/// So many seeks, each by a byte.
+#[inline(never)]
+pub(crate) fn seek(cx: &mut Context<'_>, n: u64) -> u64 {
+    let mut cursor = Cursor::new(b"".as_slice());
+    let mut sum = 0u64;
+    for _ in 0..n {
+        let Poll::Ready(Ok(position)) = cursor.seek(SeekFrom::Current(1)).poll(cx) else {
+            break;
+        };
+        sum = with_item(sum, position);
+    }
+    sum
 }

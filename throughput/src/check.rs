@@ -10,7 +10,7 @@ use std::random::RandomSource;
 use std::sync::Wait;
 
 /// Cases of streams, their sizes, and the items that they fold.
-const FOLDS: [(&str, u64, &[u64]); 42] = [
+const FOLDS: [(&str, u64, &[u64]); 50] = [
     ("iter", 4, &[0, 1, 2, 3]),
     ("map", 4, &[0, 3, 6, 9]),
     ("filter", 6, &[1, 2, 3, 5]),
@@ -34,6 +34,10 @@ const FOLDS: [(&str, u64, &[u64]); 42] = [
     ("cloned", 4, &[0, 1, 2, 3]),
     ("repeat_with", 4, &[3, 6, 9, 12]),
     ("poll_fn", 4, &[1, 2, 3, 4]),
+    ("once", 4, &[1, 0, 3, 2]),
+    ("once_future", 4, &[1, 0, 3, 2]),
+    ("repeat", 4, &[4, 4, 4, 4]),
+    ("try_unfold", 4, &[1, 0, 3, 2]),
     ("nest", 10, &[4, 10, 16, 22, 28]),
     ("nest_of_eight", 8, &[15, 11, 23, 19]),
     ("joined", 12, &[6, 10, 14, 18, 22]),
@@ -51,14 +55,18 @@ const FOLDS: [(&str, u64, &[u64]); 42] = [
     ("or_streams", 4, &[0, 1, 2, 3]),
     ("cycle", 10, &[2, 3, 4, 5, 6, 7, 8, 9, 2, 3]),
     ("drain", 4, &[0, 1, 2, 3]),
+    ("with_budget", 4, &[0, 1, 2, 3]),
     ("stop_after_future", 4, &[0, 1, 2, 3]),
+    ("seek", 4, &[1, 2, 3, 4]),
+    ("repeat_read", 4, &[20, 21, 22, 23]),
+    ("empty_read", 4, &[0, 1, 2, 3]),
     // (its generator's words were reckoned apart)
     ("race_streams", 10, &[0, 10, 1, 11, 12, 2, 13, 14, 3, 15]),
 ];
 
 /// Cases, their sizes, and their numbers: of texts all bytes that are read, of writers all that are written, of futures
 /// all values.
-const NUMBERS: [(&str, u64, u64); 58] = [
+const NUMBERS: [(&str, u64, u64); 68] = [
     ("made_noise", 600, 600),
     ("made_numbers", 6, 6),
     ("made_text", 6, 96),
@@ -76,8 +84,10 @@ const NUMBERS: [(&str, u64, u64); 58] = [
     ("copy", 60000, 60824),
     ("zip_of_eight", 3, 18),
     ("made_values", 6, 120),
+    ("made_chunks", 6, 132),
     ("values", 1000, 16000),
     ("values_by_hand", 1000, 16000),
+    ("take_body", 1000, 16000),
     ("served_lines", 1000, 16000),
     ("split", 6, 90),
     ("read_until", 6, 96),
@@ -89,10 +99,16 @@ const NUMBERS: [(&str, u64, u64); 58] = [
     ("cursor_extend", 6, 96),
     ("write_all", 6, 96),
     ("buf_writer", 6, 96),
+    ("write", 6, 96),
+    ("write_vectored", 6, 96),
+    ("flush", 6, 30),
+    ("close", 6, 30),
     ("zip", 3, 3),
     ("or", 3, 3),
     // (as that of `race_streams`)
     ("race_with_seed", 64, 1145),
+    ("race_futures", 10, 15),
+    ("with_poll_limit", 3, 3),
     ("block_on_yield", 3, 3),
     ("held_yield", 3, 3),
     ("block_on_ready", 3, 4),
@@ -106,6 +122,8 @@ const NUMBERS: [(&str, u64, u64); 58] = [
     ("wait_write_all", 6, 96),
     ("wait_frame", 6, 96),
     ("wait_send", 6, 120),
+    ("collect_frames", 6, 96),
+    ("wait_send_all", 6, 120),
     ("vectored_read", 6, 756),
     ("inspect", 4, 12),
     ("last", 4, 6),
@@ -121,7 +139,7 @@ const NUMBERS: [(&str, u64, u64); 58] = [
 ];
 
 /// Cases of readers, which read each byte of a noise once.
-const READERS: [&str; 12] = [
+const READERS: [&str; 14] = [
     "bytes",
     "cursor_read",
     "buf_reader",
@@ -132,6 +150,8 @@ const READERS: [&str; 12] = [
     "half",
     "take_read",
     "asserted_read",
+    "with_budget_read",
+    "as_sync_read",
     "blocking_read",
     "waits_read",
 ];
@@ -155,6 +175,10 @@ where
     gives(
         "nest_of_eight",
         computed(rt, cx, "nest_of_eight", 1_000_000)? == kept_by_eight(1_000_000),
+    )?;
+    gives(
+        "with_budget",
+        computed(rt, cx, "with_budget", 1000)? == computed(rt, cx, "iter", 1000)?,
     )?;
     gives("Iter", computed(rt, cx, "Iter", 1) == Err(Fault::Arguments))
 }

@@ -1,11 +1,14 @@
-//! Frames of 16 bytes each with their number before them, and lines that a server answers. They are read from a
-//! slice, so that the reads of other cases keep their one caller, into which they are inlined.
+//! Frames and chunks of 16 bytes each with their number before them, and lines that a server answers. They are read
+//! from a slice, so that the reads of other cases keep their one caller, into which they are inlined.
 
 use crate::bytes::blocks_len;
 use crate::fault::Fault;
 use crate::texts::{repeated, text};
 use bytes::BytesMut;
-use framed::{Answer, FrameError, FramedRead, LengthDelimited, LineDelimited, Service, serve};
+use framed::{
+    Answer, Delimiter, FrameError, FramedRead, LengthDelimited, LineDelimited, Service,
+    find_delimiter, read_hexadecimal, serve, strip_return, take_body,
+};
 use futures_lite::future::BlockOn;
 use futures_lite::io::AsyncReadExt;
 use futures_lite::{Context, Future, Poll, StreamExt};
@@ -15,6 +18,12 @@ use std::sync::Wait;
 
 /// A value with its number.
 pub(crate) const VALUE: &[u8] = b"\0\0\0\x100123456789abcdef";
+
+/// A chunk, as HTTP has them.
+pub(crate) const CHUNK: &[u8] = b"10\r\n0123456789abcdef\r\n";
+
+/// How many bytes may stand before the newline of a chunk's first line.
+const HEAD: usize = 17;
 
 /// How many bytes a value may have.
 pub(crate) const MAX: u32 = 64;
@@ -118,4 +127,28 @@ where
         Ok(()) => Ok(replies.len() as u64),
         Err(_refused) => Err(Fault::Memory),
     }
+}
+
+/// Chunks with their length in hexadecimal digits before them, cut by the parts of a codec.
+#[inline(never)]
+pub(crate) fn chunks(alloc: Global, n: u64) -> Result<u64, Fault> {
+    let bytes = repeated(alloc, CHUNK, n)?;
+    let mut left = BytesMut::copy_from_slice(alloc, &bytes)?;
+    let mut sum = 0u64;
+    for _ in 0..n {
+        let Delimiter::At(at) = find_delimiter(left.as_slice(), b'\n', HEAD) else {
+            break;
+        };
+        let Some(head) = strip_return(&left.as_slice()[..at]) else {
+            break;
+        };
+        let Some(length) = read_hexadecimal(head) else {
+            break;
+        };
+        let Ok(Some(body)) = take_body(&mut left, at + 1, length, b"\r\n") else {
+            break;
+        };
+        sum = sum.wrapping_add(body.len() as u64);
+    }
+    Ok(sum)
 }

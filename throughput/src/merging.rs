@@ -1,8 +1,11 @@
-//! Adapters that merge two streams, go round one, or stop it. Each case gives `n` items.
+//! Adapters that merge two streams, go round one, pause it, or stop it. Each case gives `n` items.
 
 use crate::polled::{fold_found, fold_items, fold_pairs};
 use futures_lite::{Context, StreamExt, future, stream};
 use std::alloc::AllocError;
+
+/// How many items or bytes come between two pauses.
+pub(crate) const BUDGET: usize = 128;
 
 #[inline(never)]
 pub(crate) fn zip(cx: &mut Context<'_>, n: u64, polls: u64) -> u64 {
@@ -51,4 +54,9 @@ pub(crate) fn drain(cx: &mut Context<'_>, n: u64, polls: u64) -> u64 {
 pub(crate) fn stop_after_future(cx: &mut Context<'_>, n: u64, polls: u64) -> u64 {
     let mut numbers = stream::stop_after_future(stream::iter(0..n), future::pending::<()>());
     fold_items(&mut numbers, cx, polls)
+}
+
+#[inline(never)]
+pub(crate) fn with_budget(cx: &mut Context<'_>, n: u64, polls: u64) -> u64 {
+    fold_items(&mut stream::iter(0..n).with_budget(BUDGET), cx, polls)
 }

@@ -1,8 +1,8 @@
 //! Sources and adapters. Each case goes over the numbers below `n`, or as many answers, unless it says otherwise.
 
-use crate::polled::{fold_found, fold_items, fold_numbered};
+use crate::polled::{fold_found, fold_items, fold_numbered, with_item};
 use futures_lite::stream::script;
-use futures_lite::{Context, Poll, StreamExt, future, stream};
+use futures_lite::{Context, Poll, Stream, StreamExt, future, stream};
 use std::alloc::{AllocError, Global};
 
 #[inline(never)]
@@ -285,4 +285,47 @@ pub(crate) fn poll_fn(cx: &mut Context<'_>, n: u64, polls: u64) -> u64 {
         Poll::Ready(Some(next))
     });
     fold_items(&mut numbers, cx, polls)
+}
+
+/// A stream of each number.
+#[inline(never)]
+pub(crate) fn once(cx: &mut Context<'_>, n: u64) -> u64 {
+    let mut sum = 0u64;
+    for i in 0..n {
+        if let Poll::Ready(Some(x)) = stream::once(i ^ 1).poll_next(cx) {
+            sum = with_item(sum, x);
+        }
+    }
+    sum
+}
+
+/// As `once`, of the value of a future.
+#[inline(never)]
+pub(crate) fn once_future(cx: &mut Context<'_>, n: u64) -> u64 {
+    let mut sum = 0u64;
+    for i in 0..n {
+        if let Poll::Ready(Some(x)) = stream::once_future(future::ready(i ^ 1)).poll_next(cx) {
+            sum = with_item(sum, x);
+        }
+    }
+    sum
+}
+
+/// Clones of one number. A clone may be refused memory here.
+#[inline(never)]
+pub(crate) fn repeat(cx: &mut Context<'_>, n: u64, polls: u64) -> u64 {
+    fold_found(&mut stream::repeat(n).take(n as usize), cx, polls)
+}
+
+/// As `unfold`, of results.
+#[inline(never)]
+pub(crate) fn try_unfold(cx: &mut Context<'_>, n: u64, polls: u64) -> u64 {
+    let mut numbers = stream::try_unfold(0u64, move |s: u64| {
+        future::ready(Ok::<Option<(u64, u64)>, AllocError>(if s < n {
+            Some((s ^ 1, s.wrapping_add(1)))
+        } else {
+            None
+        }))
+    });
+    fold_found(&mut numbers, cx, polls)
 }

@@ -4,7 +4,7 @@
 use crate::bytes::{BLOCK, blocks_len, buffered, noise, write_blocks};
 use crate::ends::Ends;
 use crate::fault::Fault;
-use futures_lite::io::{AsyncBufReadExt, AsyncReadExt, AsyncWriteExt, BufWriter, Cursor};
+use futures_lite::io::{AsyncBufReadExt, AsyncReadExt, AsyncWriteExt, BufWriter, Cursor, IoSlice};
 use futures_lite::{Context, Future, Poll, Stream, io};
 use std::alloc::Global;
 
@@ -248,4 +248,67 @@ pub(crate) fn buf_writer(alloc: Global, cx: &mut Context<'_>, n: u64) -> Result<
         Ok(mut writer) => Ok(write_blocks(&mut writer, cx, n)),
         Err(_) => Err(Fault::Memory),
     }
+}
+
+/// As `write_all`, by one write for each block.
+#[inline(never)]
+pub(crate) fn write(alloc: Global, cx: &mut Context<'_>, n: u64) -> Result<u64, Fault> {
+    let mut bytes = Vec::with_capacity(alloc, blocks_len(n)? as usize)?;
+    for i in 0..n {
+        let block = [(i & 255) as u8; BLOCK as usize];
+        let Poll::Ready(Ok(_)) = bytes.write(&block).poll(cx) else {
+            break;
+        };
+    }
+    Ok(bytes.len() as u64)
+}
+
+/// As `write`, of blocks in two halves.
+#[inline(never)]
+pub(crate) fn write_vectored(alloc: Global, cx: &mut Context<'_>, n: u64) -> Result<u64, Fault> {
+    let mut bytes = Vec::with_capacity(alloc, blocks_len(n)? as usize)?;
+    for i in 0..n {
+        let half = [(i & 255) as u8; 8];
+        let bufs = [IoSlice::new(&half), IoSlice::new(&half)];
+        let Poll::Ready(Ok(_)) = bytes.write_vectored(&bufs).poll(cx) else {
+            break;
+        };
+    }
+    Ok(bytes.len() as u64)
+}
+
+/// So many blocks through a buffer to a writer that takes all, with a flush behind each.
+#[inline(never)]
+pub(crate) fn flush(alloc: Global, cx: &mut Context<'_>, n: u64) -> Result<u64, Fault> {
+    let Ok(mut writer) = BufWriter::new(alloc, Ends { sum: 0 }) else {
+        return Err(Fault::Memory);
+    };
+    for i in 0..n {
+        let block = [(i & 255) as u8; BLOCK as usize];
+        let Poll::Ready(Ok(())) = writer.write_all(&block).poll(cx) else {
+            break;
+        };
+        let Poll::Ready(Ok(())) = writer.flush().poll(cx) else {
+            break;
+        };
+    }
+    Ok(writer.get_ref().sum)
+}
+
+/// As `flush`, with a close behind each. The writer takes more after that.
+#[inline(never)]
+pub(crate) fn close(alloc: Global, cx: &mut Context<'_>, n: u64) -> Result<u64, Fault> {
+    let Ok(mut writer) = BufWriter::new(alloc, Ends { sum: 0 }) else {
+        return Err(Fault::Memory);
+    };
+    for i in 0..n {
+        let block = [(i & 255) as u8; BLOCK as usize];
+        let Poll::Ready(Ok(())) = writer.write_all(&block).poll(cx) else {
+            break;
+        };
+        let Poll::Ready(Ok(())) = writer.close().poll(cx) else {
+            break;
+        };
+    }
+    Ok(writer.get_ref().sum)
 }

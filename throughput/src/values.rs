@@ -1,7 +1,9 @@
 //! Futures that are ready, `n` of each, one after another.
 
 use futures_lite::future::{self, BlockOn};
-use futures_lite::{Context, Future, Poll};
+use futures_lite::{Context, Future, FutureExt, Poll};
+use rand_core::SeedableRng;
+use rand_pcg::Pcg32;
 use std::alloc::{AllocError, AllocGlobal};
 use std::random::RandomSource;
 use std::sync::Wait;
@@ -137,6 +139,37 @@ pub(crate) fn poll_once(cx: &mut Context<'_>, n: u64) -> u64 {
     let mut sum = 0u64;
     for i in 0..n {
         if let Poll::Ready(Some(a)) = future::poll_once(future::ready(i ^ (sum >> 7))).poll(cx) {
+            sum = sum.wrapping_add(a);
+        }
+    }
+    sum
+}
+
+/// One generator for all.
+#[inline(never)]
+pub(crate) fn race(cx: &mut Context<'_>, n: u64) -> u64 {
+    let mut rng = Pcg32::seed_from_u64(7);
+    let mut sum = 0u64;
+    for i in 0..n {
+        let mut either = future::race(
+            future::ready(i ^ (sum >> 7)),
+            future::ready(sum >> 9),
+            &mut rng,
+        );
+        if let Poll::Ready(a) = either.poll(cx) {
+            sum = sum.wrapping_add(a);
+        }
+    }
+    sum
+}
+
+/// Each may be polled twice.
+#[inline(never)]
+pub(crate) fn with_poll_limit(cx: &mut Context<'_>, n: u64) -> u64 {
+    let mut sum = 0u64;
+    for i in 0..n {
+        let mut limited = future::ready(i ^ (sum >> 7)).with_poll_limit(2);
+        if let Poll::Ready(Ok(a)) = limited.poll(cx) {
             sum = sum.wrapping_add(a);
         }
     }

@@ -5,10 +5,12 @@ use crate::codecs::{LINE, MAX, VALUE};
 use crate::fault::Fault;
 use crate::texts::{repeated, text};
 use bytes::BytesMut;
-use framed::{FramedRead, LengthDelimited, wait_frame, wait_send};
+use framed::{FramedRead, LengthDelimited, collect_frames, wait_frame, wait_send, wait_send_all};
 use futures_lite::future::BlockOn;
-use futures_lite::io::{wait_read, wait_read_exact, wait_read_until, wait_read_until_limited};
-use futures_lite::io::{wait_flush, wait_write_all};
+use futures_lite::io::{
+    Cursor, wait_flush, wait_read, wait_read_exact, wait_read_until, wait_read_until_limited,
+    wait_write_all,
+};
 use std::alloc::AllocGlobal;
 use std::random::RandomSource;
 use std::sync::Wait;
@@ -148,4 +150,43 @@ where
         }
     }
     Ok(bytes.len() as u64)
+}
+
+/// The bytes of so many frames, without their numbers, all of which one call collects.
+#[inline(never)]
+pub(crate) fn all_frames<R>(rt: &R, n: u64) -> Result<u64, Fault>
+where
+    R: Wait + RandomSource + AllocGlobal,
+{
+    let bytes = repeated(rt.alloc(), VALUE, n)?;
+    let mut on = BlockOn::new(rt)?;
+    let reader = Cursor::new(bytes.as_slice());
+    let mut frames = FramedRead::new(rt.alloc(), reader, LengthDelimited { max: MAX });
+    match collect_frames(&mut on, rt, &mut frames) {
+        Ok(frames) => Ok(
+            frames.iter().fold(
+                0,
+                |sum: u64, frame: &BytesMut| sum.wrapping_add(frame.len() as u64),
+            ),
+        ),
+        Err(_refused) => Err(Fault::Memory),
+    }
+}
+
+/// So many values, made first and sent by one call, into a vector with room for their frames.
+#[inline(never)]
+pub(crate) fn sends_all<R>(rt: &R, n: u64) -> Result<u64, Fault>
+where
+    R: Wait + RandomSource + AllocGlobal,
+{
+    let (mut on, mut out) = (BlockOn::new(rt)?, BytesMut::new(rt.alloc()));
+    let mut bytes = Vec::with_capacity(rt.alloc(), (blocks_len(n)? as usize).saturating_mul(2))?;
+    let blocks: Vec<[u8; BLOCK as usize]> = (0..n)
+        .map(|i: u64| [(i & 255) as u8; BLOCK as usize])
+        .collect(rt.alloc())?;
+    let mut encoder = LengthDelimited { max: MAX };
+    match wait_send_all(&mut on, rt, &mut bytes, &mut encoder, blocks, &mut out) {
+        Ok(()) => Ok(bytes.len() as u64),
+        Err(_refused) => Err(Fault::Memory),
+    }
 }

@@ -1,11 +1,14 @@
-//! Readers and writers. A case of a reader reads `n` bytes, one of a writer makes `n` writes.
+//! Readers and writers. A case of a reader reads `n` bytes, or makes `n` reads of a block; one of a writer makes `n` writes.
 
+use crate::merging::BUDGET;
+use crate::polled::with_item;
 use futures_lite::io::{
-    AssertAsync, AsyncBufRead, AsyncRead, AsyncReadExt, AsyncWrite, BlockOn, BufReader, Cursor,
+    AssertAsync, AsyncAsSync, AsyncBufRead, AsyncRead, AsyncReadExt, AsyncSeekExt, AsyncWrite, BlockOn, BufReader, Cursor,
 };
-use futures_lite::{future, Stream};
-use std::io::{IoSliceMut, Read};
-use std::pin::Pin;
+use futures_lite::{future, io, Stream};
+use std::future::Future;
+use std::io::{IoSliceMut, Read, SeekFrom};
+use std::pin::{pin, Pin};
 use std::task::{Context, Poll};
 
 /// How many bytes one write of `cursor_overwrite` and `cursor_extend` offers.
@@ -192,4 +195,99 @@ pub fn take_read(cx: &mut Context<'_>, n: u64) -> u64 {
 /// A reader of std, whose reads never wait.
 pub fn asserted_read(cx: &mut Context<'_>, n: u64) -> u64 {
     read_each(&mut AssertAsync::new(noise(n).as_slice()), cx)
+}
+
+/// A reader that pauses after each 128 bytes.
+struct Budgeted<R> {
+    reader: R,
+    left: usize,
+}
+
+impl<R: AsyncRead + Unpin> AsyncRead for Budgeted<R> {
+    fn poll_read(mut self: Pin<&mut Self>, cx: &mut Context<'_>, buf: &mut [u8]) -> Poll<io::Result<usize>> {
+        if self.left == 0 {
+            self.left = BUDGET;
+            cx.waker().wake_by_ref();
+            return Poll::Pending;
+        }
+        let most = self.left.min(buf.len());
+        let polled = Pin::new(&mut self.reader).poll_read(cx, &mut buf[..most]);
+        match &polled {
+            Poll::Ready(Ok(count)) => self.left -= count,
+            Poll::Ready(Err(_)) => self.left -= 1,
+            Poll::Pending => self.left = BUDGET,
+        }
+        polled
+    }
+}
+
+/// As `cursor_read`, with a pause after each 128 bytes.
+#[inline(never)]
+pub fn with_budget_read(cx: &mut Context<'_>, n: u64) -> u64 {
+    let bytes = noise(n);
+    let mut reader = Budgeted {
+        reader: Cursor::new(bytes.as_slice()),
+        left: BUDGET,
+    };
+    let mut sum = 0u64;
+    let mut room = [0u8; 1];
+    for _ in 0..u64::MAX {
+        match Pin::new(&mut reader).poll_read(cx, &mut room) {
+            Poll::Ready(Ok(1)) => sum = sum.wrapping_add(room[0] as u64),
+            Poll::Ready(_) => break,
+            Poll::Pending => {}
+        }
+    }
+    sum
+}
+
+/// As `cursor_read`, by a reader of std that is made for each byte.
+#[inline(never)]
+pub fn as_sync_read(cx: &mut Context<'_>, n: u64) -> u64 {
+    let bytes = noise(n);
+    let mut reader = Cursor::new(bytes.as_slice());
+    let mut sum = 0u64;
+    let mut room = [0u8; 1];
+    for _ in 0..n {
+        let Ok(1) = AsyncAsSync::new(cx, &mut reader).read(&mut room) else {
+            break;
+        };
+        sum = sum.wrapping_add(room[0] as u64);
+    }
+    sum
+}
+
+/// Reads blocks, and folds how many bytes each read gave, and the last of the block.
+#[inline(never)]
+fn read_blocks<R: AsyncRead + Unpin>(reader: &mut R, cx: &mut Context<'_>, blocks: u64) -> u64 {
+    let mut sum = 0u64;
+    let mut block = [0u8; BLOCK as usize];
+    for i in 0..blocks {
+        if let Poll::Ready(Ok(count)) = Pin::new(&mut *reader).poll_read(cx, &mut block) {
+            sum = with_item(sum, i ^ count as u64 ^ block[15] as u64);
+        }
+    }
+    sum
+}
+
+pub fn repeat_read(cx: &mut Context<'_>, n: u64) -> u64 {
+    read_blocks(&mut io::repeat((n & 255) as u8), cx, n)
+}
+
+pub fn empty_read(cx: &mut Context<'_>, n: u64) -> u64 {
+    read_blocks(&mut io::empty(), cx, n)
+}
+
+/// So many seeks, each by a byte.
+#[inline(never)]
+pub fn seek(cx: &mut Context<'_>, n: u64) -> u64 {
+    let mut cursor = Cursor::new(b"".as_slice());
+    let mut sum = 0u64;
+    for _ in 0..n {
+        let Poll::Ready(Ok(position)) = pin!(cursor.seek(SeekFrom::Current(1))).poll(cx) else {
+            break;
+        };
+        sum = with_item(sum, position);
+    }
+    sum
 }

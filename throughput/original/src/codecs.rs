@@ -1,4 +1,4 @@
-//! Values of 16 bytes each with their number before them, and a server of lines, by hand.
+//! Values and chunks of 16 bytes each with their number before them, and a server of lines, by hand.
 
 use crate::texts::{repeated, text};
 use futures_lite::future;
@@ -9,6 +9,12 @@ use std::task::{Context, Poll};
 
 /// A value with its number.
 pub const VALUE: &[u8] = b"\0\0\0\x100123456789abcdef";
+
+/// A chunk, as HTTP has them.
+pub const CHUNK: &[u8] = b"10\r\n0123456789abcdef\r\n";
+
+/// How many bytes may stand before the newline of a chunk's first line.
+const HEAD: usize = 17;
 
 /// How many bytes a value may have.
 pub const MAX: u32 = 64;
@@ -74,4 +80,30 @@ async fn serve(mut requests: &[u8], replies: &mut Vec<u8>) -> io::Result<()> {
         }
         replies.write_all(&line).await?;
     }
+}
+
+/// Chunks with their length in hexadecimal digits before them, cut by hand.
+#[inline(never)]
+pub fn chunks(n: u64) -> u64 {
+    let bytes = repeated(CHUNK, n);
+    let mut left = bytes.as_slice();
+    let mut sum = 0u64;
+    for _ in 0..n {
+        let Some((body, rest)) = take_body(left) else {
+            break;
+        };
+        sum = sum.wrapping_add(std::hint::black_box(body).len() as u64);
+        left = rest;
+    }
+    sum
+}
+
+/// The body of the first chunk, and what stands behind it.
+fn take_body(bytes: &[u8]) -> Option<(Vec<u8>, &[u8])> {
+    let at = bytes.iter().take(HEAD + 1).position(|it| *it == b'\n')?;
+    let head = std::str::from_utf8(bytes[..at].strip_suffix(b"\r")?).ok()?;
+    let length = usize::from_str_radix(head, 16).ok()?;
+    let body = bytes[at + 1..].get(..length)?;
+    let rest = bytes[at + 1 + length..].strip_prefix(b"\r\n")?;
+    Some((body.to_vec(), rest))
 }

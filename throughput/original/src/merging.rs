@@ -1,9 +1,12 @@
-//! Adapters that merge two streams, go round one, or stop it. Each case gives `n` items.
+//! Adapters that merge two streams, go round one, pause it, or stop it. Each case gives `n` items.
 
 use crate::polled::{fold_items, fold_pairs};
 use futures_lite::{future, stream, StreamExt};
 use std::pin::pin;
-use std::task::Context;
+use std::task::{Context, Poll};
+
+/// How many items or bytes come between two pauses.
+pub const BUDGET: usize = 128;
 
 #[inline(never)]
 pub fn zip(cx: &mut Context<'_>, n: u64, polls: u64) -> u64 {
@@ -40,4 +43,26 @@ pub fn drain(cx: &mut Context<'_>, n: u64, polls: u64) -> u64 {
 pub fn stop_after_future(cx: &mut Context<'_>, n: u64, polls: u64) -> u64 {
     let numbers = stream::stop_after_future(stream::iter(0..n), future::pending::<()>());
     fold_items(pin!(numbers), cx, polls)
+}
+
+/// The pauses are those of a `poll_fn` that counts.
+#[inline(never)]
+pub fn with_budget(cx: &mut Context<'_>, n: u64, polls: u64) -> u64 {
+    let mut numbers = stream::iter(0..n);
+    let mut left = BUDGET;
+    let paced = stream::poll_fn(|cx: &mut Context<'_>| {
+        if left == 0 {
+            left = BUDGET;
+            cx.waker().wake_by_ref();
+            return Poll::Pending;
+        }
+        let next = numbers.poll_next(cx);
+        match &next {
+            Poll::Ready(Some(_)) => left -= 1,
+            Poll::Ready(None) => {}
+            Poll::Pending => left = BUDGET,
+        }
+        next
+    });
+    fold_items(pin!(paced), cx, polls)
 }

@@ -44,6 +44,19 @@ pub fn fold_pairs<S: Stream<Item = (u64, u64)>>(mut stream: Pin<&mut S>, cx: &mu
     sum
 }
 
+/// As `fold_items`, of results, up to the first error.
+pub fn fold_found<S: Stream<Item = Result<u64, ()>>>(mut stream: Pin<&mut S>, cx: &mut Context<'_>, polls: u64) -> u64 {
+    let mut sum = 0u64;
+    for _ in 0..polls {
+        match stream.as_mut().poll_next(cx) {
+            Poll::Ready(Some(Ok(x))) => sum = with_item(sum, x),
+            Poll::Ready(Some(Err(())) | None) => break,
+            Poll::Pending => {}
+        }
+    }
+    sum
+}
+
 /// The sum after one more item.
 pub fn with_item(sum: u64, x: u64) -> u64 {
     sum.wrapping_add(x ^ (sum >> 7))

@@ -1,7 +1,7 @@
 //! Sources and adapters. Each case goes over the numbers below `n`, or as many answers, unless it says otherwise.
 
-use crate::polled::{fold_items, fold_numbered};
-use futures_lite::{future, stream, StreamExt};
+use crate::polled::{fold_found, fold_items, fold_numbered, with_item};
+use futures_lite::{future, stream, Stream, StreamExt};
 use std::pin::pin;
 use std::task::{Context, Poll};
 
@@ -240,4 +240,47 @@ pub fn poll_fn(cx: &mut Context<'_>, n: u64, polls: u64) -> u64 {
         Poll::Ready(Some(next))
     });
     fold_items(pin!(numbers), cx, polls)
+}
+
+/// A stream of each number.
+#[inline(never)]
+pub fn once(cx: &mut Context<'_>, n: u64) -> u64 {
+    let mut sum = 0u64;
+    for i in 0..n {
+        if let Poll::Ready(Some(x)) = pin!(stream::once(i ^ 1)).poll_next(cx) {
+            sum = with_item(sum, x);
+        }
+    }
+    sum
+}
+
+/// As `once`, of the value of a future.
+#[inline(never)]
+pub fn once_future(cx: &mut Context<'_>, n: u64) -> u64 {
+    let mut sum = 0u64;
+    for i in 0..n {
+        if let Poll::Ready(Some(x)) = pin!(stream::once_future(future::ready(i ^ 1))).poll_next(cx) {
+            sum = with_item(sum, x);
+        }
+    }
+    sum
+}
+
+/// Clones of one number.
+#[inline(never)]
+pub fn repeat(cx: &mut Context<'_>, n: u64, polls: u64) -> u64 {
+    fold_items(pin!(stream::repeat(n).take(n as usize)), cx, polls)
+}
+
+/// As `unfold`, of results.
+#[inline(never)]
+pub fn try_unfold(cx: &mut Context<'_>, n: u64, polls: u64) -> u64 {
+    let numbers = stream::try_unfold(0u64, move |s: u64| {
+        future::ready(Ok::<Option<(u64, u64)>, ()>(if s < n {
+            Some((s ^ 1, s.wrapping_add(1)))
+        } else {
+            None
+        }))
+    });
+    fold_found(pin!(numbers), cx, polls)
 }

@@ -5,6 +5,7 @@ use crate::bytes::{buffered, noise, write_blocks, BLOCK};
 use futures_lite::io::{self, AsyncBufReadExt, AsyncReadExt, AsyncWrite, AsyncWriteExt, BufWriter, Cursor};
 use futures_lite::Stream;
 use std::future::Future;
+use std::io::IoSlice;
 use std::pin::{pin, Pin};
 use std::task::{Context, Poll};
 
@@ -248,4 +249,63 @@ pub fn write_all(cx: &mut Context<'_>, n: u64) -> u64 {
 pub fn buf_writer(cx: &mut Context<'_>, n: u64) -> u64 {
     let bytes = Vec::with_capacity((n * BLOCK) as usize);
     write_blocks(&mut BufWriter::new(bytes), cx, n)
+}
+
+/// As `write_all`, by one write for each block.
+#[inline(never)]
+pub fn write(cx: &mut Context<'_>, n: u64) -> u64 {
+    let mut bytes = Vec::with_capacity((n * BLOCK) as usize);
+    for i in 0..n {
+        let block = [(i & 255) as u8; BLOCK as usize];
+        let Poll::Ready(Ok(_)) = pin!(bytes.write(&block)).poll(cx) else {
+            break;
+        };
+    }
+    bytes.len() as u64
+}
+
+/// As `write`, of blocks in two halves.
+#[inline(never)]
+pub fn write_vectored(cx: &mut Context<'_>, n: u64) -> u64 {
+    let mut bytes = Vec::with_capacity((n * BLOCK) as usize);
+    for i in 0..n {
+        let half = [(i & 255) as u8; 8];
+        let bufs = [IoSlice::new(&half), IoSlice::new(&half)];
+        let Poll::Ready(Ok(_)) = pin!(bytes.write_vectored(&bufs)).poll(cx) else {
+            break;
+        };
+    }
+    bytes.len() as u64
+}
+
+/// So many blocks through a buffer to a writer that takes all, with a flush behind each.
+#[inline(never)]
+pub fn flush(cx: &mut Context<'_>, n: u64) -> u64 {
+    let mut writer = BufWriter::new(Ends { sum: 0 });
+    for i in 0..n {
+        let block = [(i & 255) as u8; BLOCK as usize];
+        let Poll::Ready(Ok(())) = pin!(writer.write_all(&block)).poll(cx) else {
+            break;
+        };
+        let Poll::Ready(Ok(())) = pin!(writer.flush()).poll(cx) else {
+            break;
+        };
+    }
+    writer.get_ref().sum
+}
+
+/// As `flush`, with a close behind each. The writer takes more after that.
+#[inline(never)]
+pub fn close(cx: &mut Context<'_>, n: u64) -> u64 {
+    let mut writer = BufWriter::new(Ends { sum: 0 });
+    for i in 0..n {
+        let block = [(i & 255) as u8; BLOCK as usize];
+        let Poll::Ready(Ok(())) = pin!(writer.write_all(&block)).poll(cx) else {
+            break;
+        };
+        let Poll::Ready(Ok(())) = pin!(writer.close()).poll(cx) else {
+            break;
+        };
+    }
+    writer.get_ref().sum
 }

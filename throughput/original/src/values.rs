@@ -97,3 +97,41 @@ pub fn poll_once(cx: &mut Context<'_>, n: u64) -> u64 {
     }
     sum
 }
+
+/// The generator is the thread's.
+#[inline(never)]
+pub fn race(cx: &mut Context<'_>, n: u64) -> u64 {
+    let mut sum = 0u64;
+    for i in 0..n {
+        let either = future::race(future::ready(i ^ (sum >> 7)), future::ready(sum >> 9));
+        if let Poll::Ready(a) = pin!(either).poll(cx) {
+            sum = sum.wrapping_add(a);
+        }
+    }
+    sum
+}
+
+/// Each may be polled twice, as a `poll_fn` counts.
+#[inline(never)]
+pub fn with_poll_limit(cx: &mut Context<'_>, n: u64) -> u64 {
+    let mut sum = 0u64;
+    for i in 0..n {
+        let mut inner = pin!(future::ready(i ^ (sum >> 7)));
+        let mut left = 2usize;
+        let limited = future::poll_fn(|cx: &mut Context<'_>| {
+            if left == 0 {
+                return Poll::Ready(None);
+            }
+            left -= 1;
+            match inner.as_mut().poll(cx) {
+                Poll::Ready(a) => Poll::Ready(Some(a)),
+                Poll::Pending if left == 0 => Poll::Ready(None),
+                Poll::Pending => Poll::Pending,
+            }
+        });
+        if let Poll::Ready(Some(a)) = pin!(limited).poll(cx) {
+            sum = sum.wrapping_add(a);
+        }
+    }
+    sum
+}

@@ -4,7 +4,7 @@ use crate::bytes::BLOCK;
 use crate::codecs::{LINE, MAX, VALUE};
 use crate::texts::{repeated, text};
 use futures_lite::future::block_on;
-use futures_lite::io::{AsyncBufReadExt, AsyncReadExt, AsyncWriteExt};
+use futures_lite::io::{self, AsyncBufReadExt, AsyncReadExt, AsyncWriteExt, Cursor};
 
 /// So many blocks, each by one read.
 #[inline(never)]
@@ -127,4 +127,49 @@ pub fn sends(n: u64) -> u64 {
         };
     }
     bytes.len() as u64
+}
+
+/// The bytes of so many frames, without their numbers, all of which one wait collects.
+#[inline(never)]
+pub fn all_frames(n: u64) -> u64 {
+    let bytes = repeated(VALUE, n);
+    match block_on(collect(Cursor::new(&bytes))) {
+        Ok(frames) => frames.iter().fold(0, |sum: u64, frame: &Vec<u8>| sum.wrapping_add(frame.len() as u64)),
+        Err(_) => 0,
+    }
+}
+
+async fn collect(mut reader: Cursor<&[u8]>) -> io::Result<Vec<Vec<u8>>> {
+    let mut frames = Vec::new();
+    while !reader.fill_buf().await?.is_empty() {
+        let mut number = [0u8; 4];
+        reader.read_exact(&mut number).await?;
+        let number = u32::from_be_bytes(number);
+        if number > MAX {
+            return Err(io::ErrorKind::InvalidData.into());
+        }
+        let mut frame = vec![0u8; number as usize];
+        reader.read_exact(&mut frame).await?;
+        frames.push(frame);
+    }
+    Ok(frames)
+}
+
+/// So many values, made first and sent by one wait, into a vector with room for their frames.
+#[inline(never)]
+pub fn sends_all(n: u64) -> u64 {
+    let mut bytes = Vec::with_capacity((n * BLOCK) as usize * 2);
+    let mut blocks = Vec::with_capacity(n as usize);
+    for i in 0..n {
+        blocks.push([(i & 255) as u8; BLOCK as usize]);
+    }
+    let mut out = Vec::new();
+    for block in blocks {
+        out.extend_from_slice(&(block.len() as u32).to_be_bytes());
+        out.extend_from_slice(&block);
+    }
+    match block_on(bytes.write_all(&out)) {
+        Ok(()) => bytes.len() as u64,
+        Err(_) => 0,
+    }
 }
