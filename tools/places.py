@@ -3,7 +3,8 @@ import functools
 import glob
 import re
 
-from programs import THROUGHPUT
+from edits import BODIES, Bodies
+from programs import REPLAY, THROUGHPUT
 from repository import BESIDE, FACADE, TOP, crates_in, files_of, read_text, with_below
 from sources import MODULES, Sources
 
@@ -12,12 +13,22 @@ POLLS, NESTS, TABLES, MARKS_MET = "cases/pictures.txt", "docs/NESTS.md", "docs/T
 PARTS_OF = {NESTS: ("## What each call adds", "\n# "), TABLES: ("## What a poll requires", "\n## ")}
 # Adapters without a table of polls: their sources are no scripts, or they never end.
 NO_POLLS = {"StreamExt::cloned", "StreamExt::copied", "StreamExt::cycle"}
+# Adapters of no family: `cycle` begins again, and what the others yield depends on pendings. `fuse` only polls on behind an end.
+NO_FAMILY = {
+    "docs/guide/02-nests.md": {"StreamExt::cycle", "StreamExt::drain", "StreamExt::with_budget"},
+    "crates/futures_lite/specs/Families.antt": {"StreamExt::cycle", "StreamExt::drain", "StreamExt::fuse", "StreamExt::with_budget"},
+}
 # Calls without a row: what waits for others, what has no value, and what stands in the row of another call, as `iter_vec` in that of `iter`.
 NO_ROW = {
     NESTS: {"block_on", "StreamExt::for_each", "race_with_seed"},
     TABLES: {"block_on", "iter_array", "iter_range", "iter_slice", "iter_vec", "race_with_seed"},
 }
 
+# An arm of the program replay that knows words, and the impl of a type that is polled, or reads or writes.
+ARM = re.compile(r'^\s*((?:"\w+"\s*\|?\s*)+)(?:if .*)?=>', re.M)
+# Sources that only hand calls on.
+NO_BODY = {"lite_consume/src/lent.rt"}
+POLLED = re.compile(r"^impl\b[^{;]*? (?:Stream|PollSteps|Future|Folder|Async(?:Read|BufRead|Write|Seek))(?: for|<)", re.M)
 # Functions that no case of the measured program calls, by their names.
 NO_CASE = {
     # They return, lend or set a part of a value, or tell its state.
@@ -55,19 +66,31 @@ def lacking(place, wanted, there, exceptions, what):
         yield "tools/places.py", f"`{name}` needs no exception, or is none: {place}"
 
 
-def polls(streams):
-    """Each adapter, a method that returns a stream of the library, has a table of polls."""
+def adapters(streams):
+    """Returns the methods of streams that return a stream of the library."""
     returned = {it.title: re.search(r"-> (?:Result<)?(\w+)", it.head) for it in calls_of_streams() if it.owner}
-    adapters = {title for title, found in returned.items() if found and found[1] in streams}
+    return {title for title, found in returned.items() if found and found[1] in streams}
+
+
+def polls(streams):
+    """Each adapter has a table of polls."""
     there = set(re.findall(r"^# stream::([\w:]+): `", read_text(f"{TOP}/{POLLS}"), re.M))
-    yield from lacking(POLLS, adapters, there, NO_POLLS, "there is no table of the polls of")
+    yield from lacking(POLLS, adapters(streams), there, NO_POLLS, "there is no table of the polls of")
+
+
+def families(streams):
+    """Each adapter stands with its family."""
+    for page, exceptions in NO_FAMILY.items():
+        words = set(re.findall(r"\w+", read_text(f"{TOP}/{page}")))
+        there = {it for it in adapters(streams) if it.partition("::")[2] in words}
+        yield from lacking(page, adapters(streams), there, exceptions, "no family has")
 
 
 def properties_met(traits):
     """Each public type of the library has a contract for each of its properties that compare two values or call one calm. What is behind a `&` has its own."""
     text = "".join(read_text(it) for it in glob.glob(f"{TOP}/{MARKS_MET}/src/*.rt"))
     wanted = {(name.partition("<")[0], trait) for name, of_type in traits for trait in of_type if name[0].isalpha() and trait.startswith(("Steady", "Calm"))}
-    there = {(name, trait) for name, trait in wanted if re.search(rf"<{name}\b[^⟧]* as {trait}>", text)}
+    there = {(name, trait) for name, trait in wanted if re.search(rf"<{name}\b[^⟧]* as {trait}>⟧\.(?:alike|is_calm)\b", text)}
     yield from lacking(MARKS_MET, {" as ".join(it) for it in wanted}, {" as ".join(it) for it in there}, set(), "no function has a contract with")
 
 
@@ -76,6 +99,25 @@ def names_called_in(folders):
     files = [f"{folder}/{file}" for folder in folders for file in files_of(f"{TOP}/{folder}")]
     text = "".join(read_text(f"{TOP}/{it}") for it in files if it.endswith((".rs", ".rt")))
     return set(re.findall(r"(?<!fn )\b(\w+)(?:::<[^(]*>)?\(", text))
+
+
+def cased():
+    """Each word that the program replay knows stands in a case."""
+    known = "".join(read_text(it) for it in glob.glob(f"{TOP}/{REPLAY}/src/*.rs"))
+    words = {word for arm in ARM.findall(known) for word in re.findall(r"\w+", arm)}
+    there = {word for it in glob.glob(f"{TOP}/cases/*.txt") for word in re.findall(r"\w+", read_text(it))}
+    yield from lacking("cases", words, there & words, set(), "no case has the word")
+
+
+def turned():
+    """Each source of the library with a type that is polled, or reads or writes, has a wrong body."""
+    crates = crates_in(TOP)
+    for crate in with_below(crates, [FACADE, *BESIDE]):
+        turned_there = {file for edit in Bodies(crate).edits for file, _, _ in edit.changes()}
+        for file in (f"src/{it}" for it in files_of(f"{TOP}/crates/{crate}/src") if it.endswith(".rt")):
+            is_polled = POLLED.search(read_text(f"{TOP}/crates/{crate}/{file}")) and f"{crate}/{file}" not in NO_BODY
+            if is_polled and file not in turned_there:
+                yield f"{BODIES}/{crate}.txt", f"no wrong body is of {file}"
 
 
 def called():
