@@ -28,7 +28,8 @@ use std::io::{self, ErrorKind, Write};
 /// 0: the line was written. 2: the words are no request; nothing was written to `out`, and
 /// `pollrun: bad arguments` to `err`. 1: memory was refused, nothing was written to `out`, and
 /// `pollrun: out of memory` to `err`; or `out` failed, and `pollrun: output failed` was written to `err`. 141: nobody
-/// reads `out` any more. An `err` that fails changes no status. The original has no such program.
+/// reads `out` any more, and nothing was written to `err`. An `err` that fails changes no status. The original has no
+/// such program.
 pub fn serve<A: Write, B: Write>(
     alloc: Global,
     cx: &mut Context<'_>,

@@ -37,7 +37,8 @@ impl Command {
     }
 }
 
-/// Returns whether the program was called without words. If not, its usage is printed, and the error is the status 2.
+/// Returns `Ok` if the program was called without words. If not, its usage is printed, and the error is the status 2. It
+/// is 1 if memory was refused.
 pub fn without_words<R>(rt: &R, name: &str) -> Result<(), ExitCode>
 where
     R: Env + AllocGlobal + Eprint,
