@@ -1,4 +1,5 @@
 """The files that are generated, whole or in part."""
+import glob
 import os
 import re
 
@@ -18,10 +19,34 @@ from words import WRITTEN
 # The folders in which every file is generated.
 WHOLE = ("docs/api", "docs/pictures", *(f"crates/{it}/src" for it in examples.PROVED.values()))
 
+# A line of an index of modules.
+MODULE = re.compile(r"^(?:pub )?mod (\w+)\n", re.M)
+
+
+def indexed(index, modules):
+    """Returns an index with a line for each of these modules, and for no other. The lines that stay keep their order."""
+    index = MODULE.sub(lambda it: it[0] if it[1] in modules else "", index)
+    for name in sorted(modules - set(MODULE.findall(index))):
+        at = next((it.start() for it in MODULE.finditer(index) if it[1] > name), len(index))
+        index = f"{index[:at]}pub mod {name}\n{index[at:]}"
+    return index
+
+
+def indexes():
+    """Yields the path and the text of each index of modules: the `Lib` of specs/ or of proofs/ in a crate, and a module beside the folder of its own."""
+    for top in sorted(glob.glob(f"{TOP}/crates/*/specs") + glob.glob(f"{TOP}/crates/*/proofs")):
+        for folder, _, there in os.walk(top):
+            modules = {os.path.splitext(it)[0] for it in there if it.endswith(".antt")} - {"Lib"}
+            path = f"{top}/Lib.antt" if folder == top else f"{folder}.antt"
+            # (a folder without an index has answers)
+            if os.path.isfile(path) or modules and folder == top:
+                yield os.path.relpath(path, TOP), indexed(read_text(path) if os.path.isfile(path) else "", modules)
+
 
 def files():
     """Yields the path of each file that has generated text, and what it has to be."""
     yield from Reference().pages()
+    yield from indexes()
     yield speed.PLOT, speed.plot()
     yield pictures.FILE, pictures.by_item()[pictures.SHOWN].svg()
     yield original_examples.PAGE, original_examples.page()
