@@ -3,14 +3,20 @@ import functools
 import glob
 import re
 
+import pictures
 from edits import BODIES, Bodies
 from programs import REPLAY, THROUGHPUT
 from repository import BESIDE, FACADE, TOP, crates_in, files_of, read_text, with_below
 from sources import MODULES, Sources
 
-POLLS, NESTS, TABLES, MARKS_MET = "cases/pictures.txt", "docs/NESTS.md", "docs/TABLES.md", "crates/properties_met"
+CASES, NESTS, TABLES, MARKS_MET = "cases", "docs/NESTS.md", "docs/TABLES.md", "crates/properties_met"
 # The parts of pages whose tables have a row of each call of streams: a heading, and one behind the part.
 PARTS_OF = {NESTS: ("## What each call adds", "\n# "), TABLES: ("## What a poll requires", "\n## ")}
+# Methods of streams that cases know by another word.
+OTHER_WORD = {"with_budget"}
+# What a case of each adapter shows, besides its results; and words of adapters that others show already.
+SHOWN = {"the hint": r"\d+ hint {} ", "polls after an end": r"\d+ poll {} .*(?:E,){{8}}$", "which polls wake the task": r"\d+ wakes {} "}
+SHOWN_BY_OTHERS = {"flat_map_calls", "or_pending", "race_pending", "then_calls"}
 # Adapters without a table of polls: their sources are no scripts, or they never end.
 NO_POLLS = {"StreamExt::cloned", "StreamExt::copied", "StreamExt::cycle"}
 # Adapters of no family: `cycle` begins again, and what the others yield depends on pendings. `fuse` only polls on behind an end. No lemma of the guide's
@@ -75,8 +81,8 @@ def adapters(streams):
 
 def polls(streams):
     """Each adapter has a table of polls."""
-    there = set(re.findall(r"^# stream::([\w:]+): `", read_text(f"{TOP}/{POLLS}"), re.M))
-    yield from lacking(POLLS, adapters(streams), there, NO_POLLS, "there is no table of the polls of")
+    there = {it.removeprefix("stream::") for it in pictures.by_item()}
+    yield from lacking(CASES, adapters(streams), adapters(streams) & there, NO_POLLS, "there is no table of the polls of")
 
 
 def families(streams):
@@ -102,12 +108,29 @@ def names_called_in(folders):
     return set(re.findall(r"(?<!fn )\b(\w+)(?:::<[^(]*>)?\(", text))
 
 
+def words_known(files):
+    """Returns the words of cases that these sources of the program replay know."""
+    text = "".join(read_text(it) for it in glob.glob(f"{TOP}/{REPLAY}/src/{files}"))
+    return {word for arm in ARM.findall(text) for word in re.findall(r"\w+", arm)}
+
+
+def unshown(adapter, cases):
+    """Returns what none of these lines shows of the adapter with this word."""
+    return [what for what, form in SHOWN.items() if not any(re.match(form.format(adapter), it) for it in cases)]
+
+
 def cased():
-    """Each word that the program replay knows stands in a case."""
-    known = "".join(read_text(it) for it in glob.glob(f"{TOP}/{REPLAY}/src/*.rs"))
-    words = {word for arm in ARM.findall(known) for word in re.findall(r"\w+", arm)}
-    there = {word for it in glob.glob(f"{TOP}/cases/*.txt") for word in re.findall(r"\w+", read_text(it))}
-    yield from lacking("cases", words, there & words, set(), "no case has the word")
+    """Each method of streams is a word of the program replay. Each word of it stands in a case, and names a call or is explained. Of each adapter a case
+    shows all that SHOWN has."""
+    texts = {it: read_text(it) for it in glob.glob(f"{TOP}/{CASES}/*.txt")}
+    there, words = {word for it in texts.values() for word in re.findall(r"\w+", it)}, words_known("*.rs")
+    explained = set(re.findall(r"\w+", " ".join(re.findall(r"`([^`]*)`", read_text(f"{TOP}/{CASES}/README.md"))))) | {it.name for it in calls_of_streams()}
+    yield from lacking(REPLAY, {it.name for it in calls_of_streams() if it.owner}, words, OTHER_WORD, "it knows no word")
+    yield from lacking(CASES, words, there & words, set(), "no case has the word")
+    yield from lacking(f"{CASES}/README.md", words, explained & words, set(), "nothing explains the word")
+    by_hand = [line for file, text in texts.items() if "/original_" not in file for line in text.splitlines()]
+    for adapter in sorted(words_known("layer.rs") - SHOWN_BY_OTHERS):
+        yield from ((CASES, f"no case shows {what} of `{adapter}`") for what in unshown(adapter, by_hand))
 
 
 def turned():
