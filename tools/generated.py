@@ -3,6 +3,7 @@ import glob
 import os
 import re
 
+import adapters
 import examples
 import lookup
 import markers
@@ -52,6 +53,9 @@ def files():
     yield original_examples.PAGE, original_examples.page()
     for file, text in examples.proofs().items():
         yield f"crates/{file}", text
+    for page, parts in ((adapters.NESTS, adapters.lists()), (adapters.GUIDE, adapters.relations())):
+        yield page, markers.filled(read_text(f"{TOP}/{page}"), parts)
+    # (the answer of tools/find quotes pages)
     parts_of = {
         originals.PAGE: {**originals.tables(), **originals.added()},
         properties.PAGE: properties.tables(),

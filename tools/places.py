@@ -4,6 +4,7 @@ import glob
 import re
 
 import pictures
+import vocabulary
 from edits import BODIES, Bodies
 from programs import REPLAY, THROUGHPUT
 from repository import BESIDE, FACADE, TOP, crates_in, files_of, read_text, with_below
@@ -161,12 +162,21 @@ def measured():
     yield from lacking(THROUGHPUT, names, names & names_called_in([f"{THROUGHPUT}/src"]), NO_CASE, "no case calls")
 
 
-def rows():
-    """Each source, adapter and future of streams stands in a row of both pages."""
+def counting_as_their_sources():
+    """Returns the adapters whose rank is that of their source."""
+    made_in = [(f"{TOP}/crates/{crate}/src/{file}", made) for crate, made, _, trait, file, *_ in vocabulary.calls() if trait == "Stream"]
+    return {name for file, made in made_in if "ghost ranks = { ranks_of (λ m. m.stream" in read_text(file) for name in made}
+
+
+def rows(streams):
+    """Each source, adapter and future of streams stands in a row of NESTS; in TABLES each source, and each adapter with a rank of its own."""
     for page, (first, end) in PARTS_OF.items():
         part = read_text(f"{TOP}/{page}").partition(first)[2].partition(end)[0]
         cells = " ".join(row.split("|")[1] for row in part.splitlines() if row.startswith("|"))
         names = set(re.findall(r"\w+", " ".join(re.findall(r"`([^`]*)`", cells))))
         every = {it.title: it.name for it in calls_of_streams()}
         there = {title for title, name in every.items() if name in names}
+        if page == TABLES:
+            plain = counting_as_their_sources()
+            every = {it: name for it, name in every.items() if "::" not in it or it in adapters(streams) and name not in plain}
         yield from lacking(page, set(every), there, NO_ROW[page], f"no row below `{first[3:]}` has")
