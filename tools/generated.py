@@ -53,7 +53,8 @@ def files():
     yield original_examples.PAGE, original_examples.page()
     for file, text in examples.proofs().items():
         yield f"crates/{file}", text
-    for page, parts in ((adapters.NESTS, adapters.lists()), (adapters.GUIDE, adapters.relations())):
+    yield adapters.FAMILIES, adapters.with_families(read_text(f"{TOP}/{adapters.FAMILIES}"), adapters.relations())
+    for page, parts in ((adapters.NESTS, adapters.lists()), (adapters.GUIDE, adapters.families())):
         yield page, markers.filled(read_text(f"{TOP}/{page}"), parts)
     # (the answer of tools/find quotes pages)
     parts_of = {
