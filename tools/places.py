@@ -23,6 +23,8 @@ NEVER_PENDING = {
 # The tests of adapters, of futures that consume a stream, and of sources; and the calls that those of another kind make, or of another form.
 TESTS_OF_STREAMS = ("streams/adapters.rs", "consuming/consume.rs", "streams/sources.rs")
 NO_TEST = {"StreamExt::race", "block_on", "or", "race", "race_with_seed", "stop_after_future"}
+# The blocking stream, and the futures of streams that it has no method for: they take an allocator, or need items that are `Result`s or pairs.
+BLOCKING, NO_METHOD = "crates/lite_consume/src/block_on.rt", set("collect partition try_collect try_fold try_for_each try_next unzip".split())
 # Methods of streams that cases know by another word.
 OTHER_WORD = {"with_budget"}
 # What a case of each adapter shows, besides its results; and words of adapters that others show already.
@@ -170,6 +172,12 @@ def tested(streams):
         names = names_called_in([f"tests/test_streams/src/tests/{file}"])
         there = {it for it in kind if it.rpartition("::")[2] in names}
         yield from lacking(f"tests/test_streams/src/tests/{file}", kind, there, NO_TEST & kind, "no test calls")
+
+
+def blocking(streams):
+    """Each future that consumes a stream has a method of the blocking stream."""
+    wanted = {it.name for it in calls_of_streams() if it.owner and it.title not in adapters(streams)}
+    yield from lacking(BLOCKING, wanted, set(re.findall(r"pub fn (\w+)", read_text(f"{TOP}/{BLOCKING}"))), NO_METHOD, "there is no method")
 
 
 def turned():

@@ -116,10 +116,18 @@ pub(crate) fn check<R>(rt: &R, cx: &mut Context<'_>) -> Result<(), Fault>
 where
     R: Wait + RandomSource + AllocGlobal + Copy,
 {
-    check_folds(rt, cx, streams::FOLDS.as_slice())?;
-    check_folds(rt, cx, consuming::FOLDS.as_slice())?;
-    check_folds(rt, cx, merging::FOLDS.as_slice())?;
-    check_folds(rt, cx, FOLDS.as_slice())?;
+    for (name, n, items) in &streams::FOLDS {
+        gives(name, computed(rt, cx, name, *n)? == folded(items))?;
+    }
+    for (name, n, items) in &consuming::FOLDS {
+        gives(name, computed(rt, cx, name, *n)? == folded(items))?;
+    }
+    for (name, n, items) in &merging::FOLDS {
+        gives(name, computed(rt, cx, name, *n)? == folded(items))?;
+    }
+    for (name, n, items) in &FOLDS {
+        gives(name, computed(rt, cx, name, *n)? == folded(items))?;
+    }
     for (name, n, number) in &NUMBERS {
         gives(name, computed(rt, cx, name, *n)? == *number)?;
     }
@@ -137,21 +145,6 @@ where
         computed(rt, cx, "with_budget", 1000)? == computed(rt, cx, "iter", 1000)?,
     )?;
     gives("Iter", computed(rt, cx, "Iter", 1) == Err(Fault::Arguments))
-}
-
-/// Whether each of these cases folds its items.
-fn check_folds<R>(
-    rt: &R,
-    cx: &mut Context<'_>,
-    cases: &[(&'static str, u64, &[u64])],
-) -> Result<(), Fault>
-where
-    R: Wait + RandomSource + AllocGlobal + Copy,
-{
-    for (name, n, items) in cases {
-        gives(name, computed(rt, cx, name, *n)? == folded(items))?;
-    }
-    Ok(())
 }
 
 fn check_readers<R>(rt: &R, cx: &mut Context<'_>) -> Result<(), Fault>

@@ -9,7 +9,12 @@ use std::random::RandomSource;
 use std::sync::Wait;
 
 /// What the case of this name computes at size `n`, if it is a case of this file.
-pub(crate) fn computed(alloc: Global, cx: &mut Context<'_>, name: &str, n: u64) -> Result<Option<u64>, Fault> {
+pub(crate) fn computed(
+    alloc: Global,
+    cx: &mut Context<'_>,
+    name: &str,
+    n: u64,
+) -> Result<Option<u64>, Fault> {
     Ok(Some(match name {
         "next" => next(cx, n, n),
         "last" => last(cx, n),

@@ -7,7 +7,12 @@ use futures_lite::{Context, Poll, Stream, StreamExt, future, stream};
 use std::alloc::{AllocError, Global};
 
 /// What the case of this name computes at size `n`, if it is a case of this file.
-pub(crate) fn computed(alloc: Global, cx: &mut Context<'_>, name: &str, n: u64) -> Result<Option<u64>, Fault> {
+pub(crate) fn computed(
+    alloc: Global,
+    cx: &mut Context<'_>,
+    name: &str,
+    n: u64,
+) -> Result<Option<u64>, Fault> {
     Ok(Some(match name {
         "iter" => iter(cx, n, n),
         "map" => map(cx, n, n),
