@@ -1,7 +1,9 @@
 """The files that are generated, whole or in part."""
+import glob
 import os
 import re
 
+import adapters
 import examples
 import lookup
 import markers
@@ -18,15 +20,43 @@ from words import WRITTEN
 # The folders in which every file is generated.
 WHOLE = ("docs/api", "docs/pictures", *(f"crates/{it}/src" for it in examples.PROVED.values()))
 
+# A line of an index of modules.
+MODULE = re.compile(r"^(?:pub )?mod (\w+)\n", re.M)
+
+
+def indexed(index, modules):
+    """Returns an index with a line for each of these modules, and for no other. The lines that stay keep their order."""
+    index = MODULE.sub(lambda it: it[0] if it[1] in modules else "", index)
+    for name in sorted(modules - set(MODULE.findall(index))):
+        at = next((it.start() for it in MODULE.finditer(index) if it[1] > name), len(index))
+        index = f"{index[:at]}pub mod {name}\n{index[at:]}"
+    return index
+
+
+def indexes():
+    """Yields the path and the text of each index of modules: the `Lib` of specs/ or of proofs/ in a crate, and a module beside the folder of its own."""
+    for top in sorted(glob.glob(f"{TOP}/crates/*/specs") + glob.glob(f"{TOP}/crates/*/proofs")):
+        for folder, _, there in os.walk(top):
+            modules = {os.path.splitext(it)[0] for it in there if it.endswith(".antt")} - {"Lib"}
+            path = f"{top}/Lib.antt" if folder == top else f"{folder}.antt"
+            # (a folder without an index has answers)
+            if os.path.isfile(path) or modules and folder == top:
+                yield os.path.relpath(path, TOP), indexed(read_text(path) if os.path.isfile(path) else "", modules)
+
 
 def files():
     """Yields the path of each file that has generated text, and what it has to be."""
     yield from Reference().pages()
+    yield from indexes()
     yield speed.PLOT, speed.plot()
     yield pictures.FILE, pictures.by_item()[pictures.SHOWN].svg()
     yield original_examples.PAGE, original_examples.page()
     for file, text in examples.proofs().items():
         yield f"crates/{file}", text
+    yield adapters.FAMILIES, adapters.with_families(read_text(f"{TOP}/{adapters.FAMILIES}"), adapters.relations())
+    for page, parts in ((adapters.NESTS, adapters.lists()), (adapters.GUIDE, adapters.families())):
+        yield page, markers.filled(read_text(f"{TOP}/{page}"), parts)
+    # (the answer of tools/find quotes pages)
     parts_of = {
         originals.PAGE: {**originals.tables(), **originals.added()},
         properties.PAGE: properties.tables(),

@@ -1,6 +1,6 @@
 """Tables of what adapters return: a row for each source with what it returned in each poll, and a row with what came out. One is also a picture.
 
-A table is made from a case of the mode `polls` in cases/pictures.txt, whose answers `tools/replay` holds to the program.
+A table is made from a case of the mode `polls`, whose answers `tools/replay` holds to the program.
 """
 import functools
 import html
@@ -9,7 +9,7 @@ import re
 
 from repository import TOP, read_text
 
-CASES = f"{TOP}/cases/pictures.txt"
+CASES = ("cases/adapters.txt", "cases/merging.txt")
 # The item of which README.md has a picture.
 SHOWN, FILE = "stream::StreamExt::filter", "docs/pictures/stream_stream_ext_filter.svg"
 # The line over a case says which item it shows, and how its nest is written as a call.
@@ -97,7 +97,7 @@ def shape(word, x, y, is_out):
 def by_item():
     """Returns the tables by their items: the module of the facade and the title."""
     found, about = {}, None
-    for line in read_text(CASES).splitlines() if os.path.isfile(CASES) else ():
+    for line in (line for it in CASES if os.path.isfile(f"{TOP}/{it}") for line in read_text(f"{TOP}/{it}").splitlines()):
         if it := ABOUT.match(line):
             about = it
         elif " => " in line and about:

@@ -3,14 +3,33 @@ import functools
 import glob
 import re
 
+import pictures
+import speed
+import vocabulary
 from edits import BODIES, Bodies
 from programs import REPLAY, THROUGHPUT
 from repository import BESIDE, FACADE, TOP, crates_in, files_of, read_text, with_below
 from sources import MODULES, Sources
 
-POLLS, NESTS, TABLES, MARKS_MET = "cases/pictures.txt", "docs/NESTS.md", "docs/TABLES.md", "crates/properties_met"
+CASES, NESTS, TABLES, MARKS_MET = "cases", "docs/NESTS.md", "docs/TABLES.md", "crates/properties_met"
 # The parts of pages whose tables have a row of each call of streams: a heading, and one behind the part.
 PARTS_OF = {NESTS: ("## What each call adds", "\n# "), TABLES: ("## What a poll requires", "\n## ")}
+# Types of which nothing is registered: they are never pending, or wake their task at once.
+NEVER_PENDING = {
+    "Stream": "Drain Empty Iter Once Pending Repeat RepeatWith Script".split(),
+    "Future": "Pending PollOnce Ready".split(),
+    "AsyncRead": "AssertAsync Box Cursor Empty JournalReadHalf ReadHalf Repeat".split(),
+}
+# The tests of adapters, of futures that consume a stream, and of sources; and the calls that those of another kind make, or of another form.
+TESTS_OF_STREAMS = ("streams/adapters.rs", "consuming/consume.rs", "streams/sources.rs")
+NO_TEST = {"StreamExt::race", "block_on", "or", "race", "race_with_seed", "stop_after_future"}
+# The blocking stream, and the futures of streams that it has no method for: they take an allocator, or need items that are `Result`s or pairs.
+BLOCKING, NO_METHOD = "crates/lite_consume/src/block_on.rt", set("collect partition try_collect try_fold try_for_each try_next unzip".split())
+# Methods of streams that cases know by another word.
+OTHER_WORD = {"with_budget"}
+# What a case of each adapter shows, besides its results; and words of adapters that others show already.
+SHOWN = {"the hint": r"\d+ hint {} ", "polls after an end": r"\d+ poll {} .*(?:E,){{8}}$", "which polls wake the task": r"\d+ wakes {} "}
+SHOWN_BY_OTHERS = {"flat_map_calls", "or_pending", "race_pending", "then_calls"}
 # Adapters without a table of polls: their sources are no scripts, or they never end.
 NO_POLLS = {"StreamExt::cloned", "StreamExt::copied", "StreamExt::cycle"}
 # Adapters of no family: `cycle` begins again, and what the others yield depends on pendings. `fuse` only polls on behind an end. No lemma of the guide's
@@ -75,8 +94,8 @@ def adapters(streams):
 
 def polls(streams):
     """Each adapter has a table of polls."""
-    there = set(re.findall(r"^# stream::([\w:]+): `", read_text(f"{TOP}/{POLLS}"), re.M))
-    yield from lacking(POLLS, adapters(streams), there, NO_POLLS, "there is no table of the polls of")
+    there = {it.removeprefix("stream::") for it in pictures.by_item()}
+    yield from lacking(CASES, adapters(streams), adapters(streams) & there, NO_POLLS, "there is no table of the polls of")
 
 
 def families(streams):
@@ -87,27 +106,78 @@ def families(streams):
         yield from lacking(page, adapters(streams), there, exceptions, "no family has")
 
 
-def properties_met(traits):
-    """Each public type of the library has a contract for each of its properties that compare two values or call one calm. What is behind a `&` has its own."""
-    text = "".join(read_text(it) for it in glob.glob(f"{TOP}/{MARKS_MET}/src/*.rt"))
-    wanted = {(name.partition("<")[0], trait) for name, of_type in traits for trait in of_type if name[0].isalpha() and trait.startswith(("Steady", "Calm"))}
-    there = {(name, trait) for name, trait in wanted if re.search(rf"<{name}\b[^⟧]* as {trait}>⟧\.(?:alike|is_calm)\b", text)}
-    yield from lacking(MARKS_MET, {" as ".join(it) for it in wanted}, {" as ".join(it) for it in there}, set(), "no function has a contract with")
+def members_met(kind, name, properties):
+    """Yields each trait of a type, and the members of which a contract has to name one. No call of a writer asks for memory, and most of them are never pending."""
+    for trait in properties:
+        if trait.startswith(("Steady", "Calm")):
+            yield trait, "alike|is_calm"
+        if trait.startswith("Steady") and kind != "AsyncWrite":
+            yield trait, "needs_none|ample"
+    if kind != "AsyncWrite" and name not in NEVER_PENDING[kind]:
+        yield kind, r"\w*registers\w*"
 
 
-def names_called_in(folders):
-    """Returns the names of what the sources in these folders call. (A call is told by its name alone.)"""
-    files = [f"{folder}/{file}" for folder in folders for file in files_of(f"{TOP}/{folder}")]
+def properties_met(kinds):
+    """Each public type of the library has a contract for each of its properties that compare two values or call one calm, for what its context holds at a
+    `Pending`, and for memory. What is behind a `&` has its own."""
+    text = " ".join(" ".join(read_text(it) for it in glob.glob(f"{TOP}/{MARKS_MET}/src/*.rt")).split())
+    for kind, types in kinds.items():
+        for name, properties in ((name.partition("<")[0], it) for name, it in types.items() if name[0].isalpha()):
+            for trait, members in members_met(kind, name, properties):
+                if not re.search(rf"<{name}\b[^⟧]* as {trait}>⟧\.(?:{members})\b", text):
+                    yield MARKS_MET, f"no contract has of `{name} as {trait}` a member {members}"
+    for name in sorted(name for _, _, name, trait, *_ in vocabulary.calls() if trait == "Folder" and name):
+        for members in ("alike", "needs_none|ample"):
+            if not re.search(rf"<(?:Consume<\w+, {name}\b|{name}Future<)[^⟧]* as SteadyFuture>⟧\.(?:{members})\b", text):
+                yield MARKS_MET, f"no contract has of the future of `{name}` a member {members}"
+
+
+def names_called_in(places):
+    """Returns the names of what these sources, and those in these folders, call. (A call is told by its name alone.)"""
+    files = [it for place in places for it in ([place] if place.endswith(".rs") else (f"{place}/{file}" for file in files_of(f"{TOP}/{place}")))]
     text = "".join(read_text(f"{TOP}/{it}") for it in files if it.endswith((".rs", ".rt")))
     return set(re.findall(r"(?<!fn )\b(\w+)(?:::<[^(]*>)?\(", text))
 
 
+def words_known(files):
+    """Returns the words of cases that these sources of a program know."""
+    text = "".join(read_text(it) for it in glob.glob(f"{TOP}/{files}"))
+    return {word for arm in ARM.findall(text) for word in re.findall(r"\w+", arm)}
+
+
+def unshown(adapter, cases):
+    """Returns what none of these lines shows of the adapter with this word."""
+    return [what for what, form in SHOWN.items() if not any(re.match(form.format(adapter), it) for it in cases)]
+
+
 def cased():
-    """Each word that the program replay knows stands in a case."""
-    known = "".join(read_text(it) for it in glob.glob(f"{TOP}/{REPLAY}/src/*.rs"))
-    words = {word for arm in ARM.findall(known) for word in re.findall(r"\w+", arm)}
-    there = {word for it in glob.glob(f"{TOP}/cases/*.txt") for word in re.findall(r"\w+", read_text(it))}
-    yield from lacking("cases", words, there & words, set(), "no case has the word")
+    """Each method of streams is a word of the program replay. Each word of it stands in a case, and names a call or is explained. Of each adapter a case
+    shows all that SHOWN has."""
+    texts = {it: read_text(it) for it in glob.glob(f"{TOP}/{CASES}/*.txt")}
+    there, words = {word for it in texts.values() for word in re.findall(r"\w+", it)}, words_known(f"{REPLAY}/src/*.rs")
+    explained = set(re.findall(r"\w+", " ".join(re.findall(r"`([^`]*)`", read_text(f"{TOP}/{CASES}/README.md"))))) | {it.name for it in calls_of_streams()}
+    yield from lacking(REPLAY, {it.name for it in calls_of_streams() if it.owner}, words, OTHER_WORD, "it knows no word")
+    yield from lacking(CASES, words, there & words, set(), "no case has the word")
+    yield from lacking(f"{CASES}/README.md", words, explained & words, set(), "nothing explains the word")
+    by_hand = [line for file, text in texts.items() if "/original_" not in file for line in text.splitlines()]
+    for adapter in sorted(words_known(f"{REPLAY}/src/layer.rs") - SHOWN_BY_OTHERS):
+        yield from ((CASES, f"no case shows {what} of `{adapter}`") for what in unshown(adapter, by_hand))
+
+
+def tested(streams):
+    """Each adapter, each future that consumes a stream and each source is called in the tests of its kind, at the least to ask for its properties."""
+    methods = {it.title for it in calls_of_streams() if it.owner}
+    kinds = (adapters(streams), methods - adapters(streams), {it.title for it in calls_of_streams()} - methods)
+    for file, kind in zip(TESTS_OF_STREAMS, kinds):
+        names = names_called_in([f"tests/test_streams/src/tests/{file}"])
+        there = {it for it in kind if it.rpartition("::")[2] in names}
+        yield from lacking(f"tests/test_streams/src/tests/{file}", kind, there, NO_TEST & kind, "no test calls")
+
+
+def blocking(streams):
+    """Each future that consumes a stream has a method of the blocking stream."""
+    wanted = {it.name for it in calls_of_streams() if it.owner and it.title not in adapters(streams)}
+    yield from lacking(BLOCKING, wanted, set(re.findall(r"pub fn (\w+)", read_text(f"{TOP}/{BLOCKING}"))), NO_METHOD, "there is no method")
 
 
 def turned():
@@ -133,17 +203,31 @@ def called():
 
 
 def measured():
-    """Each public function that does work is called by a case of the measured program. Those of `laws` are for proofs and tests."""
+    """Each public function that does work is called by a case of the measured program, and each case there is one over the original, and has a row. Those
+    of `laws` are for proofs and tests."""
     names = {it.name for module, of_module in functions().items() if module != "laws" for it in of_module if not it.does_nothing}
     yield from lacking(THROUGHPUT, names, names & names_called_in([f"{THROUGHPUT}/src"]), NO_CASE, "no case calls")
+    cases = words_known(f"{THROUGHPUT}/src/*.rs")
+    yield from lacking(f"{THROUGHPUT}/original", cases, cases & words_known(f"{THROUGHPUT}/original/src/*.rs"), set(), "there is no case")
+    only_made = {it for it in cases if it.startswith("made_")} | {"size_of"}
+    yield from lacking(f"{THROUGHPUT}/measured.txt", cases, cases & {it.case for it in speed.rows()}, only_made, "there is no row of")
 
 
-def rows():
-    """Each source, adapter and future of streams stands in a row of both pages."""
+def counting_as_their_sources():
+    """Returns the adapters whose rank is that of their source."""
+    made_in = [(f"{TOP}/crates/{crate}/src/{file}", made) for crate, made, _, trait, file, *_ in vocabulary.calls() if trait == "Stream"]
+    return {name for file, made in made_in if "ghost ranks = { ranks_of (λ m. m.stream" in read_text(file) for name in made}
+
+
+def rows(streams):
+    """Each source, adapter and future of streams stands in a row of NESTS; in TABLES each source, and each adapter with a rank of its own."""
     for page, (first, end) in PARTS_OF.items():
         part = read_text(f"{TOP}/{page}").partition(first)[2].partition(end)[0]
         cells = " ".join(row.split("|")[1] for row in part.splitlines() if row.startswith("|"))
         names = set(re.findall(r"\w+", " ".join(re.findall(r"`([^`]*)`", cells))))
         every = {it.title: it.name for it in calls_of_streams()}
         there = {title for title, name in every.items() if name in names}
+        if page == TABLES:
+            plain = counting_as_their_sources()
+            every = {it: name for it, name in every.items() if "::" not in it or it in adapters(streams) and name not in plain}
         yield from lacking(page, set(every), there, NO_ROW[page], f"no row below `{first[3:]}` has")

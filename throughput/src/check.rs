@@ -4,64 +4,19 @@ use crate::bytes::noise;
 use crate::case::computed;
 use crate::fault::Fault;
 use crate::polled::with_item;
+use crate::{consuming, merging, streams};
 use futures_lite::Context;
 use std::alloc::AllocGlobal;
 use std::random::RandomSource;
 use std::sync::Wait;
 
-/// Cases of streams, their sizes, and the items that they fold.
-const FOLDS: [(&str, u64, &[u64]); 50] = [
-    ("iter", 4, &[0, 1, 2, 3]),
-    ("map", 4, &[0, 3, 6, 9]),
-    ("filter", 6, &[1, 2, 3, 5]),
-    ("filter_map", 6, &[4, 7, 6, 0]),
-    ("skip", 6, &[3, 4, 5]),
-    ("step_by", 7, &[0, 3, 6]),
-    ("take", 4, &[0, 1, 2, 3]),
-    ("take_while", 4, &[0, 1, 2, 3]),
-    ("map_while", 3, &[5, 6, 7]),
-    ("scan", 4, &[0, 1, 3, 6]),
-    ("enumerate", 4, &[0, 2, 4, 6]),
-    ("chain", 5, &[0, 1, 2, 3, 4]),
-    ("chain_of_eight", 16, &[0, 1, 0, 1, 0, 1, 0, 1, 0, 1, 0, 1, 0, 1, 0, 1]),
-    ("flat_map", 8, &[0, 1, 2, 3, 1, 2, 3, 4]),
-    ("then", 4, &[1, 0, 3, 2]),
-    ("unfold", 4, &[1, 0, 3, 2]),
-    ("skip_while", 6, &[3, 4, 5]),
-    ("fuse", 4, &[0, 1, 2, 3]),
-    ("flatten", 8, &[0, 1, 2, 3, 1, 2, 3, 4]),
-    ("copied", 4, &[0, 1, 2, 3]),
-    ("cloned", 4, &[0, 1, 2, 3]),
-    ("repeat_with", 4, &[3, 6, 9, 12]),
-    ("poll_fn", 4, &[1, 2, 3, 4]),
-    ("once", 4, &[1, 0, 3, 2]),
-    ("once_future", 4, &[1, 0, 3, 2]),
-    ("repeat", 4, &[4, 4, 4, 4]),
-    ("try_unfold", 4, &[1, 0, 3, 2]),
-    ("nest", 10, &[4, 10, 16, 22, 28]),
-    ("nest_of_eight", 8, &[15, 11, 23, 19]),
-    ("joined", 12, &[6, 10, 14, 18, 22]),
-    ("next", 4, &[5, 4, 7, 6]),
+/// Cases that no file of theirs checks, their sizes, and the items that they fold.
+const FOLDS: [(&str, u64, &[u64]); 5] = [
     ("blocking_next", 4, &[5, 4, 7, 6]),
     ("waits_next", 4, &[5, 4, 7, 6]),
-    ("try_next", 4, &[5, 4, 7, 6]),
-    ("fold", 4, &[0, 1, 2, 3]),
-    ("for_each", 4, &[0, 1, 2, 3]),
-    ("try_for_each", 4, &[0, 1, 2, 3]),
-    ("try_fold", 4, &[0, 1, 2, 3]),
-    ("try_collect", 4, &[0, 1, 2, 3]),
-    ("collect", 4, &[0, 1, 2, 3]),
-    ("zip_streams", 4, &[5, 7, 9, 11]),
-    ("or_streams", 4, &[0, 1, 2, 3]),
-    ("cycle", 10, &[2, 3, 4, 5, 6, 7, 8, 9, 2, 3]),
-    ("drain", 4, &[0, 1, 2, 3]),
-    ("with_budget", 4, &[0, 1, 2, 3]),
-    ("stop_after_future", 4, &[0, 1, 2, 3]),
     ("seek", 4, &[1, 2, 3, 4]),
     ("repeat_read", 4, &[20, 21, 22, 23]),
     ("empty_read", 4, &[0, 1, 2, 3]),
-    // (its generator's words were reckoned apart)
-    ("race_streams", 10, &[0, 10, 1, 11, 12, 2, 13, 14, 3, 15]),
 ];
 
 /// Cases, their sizes, and their numbers: of texts all bytes that are read, of writers all that are written, of futures
@@ -161,6 +116,15 @@ pub(crate) fn check<R>(rt: &R, cx: &mut Context<'_>) -> Result<(), Fault>
 where
     R: Wait + RandomSource + AllocGlobal + Copy,
 {
+    for (name, n, items) in &streams::FOLDS {
+        gives(name, computed(rt, cx, name, *n)? == folded(items))?;
+    }
+    for (name, n, items) in &consuming::FOLDS {
+        gives(name, computed(rt, cx, name, *n)? == folded(items))?;
+    }
+    for (name, n, items) in &merging::FOLDS {
+        gives(name, computed(rt, cx, name, *n)? == folded(items))?;
+    }
     for (name, n, items) in &FOLDS {
         gives(name, computed(rt, cx, name, *n)? == folded(items))?;
     }

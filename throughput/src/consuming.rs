@@ -8,6 +8,48 @@ use std::alloc::{AllocError, AllocGlobal, Global};
 use std::random::RandomSource;
 use std::sync::Wait;
 
+/// What the case of this name computes at size `n`, if it is a case of this file.
+pub(crate) fn computed(
+    alloc: Global,
+    cx: &mut Context<'_>,
+    name: &str,
+    n: u64,
+) -> Result<Option<u64>, Fault> {
+    Ok(Some(match name {
+        "next" => next(cx, n, n),
+        "last" => last(cx, n),
+        "nth" => nth(cx, n),
+        "any" => any(cx, n),
+        "position" => position(cx, n),
+        "find_map" => find_map(cx, n),
+        "for_each" => for_each(cx, n),
+        "try_for_each" => try_for_each(cx, n),
+        "try_fold" => try_fold(cx, n),
+        "try_next" => try_next(cx, n, n),
+        "try_collect" => try_collect(alloc, cx, n)?,
+        "partition" => partition(alloc, cx, n)?,
+        "unzip" => unzip(alloc, cx, n)?,
+        "count" => count(cx, n),
+        "fold" => fold(cx, n),
+        "find" => find(cx, n),
+        "all" => all(cx, n),
+        "collect" => collect(alloc, cx, n)?,
+        _ => return Ok(None),
+    }))
+}
+
+/// Cases of this file, their sizes, and the items that they fold.
+pub(crate) const FOLDS: [(&str, u64, &[u64]); 8] = [
+    ("next", 4, &[5, 4, 7, 6]),
+    ("for_each", 4, &[0, 1, 2, 3]),
+    ("try_for_each", 4, &[0, 1, 2, 3]),
+    ("try_fold", 4, &[0, 1, 2, 3]),
+    ("try_next", 4, &[5, 4, 7, 6]),
+    ("try_collect", 4, &[0, 1, 2, 3]),
+    ("fold", 4, &[0, 1, 2, 3]),
+    ("collect", 4, &[0, 1, 2, 3]),
+];
+
 #[inline(never)]
 pub(crate) fn next(cx: &mut Context<'_>, n: u64, polls: u64) -> u64 {
     let mut numbers = stream::iter(0..n).map(|x: u64| x ^ 5);

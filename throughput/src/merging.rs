@@ -1,8 +1,35 @@
 //! Adapters that merge two streams, go round one, pause it, or stop it. Each case gives `n` items.
 
+use crate::fault::Fault;
 use crate::polled::{fold_found, fold_items, fold_pairs};
 use futures_lite::{Context, StreamExt, future, stream};
 use std::alloc::AllocError;
+
+/// What the case of this name computes at size `n`, if it is a case of this file.
+pub(crate) fn computed(cx: &mut Context<'_>, name: &str, n: u64) -> Result<Option<u64>, Fault> {
+    Ok(Some(match name {
+        "zip_streams" => zip(cx, n, n),
+        "or_streams" => or(cx, n, n),
+        "race_streams" => race_with_seed(cx, n, n),
+        "cycle" => cycle(cx, n, n)?,
+        "drain" => drain(cx, n, n),
+        "with_budget" => with_budget(cx, n, n.saturating_mul(2)),
+        "stop_after_future" => stop_after_future(cx, n, n),
+        _ => return Ok(None),
+    }))
+}
+
+/// Cases of this file, their sizes, and the items that they fold.
+pub(crate) const FOLDS: [(&str, u64, &[u64]); 7] = [
+    ("zip_streams", 4, &[5, 7, 9, 11]),
+    ("or_streams", 4, &[0, 1, 2, 3]),
+    // (its generator's words were reckoned apart)
+    ("race_streams", 10, &[0, 10, 1, 11, 12, 2, 13, 14, 3, 15]),
+    ("cycle", 10, &[2, 3, 4, 5, 6, 7, 8, 9, 2, 3]),
+    ("drain", 4, &[0, 1, 2, 3]),
+    ("with_budget", 4, &[0, 1, 2, 3]),
+    ("stop_after_future", 4, &[0, 1, 2, 3]),
+];
 
 /// How many items or bytes come between two pauses.
 pub(crate) const BUDGET: usize = 128;

@@ -1,9 +1,89 @@
 //! Sources and adapters. Each case goes over the numbers below `n`, or as many answers, unless it says otherwise.
 
+use crate::fault::Fault;
 use crate::polled::{fold_found, fold_items, fold_numbered, with_item};
 use futures_lite::stream::script;
 use futures_lite::{Context, Poll, Stream, StreamExt, future, stream};
 use std::alloc::{AllocError, Global};
+
+/// What the case of this name computes at size `n`, if it is a case of this file.
+pub(crate) fn computed(
+    alloc: Global,
+    cx: &mut Context<'_>,
+    name: &str,
+    n: u64,
+) -> Result<Option<u64>, Fault> {
+    Ok(Some(match name {
+        "iter" => iter(cx, n, n),
+        "map" => map(cx, n, n),
+        "filter" => filter(cx, n, n),
+        "filter_map" => filter_map(cx, n, n),
+        "skip" => skip(cx, n, n),
+        "step_by" => step_by(cx, n, n),
+        "take" => take(cx, n, n),
+        "take_while" => take_while(cx, n, n),
+        "map_while" => map_while(cx, n, n),
+        "scan" => scan(cx, n, n),
+        "enumerate" => enumerate(cx, n, n),
+        "chain" => chain(cx, n, n),
+        "chain_of_eight" => chain_of_eight(cx, n, n),
+        "flat_map" => flat_map(cx, n, n),
+        "then" => then(cx, n, n),
+        "unfold" => unfold(cx, n, n),
+        "nest" => nest(cx, n, n),
+        "nest_of_eight" => nest_of_eight(cx, n, n),
+        "joined" => joined(cx, n, n),
+        "scripts" => scripts(alloc, cx, n)?,
+        "skip_while" => skip_while(cx, n, n),
+        "inspect" => inspect(cx, n, n),
+        "fuse" => fuse(cx, n, n),
+        "flatten" => flatten(cx, n, n),
+        "made_numbers" => made_numbers(alloc, n)?,
+        "copied" => copied(alloc, cx, n, n)?,
+        "cloned" => cloned(alloc, cx, n, n)?,
+        "repeat_with" => repeat_with(cx, n),
+        "poll_fn" => poll_fn(cx, n, n),
+        "once" => once(cx, n),
+        "once_future" => once_future(cx, n),
+        "repeat" => repeat(cx, n, n),
+        "try_unfold" => try_unfold(cx, n, n),
+        _ => return Ok(None),
+    }))
+}
+
+/// Cases of this file, their sizes, and the items that they fold.
+pub(crate) const FOLDS: [(&str, u64, &[u64]); 30] = [
+    ("iter", 4, &[0, 1, 2, 3]),
+    ("map", 4, &[0, 3, 6, 9]),
+    ("filter", 6, &[1, 2, 3, 5]),
+    ("filter_map", 6, &[4, 7, 6, 0]),
+    ("skip", 6, &[3, 4, 5]),
+    ("step_by", 7, &[0, 3, 6]),
+    ("take", 4, &[0, 1, 2, 3]),
+    ("take_while", 4, &[0, 1, 2, 3]),
+    ("map_while", 3, &[5, 6, 7]),
+    ("scan", 4, &[0, 1, 3, 6]),
+    ("enumerate", 4, &[0, 2, 4, 6]),
+    ("chain", 5, &[0, 1, 2, 3, 4]),
+    ("chain_of_eight", 16, &[0, 1, 0, 1, 0, 1, 0, 1, 0, 1, 0, 1, 0, 1, 0, 1]),
+    ("flat_map", 8, &[0, 1, 2, 3, 1, 2, 3, 4]),
+    ("then", 4, &[1, 0, 3, 2]),
+    ("unfold", 4, &[1, 0, 3, 2]),
+    ("nest", 10, &[4, 10, 16, 22, 28]),
+    ("nest_of_eight", 8, &[15, 11, 23, 19]),
+    ("joined", 12, &[6, 10, 14, 18, 22]),
+    ("skip_while", 6, &[3, 4, 5]),
+    ("fuse", 4, &[0, 1, 2, 3]),
+    ("flatten", 8, &[0, 1, 2, 3, 1, 2, 3, 4]),
+    ("copied", 4, &[0, 1, 2, 3]),
+    ("cloned", 4, &[0, 1, 2, 3]),
+    ("repeat_with", 4, &[3, 6, 9, 12]),
+    ("poll_fn", 4, &[1, 2, 3, 4]),
+    ("once", 4, &[1, 0, 3, 2]),
+    ("once_future", 4, &[1, 0, 3, 2]),
+    ("repeat", 4, &[4, 4, 4, 4]),
+    ("try_unfold", 4, &[1, 0, 3, 2]),
+];
 
 #[inline(never)]
 pub(crate) fn nest(cx: &mut Context<'_>, n: u64, polls: u64) -> u64 {

@@ -1,16 +1,21 @@
 //! Futures that consume a stream, and collections: two that are alike where their streams are, and a calm one, of each type.
+//! Collections ask for memory: a run in which the collection took in each item is ample, if each run of the stream is.
 ghost use Rattle.std.specs.Fn.{CalledAt};
-ghost use Rattle.std.specs.Prelude.{◌≡◌, [], Some, None};
+ghost use Rattle.std.specs.Prelude.{◌≡◌, [], Some, None, IsOk};
 ghost use Rattle.lite_base.specs.Alike.{SameItem};
 ghost use Rattle.lite_base.specs.Calling.{Agree, AgreeFrom, AgreeKeeping, Calls};
+ghost use Rattle.lite_base.specs.Steady.{TakesNone};
 ghost use Rattle.lite_consume.specs.Calls.{CallsBoth};
 ghost use Rattle.lite_consume.specs.Fold.{folds};
 ghost use Rattle.lite_consume.specs.Kin.{AgreeBeside, AgreeDeciding, AgreeOrKin};
 ghost use Rattle.lite_consume.specs.TryFold.{try_fold_steps};
 ghost use Rattle.lite_consume.specs.TryForEach.{try_each_fold};
 ghost use Rattle.lite_gather.specs.Agreeing.{Unmixed};
+ghost use Rattle.lite_gather.specs.TryCollect.{HasMemory};
+ghost use Rattle.properties_met.specs.Registering.{TellsAll};
+ghost use Rattle.properties_met.specs.Unrefused.{AmpleWhere, GivesOnly};
 
-use lite_base::{CalmFuture, CalmStream, Counted, OkCounted, SteadyFuture, SteadyStream};
+use lite_base::{CalmFuture, CalmStream, Counted, Future, OkCounted, SteadyFuture, SteadyStream};
 use lite_consume::{
     All, Any, Consume, Count, Find, FindMap, Fold, Folder, ForEach, Last, Next, Nth, Position,
     SteadyFolder, TryFold, TryForEach, TryNext,
@@ -157,4 +162,85 @@ where
     ensures unzip { ⟦<UnzipFuture<U, D, E> as SteadyFuture>⟧.alike
         (record { stream = v.now; folder = record { res = Some (d.now, e.now) } })
         (record { stream = w.now; folder = record { res = Some (d.now, e.now) } }) }
+{}
+
+/// What consumes a stream, and a stream with a budget, which registers what the stream does that wakes.
+pub fn consuming<S, F>(consume: &Consume<S, F>)
+where
+    S: SteadyStream,
+    F: Folder<S> + SteadyFolder<S>,
+    ensures { TellsAll (S.registers consume.now.stream) (⟦<Consume<S, F> as Future>⟧.registers consume.now)
+        × (S.needs_none → F.needs_none → ⟦<Consume<S, F> as SteadyFuture>⟧.needs_none) }
+{}
+
+/// What takes in each item.
+pub fn all_items<S, V, F, I>()
+where
+    S: SteadyStream + Counted<Item: Drop>,
+    V: Drop,
+    F: FnMut(V, S::Item) -> V,
+    I: FnMut(S::Item),
+    ensures count { S.needs_none → ⟦<Consume<S, Count> as SteadyFuture>⟧.needs_none }
+    ensures fold { S.needs_none → ⟦<Consume<S, Fold<F, V>> as SteadyFuture>⟧.needs_none }
+    ensures for_each { S.needs_none → ⟦<Consume<S, ForEach<I>> as SteadyFuture>⟧.needs_none }
+    ensures last { S.needs_none → ⟦<Consume<S, Last<S::Item>> as SteadyFuture>⟧.needs_none }
+{}
+
+/// What stops at an item.
+pub fn one_item<S, U, P, O, Q>()
+where
+    S: SteadyStream + Counted<Item: Drop>,
+    P: FnMut(S::Item) -> bool,
+    O: FnMut(S::Item) -> Option<U>,
+    Q: FnMut(&S::Item) -> bool,
+    ensures next { S.needs_none → ⟦<Consume<S, Next> as SteadyFuture>⟧.needs_none }
+    ensures nth { S.needs_none → ⟦<Consume<S, Nth> as SteadyFuture>⟧.needs_none }
+    ensures all { S.needs_none → ⟦<Consume<S, All<P>> as SteadyFuture>⟧.needs_none }
+    ensures any { S.needs_none → ⟦<Consume<S, Any<P>> as SteadyFuture>⟧.needs_none }
+    ensures position { S.needs_none → ⟦<Consume<S, Position<P>> as SteadyFuture>⟧.needs_none }
+    ensures find { S.needs_none → ⟦<Consume<S, Find<Q>> as SteadyFuture>⟧.needs_none }
+    ensures find_map { S.needs_none → ⟦<Consume<S, FindMap<O>> as SteadyFuture>⟧.needs_none }
+{}
+
+/// What stops at an error.
+pub fn up_to_an_error<S, U, R, T, E, V, F, G>()
+where
+    S: SteadyStream + OkCounted,
+    U: SteadyStream<Item = Result<T, E>>,
+    R: SteadyStream + Counted,
+    V: Drop,
+    F: FnMut(V, S::Ok) -> Result<V, S::Err>,
+    G: FnMut(R::Item) -> Result<(), E>,
+    ensures try_next { U.needs_none → ⟦<Consume<U, TryNext> as SteadyFuture>⟧.needs_none }
+    ensures try_fold { S.needs_none → ⟦<Consume<S, TryFold<F, V>> as SteadyFuture>⟧.needs_none }
+    ensures try_for_each { R.needs_none → ⟦<Consume<R, TryForEach<G>> as SteadyFuture>⟧.needs_none }
+{}
+
+/// Collections of items.
+pub fn collected<S, C, P>(collect: &CollectFuture<S, C>, partition: &PartitionFuture<S, P, C>)
+where
+    S: SteadyStream + Counted,
+    C: Gather<S::Item>,
+    P: FnMut(&S::Item) -> bool,
+    ensures collect { TakesNone S.run S.ample → AmpleWhere (GivesOnly IsOk)
+        ⟦<CollectFuture<S, C> as Future>⟧.run ⟦<CollectFuture<S, C> as SteadyFuture>⟧.ample }
+    ensures partition { TakesNone S.run S.ample → AmpleWhere (GivesOnly IsOk)
+        ⟦<PartitionFuture<S, P, C> as Future>⟧.run ⟦<PartitionFuture<S, P, C> as SteadyFuture>⟧.ample }
+{}
+
+/// Collections of what items hold, and of their parts.
+pub fn parts_collected<S, U, A, B, C, D, E>(
+    try_collect: &TryCollectFuture<S, C>,
+    unzip: &UnzipFuture<U, D, E>,
+)
+where
+    S: SteadyStream + OkCounted,
+    U: SteadyStream + Counted<Item = (A, B)>,
+    C: Gather<S::Ok>,
+    D: Gather<A>,
+    E: Gather<B>,
+    ensures try_collect { TakesNone S.run S.ample → AmpleWhere (GivesOnly HasMemory)
+        ⟦<TryCollectFuture<S, C> as Future>⟧.run ⟦<TryCollectFuture<S, C> as SteadyFuture>⟧.ample }
+    ensures unzip { TakesNone U.run U.ample → AmpleWhere (GivesOnly IsOk)
+        ⟦<UnzipFuture<U, D, E> as Future>⟧.run ⟦<UnzipFuture<U, D, E> as SteadyFuture>⟧.ample }
 {}

@@ -1,19 +1,13 @@
 //! For each type with a property, two values that the property relates, and a calm one: no property holds of nothing.
+//!
+//! What a pending has registered, and whether a poll asks for memory, follow from the parts of a type: one of which nothing
+//! is registered, or of which no run is ample, fails here. If no poll asks for memory, each run is ample: the trait has that law.
 #![tactic(auto)]
 
 pub mod conditions;
 pub mod consuming;
 pub mod future_properties;
 pub mod merges;
-pub mod needs;
-pub mod needs_collections;
-pub mod needs_folders;
-pub mod needs_futures;
-pub mod needs_merges;
-pub mod needs_readers;
-pub mod needs_reading;
-pub mod needs_sources;
-pub mod needs_writers;
 pub mod readers;
 pub mod reading;
 pub mod sources;

@@ -3,8 +3,9 @@ ghost use Rattle.std.specs.Fn.{CalledAt};
 ghost use Rattle.std.specs.Prelude.{◌≡◌, Some, false};
 ghost use Rattle.lite_base.specs.Alike.{SameItem};
 ghost use Rattle.lite_base.specs.Calling.{AgreeFrom, AgreeKeeping, AgreeOver, Calls, CallsWith};
+ghost use Rattle.properties_met.specs.Registering.{TellsAll};
 
-use lite_base::{CalmStream, Counted, SteadyStream};
+use lite_base::{CalmStream, Counted, SteadyStream, Stream};
 use lite_reshape::{Filter, FilterMap, Skip, SkipWhile, StepBy};
 use lite_stream::{Copied, Enumerate, Fuse, Inspect, Map, MapWhile, Scan, Take, TakeWhile};
 
@@ -97,4 +98,79 @@ pub fn copies_have_marks<'a, T: Copy + 'a, S: SteadyStream<Item = &'a T> + CalmS
     requires is_calm { S.is_calm x.now }
     ensures alike { ⟦<Copied<S> as SteadyStream>⟧.alike (record { stream = x.now }) (record { stream = y.now }) }
     ensures is_calm { ⟦<Copied<S> as CalmStream>⟧.is_calm (record { stream = x.now }) }
+{}
+
+/// Adapters that answer once for each answer of their source.
+pub fn replacing_adapters<'a, T, S, R, U, I, M>(
+    copied: &Copied<R>,
+    enumerate: &Enumerate<S>,
+    inspect: &Inspect<S, I>,
+    map: &Map<S, M>,
+)
+where
+    T: Copy + 'a,
+    R: SteadyStream<Item = &'a T>,
+    S: SteadyStream,
+    I: FnMut(&S::Item),
+    M: FnMut(S::Item) -> U,
+    ensures copied { TellsAll (R.registers copied.now.stream) (⟦<Copied<R> as Stream>⟧.registers copied.now)
+        × (R.needs_none → ⟦<Copied<R> as SteadyStream>⟧.needs_none) }
+    ensures enumerate { TellsAll (S.registers enumerate.now.stream) (⟦<Enumerate<S> as Stream>⟧.registers enumerate.now)
+        × (S.needs_none → ⟦<Enumerate<S> as SteadyStream>⟧.needs_none) }
+    ensures inspect { TellsAll (S.registers inspect.now.stream) (⟦<Inspect<S, I> as Stream>⟧.registers inspect.now)
+        × (S.needs_none → ⟦<Inspect<S, I> as SteadyStream>⟧.needs_none) }
+    ensures map { TellsAll (S.registers map.now.stream) (⟦<Map<S, M> as Stream>⟧.registers map.now)
+        × (S.needs_none → ⟦<Map<S, M> as SteadyStream>⟧.needs_none) }
+{}
+
+/// Adapters that cut a stream off.
+pub fn cutting_adapters<S, U, W, St, C, P>(
+    fuse: &Fuse<S>,
+    map_while: &MapWhile<S, W>,
+    scan: &Scan<S, St, C>,
+    take: &Take<S>,
+    take_while: &TakeWhile<S, P>,
+)
+where
+    S: SteadyStream<Item: Drop>,
+    W: FnMut(S::Item) -> Option<U>,
+    C: FnMut(&mut St, S::Item) -> Option<U>,
+    P: FnMut(&S::Item) -> bool,
+    ensures fuse { TellsAll (S.registers fuse.now.stream) (⟦<Fuse<S> as Stream>⟧.registers fuse.now)
+        × (S.needs_none → ⟦<Fuse<S> as SteadyStream>⟧.needs_none) }
+    ensures map_while { TellsAll (S.registers map_while.now.stream) (⟦<MapWhile<S, W> as Stream>⟧.registers map_while.now)
+        × (S.needs_none → ⟦<MapWhile<S, W> as SteadyStream>⟧.needs_none) }
+    ensures scan { TellsAll (S.registers scan.now.stream) (⟦<Scan<S, St, C> as Stream>⟧.registers scan.now)
+        × (S.needs_none → ⟦<Scan<S, St, C> as SteadyStream>⟧.needs_none) }
+    ensures take { TellsAll (S.registers take.now.stream) (⟦<Take<S> as Stream>⟧.registers take.now)
+        × (S.needs_none → ⟦<Take<S> as SteadyStream>⟧.needs_none) }
+    ensures take_while { TellsAll (S.registers take_while.now.stream)
+        (⟦<TakeWhile<S, P> as Stream>⟧.registers take_while.now)
+        × (S.needs_none → ⟦<TakeWhile<S, P> as SteadyStream>⟧.needs_none) }
+{}
+
+/// Adapters that leave items out.
+pub fn skipping_adapters<S, U, P, F>(
+    filter: &Filter<S, P>,
+    filter_map: &FilterMap<S, F>,
+    skip: &Skip<S>,
+    skip_while: &SkipWhile<S, P>,
+    step_by: &StepBy<S>,
+)
+where
+    S: SteadyStream + Counted<Item: Drop>,
+    P: FnMut(&S::Item) -> bool + Drop,
+    F: FnMut(S::Item) -> Option<U>,
+    ensures filter { TellsAll (S.registers filter.now.stream) (⟦<Filter<S, P> as Stream>⟧.registers filter.now)
+        × (S.needs_none → ⟦<Filter<S, P> as SteadyStream>⟧.needs_none) }
+    ensures filter_map { TellsAll (S.registers filter_map.now.stream)
+        (⟦<FilterMap<S, F> as Stream>⟧.registers filter_map.now)
+        × (S.needs_none → ⟦<FilterMap<S, F> as SteadyStream>⟧.needs_none) }
+    ensures skip { TellsAll (S.registers skip.now.stream) (⟦<Skip<S> as Stream>⟧.registers skip.now)
+        × (S.needs_none → ⟦<Skip<S> as SteadyStream>⟧.needs_none) }
+    ensures skip_while { TellsAll (S.registers skip_while.now.stream)
+        (⟦<SkipWhile<S, P> as Stream>⟧.registers skip_while.now)
+        × (S.needs_none → ⟦<SkipWhile<S, P> as SteadyStream>⟧.needs_none) }
+    ensures step_by { TellsAll (S.registers step_by.now.stream) (⟦<StepBy<S> as Stream>⟧.registers step_by.now)
+        × (S.needs_none → ⟦<StepBy<S> as SteadyStream>⟧.needs_none) }
 {}

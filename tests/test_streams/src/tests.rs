@@ -1,4 +1,5 @@
 mod consuming;
 mod futures;
+mod marks;
 mod merging;
 mod streams;

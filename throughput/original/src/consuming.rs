@@ -6,6 +6,33 @@ use std::future::Future;
 use std::pin::pin;
 use std::task::{Context, Poll};
 
+/// What the case of this name computes at size `n`, if it is a case of this file.
+pub fn computed(cx: &mut Context<'_>, name: &str, n: u64) -> Option<u64> {
+    Some(match name {
+        "last" => last(cx, n),
+        "nth" => nth(cx, n),
+        "any" => any(cx, n),
+        "position" => position(cx, n),
+        "find_map" => find_map(cx, n),
+        "for_each" => for_each(cx, n),
+        "try_for_each" => try_for_each(cx, n),
+        "try_fold" => try_fold(cx, n),
+        "try_next" => try_next(cx, n, n),
+        "try_collect" => try_collect(cx, n),
+        "partition" => partition(cx, n),
+        "unzip" => unzip(cx, n),
+        "next" => next(cx, n, n),
+        "count" => count(cx, n),
+        "fold" => fold(cx, n),
+        "find" => find(cx, n),
+        "all" => all(cx, n),
+        "collect" => collect(cx, n),
+        "blocking_next" => blocking_next(n, n),
+        "waits_next" => waits_next(n, n),
+        _ => return None,
+    })
+}
+
 #[inline(never)]
 pub fn next(cx: &mut Context<'_>, n: u64, polls: u64) -> u64 {
     let mut numbers = stream::iter(0..n).map(|x: u64| x ^ 5);

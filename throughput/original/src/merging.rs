@@ -5,6 +5,20 @@ use futures_lite::{future, stream, StreamExt};
 use std::pin::pin;
 use std::task::{Context, Poll};
 
+/// What the case of this name computes at size `n`, if it is a case of this file.
+pub fn computed(cx: &mut Context<'_>, name: &str, n: u64) -> Option<u64> {
+    Some(match name {
+        "zip_streams" => zip(cx, n, n),
+        "or_streams" => or(cx, n, n),
+        "race_streams" => race_with_seed(cx, n, n),
+        "cycle" => cycle(cx, n, n),
+        "drain" => drain(cx, n, n),
+        "with_budget" => with_budget(cx, n, n.saturating_mul(2)),
+        "stop_after_future" => stop_after_future(cx, n, n),
+        _ => return None,
+    })
+}
+
 /// How many items or bytes come between two pauses.
 pub const BUDGET: usize = 128;
 

@@ -5,6 +5,46 @@ use futures_lite::{future, stream, Stream, StreamExt};
 use std::pin::pin;
 use std::task::{Context, Poll};
 
+/// What the case of this name computes at size `n`, if it is a case of this file.
+pub fn computed(cx: &mut Context<'_>, name: &str, n: u64) -> Option<u64> {
+    Some(match name {
+        "iter" => iter(cx, n, n),
+        "map" => map(cx, n, n),
+        "filter" => filter(cx, n, n),
+        "filter_map" => filter_map(cx, n, n),
+        "skip" => skip(cx, n, n),
+        "step_by" => step_by(cx, n, n),
+        "take" => take(cx, n, n),
+        "take_while" => take_while(cx, n, n),
+        "map_while" => map_while(cx, n, n),
+        "scan" => scan(cx, n, n),
+        "enumerate" => enumerate(cx, n, n),
+        "chain" => chain(cx, n, n),
+        "chain_of_eight" => chain_of_eight(cx, n, n),
+        "flat_map" => flat_map(cx, n, n),
+        "then" => then(cx, n, n),
+        "unfold" => unfold(cx, n, n),
+        "nest" => nest(cx, n, n),
+        "nest_of_eight" => nest_of_eight(cx, n, n),
+        "joined" => joined(cx, n, n),
+        "scripts" => scripts(cx, n),
+        "skip_while" => skip_while(cx, n, n),
+        "inspect" => inspect(cx, n, n),
+        "fuse" => fuse(cx, n, n),
+        "flatten" => flatten(cx, n, n),
+        "made_numbers" => made_numbers(n),
+        "copied" => copied(cx, n, n),
+        "cloned" => cloned(cx, n, n),
+        "repeat_with" => repeat_with(cx, n),
+        "poll_fn" => poll_fn(cx, n, n),
+        "once" => once(cx, n),
+        "once_future" => once_future(cx, n),
+        "repeat" => repeat(cx, n, n),
+        "try_unfold" => try_unfold(cx, n, n),
+        _ => return None,
+    })
+}
+
 #[inline(never)]
 pub fn nest(cx: &mut Context<'_>, n: u64, polls: u64) -> u64 {
     let nest = stream::iter(0..n)

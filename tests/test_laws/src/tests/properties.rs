@@ -1,6 +1,5 @@
 //! Tests that ask each type for each property by the bound alone, and of the nests that agree by those properties.
 mod agreeing;
-mod bounds;
 mod iterators;
 mod lines;
 mod pieces;

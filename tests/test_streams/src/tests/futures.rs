@@ -1,5 +1,6 @@
 //! Tests of futures, of `block_on` and of wakes, where a case of `cases/futures.txt` cannot say it.
 mod bell;
+mod bounds;
 mod counting;
 mod future;
 mod pendings;

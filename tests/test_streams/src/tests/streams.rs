@@ -1,8 +1,8 @@
 //! Tests of sources and adapters, where a case of `cases/sources.txt` or `cases/adapters.txt` cannot say it.
 mod adapters;
 mod cycles;
-mod drops;
 mod examples;
+mod guards;
 mod scarce;
 mod sources;
 mod text;

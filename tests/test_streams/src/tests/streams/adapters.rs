@@ -1,4 +1,6 @@
+use super::guards::{END, Guard, dropped, guarded, guards, with_drops};
 use super::text::Text;
+use crate::tests::marks::{both, calm, counted, ok_counted, ranked};
 use futures_lite::stream::{self, Script};
 use futures_lite::{Context, Poll, StreamExt, future};
 use std::alloc::AllocError;
@@ -170,5 +172,164 @@ fn a_budget_ranks_any_stream(rt: HostRuntime) -> Result<(), Fail> {
         future::block_on(&rt, numbers.with_budget(2).last())?,
         Some(5)
     );
+    Ok(())
+}
+
+#[test]
+fn then_drops_each_future_with_its_value(rt: HostRuntime) -> Result<(), Fail> {
+    let drops = Cell::new(0);
+    let mut values = stream::iter_array([0u8, 1, 2]).then(|x: u8| guarded(&drops, x % 2, x));
+    let got = with_drops(&rt, &drops, &mut values, 5)?;
+    let expected = [
+        (item(0), 1),
+        (Poll::Pending, 1),
+        (item(1), 2),
+        (item(2), 3),
+        (END, 3),
+    ];
+    assert_eq!(rt; got.as_slice(), expected.as_slice());
+    Ok(())
+}
+
+#[test]
+fn skip_while_drops_its_predicate_with_the_first_item_that_it_keeps(
+    rt: HostRuntime,
+) -> Result<(), Fail> {
+    let drops = Cell::new(0);
+    let guard = Guard { drops: &drops };
+    let list = vec![in rt.alloc(); item(1u8), Poll::Pending, item(5), item(2)]?;
+    let mut rest = stream::script(list).skip_while(move |x: &u8| {
+        let _held = &guard;
+        *x < 3
+    });
+    let got = with_drops(&rt, &drops, &mut rest, 4)?;
+    let expected = [(Poll::Pending, 0), (item(5), 1), (item(2), 1), (END, 1)];
+    assert_eq!(rt; got.as_slice(), expected.as_slice());
+    Ok(())
+}
+
+#[test]
+fn stop_after_future_drops_its_future_at_either_end(rt: HostRuntime) -> Result<(), Fail> {
+    let drops = Cell::new(0);
+    let future = guarded(&drops, 1, 'x');
+    let mut stopped = stream::stop_after_future(stream::iter_array([1u8, 2]), future);
+    let got = with_drops(&rt, &drops, &mut stopped, 3)?;
+    let expected = [(item(1), 0), (END, 1), (END, 1)];
+    assert_eq!(rt; got.as_slice(), expected.as_slice());
+    let future = guarded(&drops, 9, 'x');
+    let mut ended = stream::stop_after_future(stream::iter_array([1u8]), future);
+    let got = with_drops(&rt, &drops, &mut ended, 2)?;
+    assert_eq!(rt; got.as_slice(), [(item(1), 1), (END, 2)].as_slice());
+    Ok(())
+}
+
+#[test]
+fn zip_drops_its_item_at_the_end_of_the_second(rt: HostRuntime) -> Result<(), Fail> {
+    let drops = Cell::new(0);
+    let first = stream::iter(guards(rt.alloc(), &drops, 2)?);
+    let second = stream::script(vec![in rt.alloc(); Poll::Pending, END]?);
+    let mut pairs = first.zip(second).map(|(_guard, x): (Guard<'_>, u8)| x);
+    let got = with_drops(&rt, &drops, &mut pairs, 2)?;
+    assert_eq!(rt; got.as_slice(), [(Poll::Pending, 0), (END, 1)].as_slice());
+    Ok(())
+}
+
+#[test]
+fn flatten_drops_an_inner_stream_at_its_end(rt: HostRuntime) -> Result<(), Fail> {
+    let drops = Cell::new(0);
+    let guard = Guard { drops: &drops };
+    let inner = stream::once(7u8).inspect(move |_x: &u8| {
+        let _held = &guard;
+    });
+    let mut items = stream::script(vec![in rt.alloc(); item(inner), Poll::Pending]?).flatten();
+    let got = with_drops(&rt, &drops, &mut items, 3)?;
+    let expected = [(item(7), 0), (Poll::Pending, 1), (END, 1)];
+    assert_eq!(rt; got.as_slice(), expected.as_slice());
+    Ok(())
+}
+
+#[test]
+fn items_that_are_left_out_are_dropped(rt: HostRuntime) -> Result<(), Fail> {
+    let drops = Cell::new(0);
+    let two = || guards(rt.alloc(), &drops, 2);
+    let counts = [
+        dropped(
+            &rt,
+            &drops,
+            stream::iter(two()?).filter(|_x: &Guard<'_>| false),
+        )?,
+        dropped(
+            &rt,
+            &drops,
+            stream::iter(two()?).skip_while(|_x: &Guard<'_>| true),
+        )?,
+        dropped(
+            &rt,
+            &drops,
+            stream::iter(two()?).take_while(|_x: &Guard<'_>| false),
+        )?,
+        dropped(&rt, &drops, stream::iter(two()?).skip(2))?,
+        dropped(&rt, &drops, stream::iter(two()?).step_by(2))?,
+    ];
+    assert_eq!(rt; counts, [2, 2, 2, 2, 1]);
+    Ok(())
+}
+
+#[test]
+fn adapters_are_steady_and_calm(_rt: HostRuntime) -> Result<(), Fail> {
+    let one = 1u8;
+    ranked(&stream::once(&one).copied());
+    ranked(&stream::once(1u8).enumerate());
+    ranked(&stream::once(1u8).fuse());
+    ranked(&stream::once(1u8).inspect(|_x: &u8| ()));
+    ranked(&stream::once(1u8).map(|x: u8| x == 1));
+    ranked(&stream::once(1u8).map_while(|x: u8| Some(x)));
+    ranked(&stream::once(1u8).scan('a', |_c: &mut char, x: u8| Some(x)));
+    ranked(&stream::once(1u8).take(1));
+    ranked(&stream::once(1u8).take_while(|x: &u8| *x == 1));
+    ranked(&stream::once(1u8).filter(|x: &u8| *x == 1));
+    ranked(&stream::once(1u8).filter_map(|x: u8| Some(x)));
+    ranked(&stream::once(1u8).skip(1));
+    ranked(&stream::once(1u8).skip_while(|x: &u8| *x == 1));
+    ranked(&stream::once(1u8).step_by(2));
+    Ok(())
+}
+
+#[test]
+fn adapters_of_several_streams_have_their_marks(_rt: HostRuntime) -> Result<(), Fail> {
+    let one = 1u8;
+    ranked(&stream::once(1u8).chain(stream::empty()));
+    both(&stream::once(&one).cloned());
+    ranked(&stream::once(1u8).flat_map(|x: u8| stream::once(x)));
+    ranked(&stream::once(stream::once(1u8)).flatten());
+    ranked(&stream::once(1u8).then(|x: u8| future::ready(x)));
+    let pairs = stream::once(1u8).zip(stream::once('a'));
+    both(&pairs);
+    counted(&pairs);
+    let good: Result<u8, char> = Ok(1);
+    let or = stream::once(good).or(stream::once(Err('a')));
+    calm(&or);
+    ok_counted(&or);
+    let race = stream::race_with_seed(stream::once(good), stream::once(Err('a')), 7);
+    calm(&race);
+    ok_counted(&race);
+    Ok(())
+}
+
+#[test]
+fn adapters_that_go_round_or_stop_have_their_marks(rt: HostRuntime) -> Result<(), Fail> {
+    let Ok(round) = stream::once(1u8).cycle() else {
+        assert!(rt; false);
+        return Ok(());
+    };
+    calm(&round);
+    let good: Result<u8, char> = Ok(1);
+    let mut once = stream::once(good);
+    let drained = once.drain();
+    calm(&drained);
+    ok_counted(&drained);
+    let stopped = stream::stop_after_future(stream::once(good), future::yield_now());
+    calm(&stopped);
+    ok_counted(&stopped);
     Ok(())
 }

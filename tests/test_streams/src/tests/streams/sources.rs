@@ -1,4 +1,6 @@
+use super::guards::{END, guarded, with_drops};
 use super::text::Text;
+use crate::tests::marks::{both, counted, ranked, steady};
 use futures_lite::{Context, Poll, StreamExt, future, stream};
 use std::alloc::AllocError;
 use std::cell::Cell;
@@ -94,5 +96,76 @@ fn a_source_shows_what_it_holds(rt: HostRuntime) -> Result<(), Fail> {
     });
     let shown = format!(in rt.alloc(); "{tried:?}")?;
     assert_eq!(rt; shown.as_str(), "TryUnfold { state: Some(1), fut: None }");
+    Ok(())
+}
+
+#[test]
+fn once_future_drops_its_future_with_its_value(rt: HostRuntime) -> Result<(), Fail> {
+    let drops = Cell::new(0);
+    let mut once = stream::once_future(guarded(&drops, 1, 7u8));
+    let got = with_drops(&rt, &drops, &mut once, 3)?;
+    let expected = [(Poll::Pending, 0), (item(7), 1), (END, 1)];
+    assert_eq!(rt; got.as_slice(), expected.as_slice());
+    Ok(())
+}
+
+#[test]
+fn unfold_drops_each_future_with_its_value(rt: HostRuntime) -> Result<(), Fail> {
+    let drops = Cell::new(0);
+    let mut numbers = stream::unfold(0u8, |n: u8| {
+        guarded(&drops, n % 2, if n < 2 { Some((n, n + 1)) } else { None })
+    });
+    let got = with_drops(&rt, &drops, &mut numbers, 5)?;
+    let expected = [
+        (item(0), 1),
+        (Poll::Pending, 1),
+        (item(1), 2),
+        (END, 3),
+        (END, 3),
+    ];
+    assert_eq!(rt; got.as_slice(), expected.as_slice());
+    Ok(())
+}
+
+#[test]
+fn try_unfold_drops_each_future_with_its_value(rt: HostRuntime) -> Result<(), Fail> {
+    let drops = Cell::new(0);
+    let mut numbers = stream::try_unfold(0u8, |n: u8| {
+        guarded(
+            &drops,
+            n % 2,
+            if n == 0 { Ok(Some((n, 1))) } else { Err(9u8) },
+        )
+    });
+    let got = with_drops(&rt, &drops, &mut numbers, 4)?;
+    let expected = [
+        (item(Ok(0)), 1),
+        (Poll::Pending, 1),
+        (item(Err(9)), 2),
+        (Poll::Ready(None), 2),
+    ];
+    assert_eq!(rt; got.as_slice(), expected.as_slice());
+    Ok(())
+}
+
+#[test]
+fn sources_are_steady_and_calm(rt: HostRuntime) -> Result<(), Fail> {
+    let answer = |_cx: &mut Context<'_>| Poll::Ready(Some(1u8));
+    steady(&stream::pending::<u8>());
+    counted(&stream::pending::<u8>());
+    ranked(&stream::empty::<u8>());
+    ranked(&stream::iter(vec![in rt.alloc(); 1u8, 2]?));
+    ranked(&stream::once(1u8));
+    ranked(&stream::once_future(future::ready(1u8)));
+    both(&stream::poll_fn(answer));
+    both(&stream::repeat(1u8));
+    both(&stream::repeat_with(|| 1u8));
+    ranked(&stream::script(vec![in rt.alloc(); Poll::Ready(Some(1u8))]?));
+    both(&stream::unfold(1u8, |x: u8| future::ready(Some(('a', x)))));
+    let next = |x: u8| {
+        let answer: Result<Option<(char, u8)>, u16> = Ok(Some(('a', x)));
+        future::ready(answer)
+    };
+    both(&stream::try_unfold(1u8, next));
     Ok(())
 }

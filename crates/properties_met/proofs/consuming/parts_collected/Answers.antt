@@ -1,7 +1,7 @@
 use Rattle.std.specs.Prelude.{⊤}
 use Rattle.lite_consume.specs.Laws.Agreeing.{consumed_ample, part_within}
 use Rattle.lite_gather.proofs.Ample.{try_collect_within, unzip_within}
-use Rattle.properties_met.proofs.needs_collections.parts_collected.Goals as goal
+use Rattle.properties_met.proofs.consuming.parts_collected.Goals as goal
 
 pub returns-clause-try_collect : goal.returns-clause-try_collect
 returns-clause-try_collect g c =

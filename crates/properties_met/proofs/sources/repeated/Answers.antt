@@ -1,5 +1,5 @@
 use Rattle.properties_met.proofs.Repeated.{clones_unrefused}
-use Rattle.properties_met.proofs.needs_sources.repeated.Goals as goal
+use Rattle.properties_met.proofs.sources.repeated.Goals as goal
 
 pub returns-clause-ample : goal.returns-clause-ample
 returns-clause-ample g c =

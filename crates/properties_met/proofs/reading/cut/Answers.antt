@@ -1,6 +1,6 @@
 use Rattle.lite_read.proofs.Ample.{lines_ample}
 use Rattle.properties_met.proofs.Unrefused.{split_ample}
-use Rattle.properties_met.proofs.needs_reading.cut.Goals as goal
+use Rattle.properties_met.proofs.reading.cut.Goals as goal
 
 pub returns-clause-ample_lines : goal.returns-clause-ample_lines
 returns-clause-ample_lines g c = lines_ample

@@ -2,7 +2,7 @@ use Rattle.std.specs.Fn.{CalledAt}
 use Rattle.std.specs.Prelude.{⊤}
 use Rattle.lite_consume.specs.Laws.Agreeing.{consumed_ample, part_within}
 use Rattle.lite_gather.proofs.Ample.{collect_within, partition_within}
-use Rattle.properties_met.proofs.needs_collections.collected.Goals as goal
+use Rattle.properties_met.proofs.consuming.collected.Goals as goal
 
 pub returns-clause-collect : goal.returns-clause-collect
 returns-clause-collect g c =

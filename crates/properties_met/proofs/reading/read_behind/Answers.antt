@@ -1,7 +1,7 @@
 use Rattle.lite_read.specs.ReadToEnd.{appends_where}
 use Rattle.lite_read.specs.ReadUntil.{until_where}
 use Rattle.properties_met.proofs.Unrefused.{appends_found, gathers_found, text_found, until_found}
-use Rattle.properties_met.proofs.needs_reading.read_behind.Goals as goal
+use Rattle.properties_met.proofs.reading.read_behind.Goals as goal
 
 pub returns-clause-ample_to_end : goal.returns-clause-ample_to_end
 returns-clause-ample_to_end g c =
