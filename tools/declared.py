@@ -41,7 +41,7 @@ class Block:
             any_of = parameters_in(parameters[1] or "")
             trait, _, of = re.split(r" where\b|,? ?\{", head[parameters.end() :])[0].rpartition(" for ")
             self.trait = re.match(r"\w*", trait.rpartition("::")[2])[0]
-            self.type = mangled(of, any_of) if trait else re.match(r"\w*", of)[0]
+            self.type = mangled(of, any_of, modules=True) if trait else re.match(r"\w*", of)[0]
             self.name = self.type + mangled(trait, any_of)
         elif head:
             self.name = re.search(r"trait (\w+)", head)[1]
@@ -55,12 +55,15 @@ def parameters_in(written):
     return set(re.findall(r"(?:^|,) *(?:const )?(\w+)", inner))
 
 
-def mangled(written, any_of):
-    """Returns the name that the checker has for a type, of whose words these are parameters: `RefMutSliceU8` for `&mut [u8]`."""
+def mangled(written, any_of, modules=False):
+    """Returns the name that the checker has for a type, of whose words these are parameters: `RefMutSliceU8` for `&mut [u8]`.
+
+    With its modules it is that of the type of an impl, as `IoError` for `io::Error`; a trait has none."""
     found, bare = "", re.sub(r"'\w+,? ?", "", written)
     for it in re.finditer(r"&mut|&|\[|\(|(?:\w+::)*(\w+)", bare):
         if it[1]:
-            found += "" if it[1] in any_of else it[1][0].upper() + it[1][1:]
+            words = it[0].split("::") if modules and it[0][0].islower() else [it[1]]
+            found += "" if it[1] in any_of else "".join(word[0].upper() + word[1:] for word in words)
         elif it[0] == "(":
             found += f"Tuple{bare[it.start() :].partition(')')[0].count(',') + 1}"
         else:

@@ -1,4 +1,6 @@
 //! Why the program stops.
+ghost use Rattle.example_frames.specs.declared.fault.Fault.TheVariants.{Output};
+ghost use Rattle.programs.specs.Statuses.{WrapsBrokenPipe};
 
 use crate::entries::EntryError;
 use framed::FrameError;
@@ -28,6 +30,8 @@ pub enum Fault {
 }
 
 impl ProgramError for Fault {
+    ghost broken_pipe = { WrapsBrokenPipe Output };
+
     fn is_broken_pipe(&self) -> bool {
         match self {
             Fault::Output(e) => e.is_broken_pipe(),

@@ -1,4 +1,7 @@
 //! Why the program ends before its input.
+ghost use Rattle.example_http.specs.declared.fault.ProgramError.TheVariants.{Output};
+ghost use Rattle.programs.specs.Statuses.{WrapsBrokenPipe};
+
 use crate::http_error::HttpError;
 use std::io;
 use thiserror::Error;
@@ -31,6 +34,8 @@ impl From<HttpError> for ProgramError {
 }
 
 impl programs::ProgramError for ProgramError {
+    ghost broken_pipe = { WrapsBrokenPipe Output };
+
     fn is_broken_pipe(&self) -> bool {
         match self {
             ProgramError::Output(e) => e.is_broken_pipe(),

@@ -1,4 +1,7 @@
 //! Why the pipeline stops.
+ghost use Rattle.example_pipeline.specs.declared.fault.Cause.TheVariants.{Output};
+ghost use Rattle.programs.specs.Statuses.{WrapsBrokenPipe};
+
 use programs::ProgramError;
 use std::io;
 use thiserror::Error;
@@ -37,6 +40,8 @@ pub enum Cause {
 }
 
 impl ProgramError for PipelineError {
+    ghost broken_pipe = { λ e. WrapsBrokenPipe Output e.cause };
+
     fn is_broken_pipe(&self) -> bool {
         match &self.cause {
             Cause::Output(e) => e.is_broken_pipe(),

@@ -1,4 +1,8 @@
 //! Why the program stops.
+ghost use Rattle.example_redis.specs.declared.fault.Fault.TheVariants.{Served};
+ghost use Rattle.framed.specs.declared.ServeError.TheVariants.{Output};
+ghost use Rattle.programs.specs.Statuses.{WrapsBrokenPipe};
+
 use crate::error::{ReplyError, RequestError};
 use framed::ServeError;
 use programs::ProgramError;
@@ -16,6 +20,8 @@ pub enum Fault {
 }
 
 impl ProgramError for Fault {
+    ghost broken_pipe = { WrapsBrokenPipe (λ e. Served (Output e)) };
+
     fn is_broken_pipe(&self) -> bool {
         match self {
             Fault::Served(ServeError::Output(e)) => e.is_broken_pipe(),

@@ -1,4 +1,7 @@
 //! Why the program stops.
+ghost use Rattle.example_words.specs.declared.fault.WordsError.TheVariants.{Output};
+ghost use Rattle.programs.specs.Statuses.{WrapsBrokenPipe};
+
 use programs::ProgramError;
 use std::alloc::AllocError;
 use std::io;
@@ -48,6 +51,8 @@ pub enum LineError {
 }
 
 impl ProgramError for WordsError {
+    ghost broken_pipe = { WrapsBrokenPipe Output };
+
     fn is_broken_pipe(&self) -> bool {
         match self {
             WordsError::Output(e) => e.is_broken_pipe(),

@@ -1,4 +1,7 @@
 //! Why the lines are not counted.
+ghost use Rattle.linecount.specs.declared.fault.CountError.TheVariants.{Output};
+ghost use Rattle.programs.specs.Statuses.{WrapsBrokenPipe};
+
 use programs::ProgramError;
 use std::io;
 use thiserror::Error;
@@ -21,6 +24,8 @@ pub enum CountError {
 }
 
 impl ProgramError for CountError {
+    ghost broken_pipe = { WrapsBrokenPipe Output };
+
     fn is_broken_pipe(&self) -> bool {
         match self {
             CountError::Output(e) => e.is_broken_pipe(),

@@ -1,9 +1,9 @@
 //! The words that a program is called with.
+ghost use Rattle.programs.specs.Statuses.{EndsUnstarted, EndsUnread};
 ghost use Rattle.std.specs.List.{AllByRecursion};
-ghost use Rattle.std.specs.Prelude.{◌≡◌, ◌≢◌, ◌⊎◌, IfErr, IfOk, codes, string_bytes};
-ghost use Rattle.std.specs.Process.{exit_status};
+ghost use Rattle.std.specs.Prelude.{◌≢◌, IfErr, IfOk, codes, string_bytes};
 
-use crate::ending::{end, misused};
+use crate::ending::{failed, misused};
 use std::alloc::AllocGlobal;
 use std::env::{self, Env};
 use std::io::{self, Eprint, ErrorKind};
@@ -27,13 +27,23 @@ impl Command {
     where
         R: Env + AllocGlobal + Eprint,
         ensures others { IfOk result (λ command. AllByRecursion (λ word. string_bytes word ≢ codes "--quiet") command.words.items) }
-        ensures failed { IfErr result (λ status. (exit_status status ≡ 1) ⊎ ((exit_status status ≡ 2) ⊎ (exit_status status ≡ 141))) }
+        ensures failed { IfErr result EndsUnstarted }
     {
         match read_words(rt) {
             Ok(command) => Ok(command),
-            Err(e) if e.kind() == ErrorKind::InvalidData => Err(misused(rt, name, usage)),
-            Err(e) => Err(end(rt, name, Err(e))),
+            Err(e) => Err(unread(rt, name, usage, &e)),
         }
+    }
+}
+
+// Prints why the words were not read, and returns the status to end with.
+fn unread<R: Eprint>(rt: &R, name: &str, usage: &str, error: &io::Error) -> ExitCode
+    ensures { EndsUnread error.now result }
+{
+    if error.kind() == ErrorKind::InvalidData {
+        misused(rt, name, usage)
+    } else {
+        failed(rt, name, error)
     }
 }
 
@@ -42,7 +52,7 @@ impl Command {
 pub fn without_words<R>(rt: &R, name: &str) -> Result<(), ExitCode>
 where
     R: Env + AllocGlobal + Eprint,
-    ensures failed { IfErr result (λ status. (exit_status status ≡ 1) ⊎ ((exit_status status ≡ 2) ⊎ (exit_status status ≡ 141))) }
+    ensures failed { IfErr result EndsUnstarted }
 {
     let command = Command::of(rt, name, name)?;
     if command.quiet || !command.words.is_empty() {

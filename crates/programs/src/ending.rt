@@ -1,5 +1,6 @@
 //! How a program ends.
-ghost use Rattle.std.specs.Prelude.{◌≡◌, ◌⊎◌, IfErr, IfOk};
+ghost use Rattle.programs.specs.Statuses.{EndsAtError, IsBrokenPipe};
+ghost use Rattle.std.specs.Prelude.{◌≡◌, ◌↔◌, IfErr, IfOk, IsTrue};
 ghost use Rattle.std.specs.Process.{exit_status};
 
 use std::fmt::Display;
@@ -11,11 +12,17 @@ pub const BROKEN_PIPE: u8 = 141;
 
 /// Why a program stops.
 pub trait ProgramError: Display {
+    /// Whether the error says that nobody reads the output any more.
+    ghost broken_pipe: { Self → Type 0 };
+
     /// Returns whether nobody reads the output any more.
-    fn is_broken_pipe(&self) -> bool;
+    fn is_broken_pipe(&self) -> bool
+        ensures { IsTrue result ↔ Self.broken_pipe self.now };
 }
 
 impl ProgramError for io::Error {
+    ghost broken_pipe = { IsBrokenPipe };
+
     fn is_broken_pipe(&self) -> bool {
         self.kind() == ErrorKind::BrokenPipe
     }
@@ -27,7 +34,7 @@ impl ProgramError for io::Error {
 /// nothing is printed, and the status is [`BROKEN_PIPE`].
 pub fn end<R: Eprint, E: ProgramError + Drop>(rt: &R, name: &str, ended: Result<(), E>) -> ExitCode
     ensures ok { IfOk ended (λ _. exit_status result ≡ 0) }
-    ensures failed { IfErr ended (λ _. (exit_status result ≡ 1) ⊎ (exit_status result ≡ 141)) }
+    ensures failed { IfErr ended (λ e. EndsAtError (E.broken_pipe e) result) }
 {
     match ended {
         Ok(()) => ExitCode::from(0),
@@ -35,10 +42,17 @@ pub fn end<R: Eprint, E: ProgramError + Drop>(rt: &R, name: &str, ended: Result<
             if e.is_broken_pipe() {
                 return ExitCode::from(BROKEN_PIPE);
             }
-            let _ = eprintln!(rt; "{name}: {e}");
-            ExitCode::from(1)
+            failed(rt, name, &e)
         }
     }
+}
+
+/// Prints the error on standard error, as one line with the name of the program, and returns the status 1.
+pub(crate) fn failed<R: Eprint, E: Display>(rt: &R, name: &str, error: &E) -> ExitCode
+    ensures { exit_status result ≡ 1 }
+{
+    let _ = eprintln!(rt; "{name}: {error}");
+    ExitCode::from(1)
 }
 
 /// Prints on standard error how the program is called, and returns the status 2.
