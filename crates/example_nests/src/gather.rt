@@ -2,7 +2,7 @@
 ghost use Rattle.std.specs.Prelude.{◌≡◌, ◌==◌, ◌%◌, ◌*◌, ◌^◌, ◌+◌, ◌++◌, ◌∷◌, [], Err, IfOk, Ok, Some, flat_map};
 ghost use Rattle.std.specs.Prelude.{if◌then◌else◌, map, nat_lt, not};
 ghost use Rattle.std.specs.List.{enumerate_from, filter, zip};
-ghost use Rattle.futures_lite.specs.Lists.{Lists, scan};
+ghost use Rattle.futures_lite.specs.Lists.{Lists, OfItems, scan};
 
 use futures_lite::StreamExt;
 use futures_lite::future::block_on;
@@ -10,6 +10,18 @@ use futures_lite::stream::{Counted, TryCollectError, iter_array, iter_vec as ite
 use std::alloc::{AllocError, AllocGlobal};
 use std::random::RandomSource;
 use std::sync::Wait;
+
+/// The items of any stream.
+pub fn collected<R, S>(rt: &R, stream: S) -> Result<Vec<S::Item>, AllocError>
+where
+    R: Wait + RandomSource + AllocGlobal,
+    S: Counted<Item: Drop> + Drop,
+    requires polls { S.can_poll stream }
+    requires counts { S.ranks.counts stream }
+    ensures { OfItems S.run stream (λ xs. IfOk result (λ v. v.items ≡ xs)) }
+{
+    block_on(rt, stream.collect::<Vec<S::Item>>(rt.alloc()))?.map_err(|_| AllocError)
+}
 
 /// The doubled even items.
 pub fn evens_doubled<R>(rt: &R, items: Vec<u32>) -> Result<Vec<u64>, AllocError>
@@ -19,7 +31,7 @@ where
 {
     let evens = iter(items).filter(|x| *x % 2 == 0);
     let doubled = evens.map(|x: u32| x as u64 * 2);
-    block_on(rt, doubled.collect::<Vec<u64>>(rt.alloc()))?.map_err(|_| AllocError)
+    collected(rt, doubled)
 }
 
 /// One vector's items after the other's.
@@ -29,7 +41,7 @@ where
     ensures { IfOk result (λ v. v.items ≡ first.items ++ second.items) }
 {
     let both = iter(first).chain(iter(second));
-    block_on(rt, both.collect::<Vec<u8>>(rt.alloc()))?.map_err(|_| AllocError)
+    collected(rt, both)
 }
 
 /// Pairs of two vectors' items.
@@ -39,7 +51,7 @@ where
     ensures { IfOk result (λ v. v.items ≡ zip first.items second.items) }
 {
     let both = iter(first).zip(iter(second));
-    block_on(rt, both.collect::<Vec<(u8, u32)>>(rt.alloc()))?.map_err(|_| AllocError)
+    collected(rt, both)
 }
 
 /// Each item beside its number.
@@ -49,7 +61,7 @@ where
     ensures { IfOk result (λ v. v.items ≡ enumerate_from 0 items.items) }
 {
     let counted = iter(items).enumerate();
-    block_on(rt, counted.collect::<Vec<(usize, u32)>>(rt.alloc()))?.map_err(|_| AllocError)
+    collected(rt, counted)
 }
 
 /// The even items, and the others.
@@ -95,7 +107,7 @@ where
         *s = s.wrapping_add(x as u64);
         Some(*s)
     });
-    block_on(rt, sums.collect::<Vec<u64>>(rt.alloc()))?.map_err(|_| AllocError)
+    collected(rt, sums)
 }
 
 /// Each item, and the number after it.
@@ -118,5 +130,5 @@ where
     ensures { (xs : _) → Lists S.run numbers xs → IfOk result (λ v. v.items ≡ map (λ x. x * 2) xs) }
 {
     let doubled = numbers.map(|x: u32| x as u64 * 2);
-    block_on(rt, doubled.collect::<Vec<u64>>(rt.alloc()))?.map_err(|_| AllocError)
+    collected(rt, doubled)
 }

@@ -1,10 +1,11 @@
 //! What is read of bytes that are known.
 ghost use Rattle.std.specs.Prelude.{◌≡◌, ◌++◌, IfOk, length, map, string_bytes, take};
 ghost use Rattle.futures_lite.specs.Lines.{byte_lines};
+ghost use Rattle.futures_lite.specs.Readers.{Knows};
 
 use futures_lite::future::{block_on, wait_for};
-use futures_lite::io::{BufReader, Cursor};
-use futures_lite::{AsyncBufReadExt, AsyncReadExt, AsyncWriteExt, StreamExt};
+use futures_lite::io::{BufReader, CountedRead, Cursor};
+use futures_lite::{AsyncBufRead, AsyncBufReadExt, AsyncReadExt, AsyncWriteExt, StreamExt};
 use std::alloc::{AllocError, AllocGlobal};
 use std::io;
 use std::random::RandomSource;
@@ -16,7 +17,19 @@ where
     R: Wait + RandomSource + AllocGlobal,
     ensures { IfOk result (λ v. map string_bytes v.items ≡ byte_lines text.now) }
 {
-    let lines = text.lines(rt.alloc());
+    lines_of(rt, text)
+}
+
+/// The lines of any reader whose bytes are known.
+pub fn lines_of<R, T>(rt: &R, reader: T) -> Result<Vec<String>, AllocError>
+where
+    R: Wait + RandomSource + AllocGlobal,
+    T: AsyncBufRead + CountedRead + Drop,
+    requires counts { T.ranks.counts reader × T.ranks.firm reader }
+    requires known { Knows T.reads T.known reader }
+    ensures { IfOk result (λ v. map string_bytes v.items ≡ byte_lines (T.known.left reader)) }
+{
+    let lines = reader.lines(rt.alloc());
     let all = lines.try_collect::<String, io::Error, Vec<String>>(rt.alloc());
     block_on(rt, all)?.map_err(|_| AllocError)
 }
@@ -35,9 +48,7 @@ where
     let Ok(reader) = BufReader::new(rt.alloc(), first.chain(Cursor::new(second))) else {
         return Err(AllocError);
     };
-    let lines = reader.take(most).lines(rt.alloc());
-    let all = lines.try_collect::<String, io::Error, Vec<String>>(rt.alloc());
-    block_on(rt, all)?.map_err(|_| AllocError)
+    lines_of(rt, reader.take(most))
 }
 
 /// All of a text, to the end of a vector.
