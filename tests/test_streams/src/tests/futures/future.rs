@@ -170,7 +170,7 @@ impl<T: Copy> Future for Guarded<'_, T> {
     }
 }
 
-fn guarded<T: Copy>(drops: &AtomicU64, value: T) -> Guarded<'_, T> {
+fn make_guarded<T: Copy>(drops: &AtomicU64, value: T) -> Guarded<'_, T> {
     Guarded {
         value,
         _guard: Guard { drops },
@@ -193,7 +193,7 @@ where
 fn zip_and_try_zip_let_each_future_go_with_its_value(rt: HostRuntime) -> Result<(), Fail> {
     let drops = AtomicU64::new(0);
     let never = future::pending::<Result<u8, u8>>;
-    let ready = || guarded(&drops, Ok::<u8, u8>(7));
+    let ready = || make_guarded(&drops, Ok::<u8, u8>(7));
     let counts = [
         dropped(&rt, &drops, future::zip(ready(), never()))?,
         dropped(&rt, &drops, future::zip(never(), ready()))?,

@@ -1,4 +1,4 @@
-use super::guards::{END, Guard, dropped, guarded, guards, with_drops};
+use super::guards::{END, Guard, dropped, guards, make_guarded, with_drops};
 use super::text::Text;
 use crate::tests::marks::{both, calm, counted, ok_counted, ranked};
 use futures_lite::stream::{self, Script};
@@ -178,7 +178,7 @@ fn a_budget_ranks_any_stream(rt: HostRuntime) -> Result<(), Fail> {
 #[test]
 fn then_drops_each_future_with_its_value(rt: HostRuntime) -> Result<(), Fail> {
     let drops = Cell::new(0);
-    let mut values = stream::iter_array([0u8, 1, 2]).then(|x: u8| guarded(&drops, x % 2, x));
+    let mut values = stream::iter_array([0u8, 1, 2]).then(|x: u8| make_guarded(&drops, x % 2, x));
     let got = with_drops(&rt, &drops, &mut values, 5)?;
     let expected = [
         (item(0), 1),
@@ -211,12 +211,12 @@ fn skip_while_drops_its_predicate_with_the_first_item_that_it_keeps(
 #[test]
 fn stop_after_future_drops_its_future_at_either_end(rt: HostRuntime) -> Result<(), Fail> {
     let drops = Cell::new(0);
-    let future = guarded(&drops, 1, 'x');
+    let future = make_guarded(&drops, 1, 'x');
     let mut stopped = stream::stop_after_future(stream::iter_array([1u8, 2]), future);
     let got = with_drops(&rt, &drops, &mut stopped, 3)?;
     let expected = [(item(1), 0), (END, 1), (END, 1)];
     assert_eq!(rt; got.as_slice(), expected.as_slice());
-    let future = guarded(&drops, 9, 'x');
+    let future = make_guarded(&drops, 9, 'x');
     let mut ended = stream::stop_after_future(stream::iter_array([1u8]), future);
     let got = with_drops(&rt, &drops, &mut ended, 2)?;
     assert_eq!(rt; got.as_slice(), [(item(1), 1), (END, 2)].as_slice());

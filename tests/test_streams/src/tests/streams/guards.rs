@@ -56,7 +56,7 @@ impl<T: Copy> Future for Guarded<'_, T> {
     }
 }
 
-pub(super) fn guarded<T: Copy>(drops: &Cell<u8>, pendings: u8, value: T) -> Guarded<'_, T> {
+pub(super) fn make_guarded<T: Copy>(drops: &Cell<u8>, pendings: u8, value: T) -> Guarded<'_, T> {
     Guarded {
         pendings,
         value,

@@ -1,4 +1,4 @@
-use super::guards::{END, guarded, with_drops};
+use super::guards::{END, make_guarded, with_drops};
 use super::text::Text;
 use crate::tests::marks::{both, counted, ranked, steady};
 use futures_lite::{Context, Poll, StreamExt, future, stream};
@@ -102,7 +102,7 @@ fn a_source_shows_what_it_holds(rt: HostRuntime) -> Result<(), Fail> {
 #[test]
 fn once_future_drops_its_future_with_its_value(rt: HostRuntime) -> Result<(), Fail> {
     let drops = Cell::new(0);
-    let mut once = stream::once_future(guarded(&drops, 1, 7u8));
+    let mut once = stream::once_future(make_guarded(&drops, 1, 7u8));
     let got = with_drops(&rt, &drops, &mut once, 3)?;
     let expected = [(Poll::Pending, 0), (item(7), 1), (END, 1)];
     assert_eq!(rt; got.as_slice(), expected.as_slice());
@@ -113,7 +113,7 @@ fn once_future_drops_its_future_with_its_value(rt: HostRuntime) -> Result<(), Fa
 fn unfold_drops_each_future_with_its_value(rt: HostRuntime) -> Result<(), Fail> {
     let drops = Cell::new(0);
     let mut numbers = stream::unfold(0u8, |n: u8| {
-        guarded(&drops, n % 2, if n < 2 { Some((n, n + 1)) } else { None })
+        make_guarded(&drops, n % 2, if n < 2 { Some((n, n + 1)) } else { None })
     });
     let got = with_drops(&rt, &drops, &mut numbers, 5)?;
     let expected = [
@@ -131,7 +131,7 @@ fn unfold_drops_each_future_with_its_value(rt: HostRuntime) -> Result<(), Fail> 
 fn try_unfold_drops_each_future_with_its_value(rt: HostRuntime) -> Result<(), Fail> {
     let drops = Cell::new(0);
     let mut numbers = stream::try_unfold(0u8, |n: u8| {
-        guarded(
+        make_guarded(
             &drops,
             n % 2,
             if n == 0 { Ok(Some((n, 1))) } else { Err(9u8) },
