@@ -1,4 +1,4 @@
--- What each word says that is shut unless a proof opens it.
+-- What each word says that is shut unless a proof opens it: one lemma for each, over imports of `futures_lite` alone.
 use Rattle.std.specs.Prelude.{◌≡◌, ℕ, List, ◌∷◌, Result, Ok}
 use Rattle.futures_lite.specs.Answers.{Answer, Front, Gives, Poll, Ready, Waiting, items_in}
 use Rattle.futures_lite.specs.Futures.{Finishes}
