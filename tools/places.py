@@ -202,15 +202,19 @@ def called():
     yield from lacking("tests", set(every), there, set(), "no case, test or program calls")
 
 
+def cases_measured():
+    """Returns the cases of the measured program that have a row, without those that only make bytes."""
+    return {it for it in words_known(f"{THROUGHPUT}/src/*.rs") if not it.startswith("made_")} - {"size_of"}
+
+
 def measured():
     """Each public function that does work is called by a case of the measured program, and each case there is one over the original, and has a row. Those
     of `laws` are for proofs and tests."""
     names = {it.name for module, of_module in functions().items() if module != "laws" for it in of_module if not it.does_nothing}
     yield from lacking(THROUGHPUT, names, names & names_called_in([f"{THROUGHPUT}/src"]), NO_CASE, "no case calls")
-    cases = words_known(f"{THROUGHPUT}/src/*.rs")
+    cases, rows_of = words_known(f"{THROUGHPUT}/src/*.rs"), {it.case for it in speed.rows()}
     yield from lacking(f"{THROUGHPUT}/original", cases, cases & words_known(f"{THROUGHPUT}/original/src/*.rs"), set(), "there is no case")
-    only_made = {it for it in cases if it.startswith("made_")} | {"size_of"}
-    yield from lacking(f"{THROUGHPUT}/measured.txt", cases, cases & {it.case for it in speed.rows()}, only_made, "there is no row of")
+    yield from lacking(f"{THROUGHPUT}/measured.txt", cases_measured(), cases_measured() & rows_of, set(), "there is no row of")
 
 
 def counting_as_their_sources():

@@ -58,8 +58,8 @@ def rows():
 
 
 def shown(number):
-    """Returns a number of instructions with the digits that tell."""
-    return f"{number:,.0f}" if number >= 100 else f"{number:.1f}" if number >= 4 else f"{number:.2f}" if number >= 1 else f"{number:.3f}"
+    """Returns a number of instructions with the digits that tell; of one that was not measured a dash."""
+    return "-" if not number else f"{number:,.0f}" if number >= 100 else f"{number:.1f}" if number >= 4 else f"{number:.2f}" if number >= 1 else f"{number:.3f}"
 
 
 def build():
@@ -96,6 +96,8 @@ def plot():
         y = 42 + STEP * number
         shapes.append(f'<text x="8" y="{y + 10}">{it.case}</text>')
         for offset, kind, other in ((0, "plain", it.original), (BAR, "lto", it.lto)):
+            if not other:
+                continue
             start, end = sorted((across(1), across(it.ratio(other))))
             shapes.append(f'<rect class="{kind}" x="{start:.1f}" y="{y + offset}" width="{max(1.5, end - start):.1f}" height="{BAR - 1}"/>')
     return "\n".join([*shapes, "</svg>", ""])
