@@ -212,7 +212,7 @@ def measured():
     of `laws` are for proofs and tests."""
     names = {it.name for module, of_module in functions().items() if module != "laws" for it in of_module if not it.does_nothing}
     yield from lacking(THROUGHPUT, names, names & names_called_in([f"{THROUGHPUT}/src"]), NO_CASE, "no case calls")
-    cases, rows_of = words_known(f"{THROUGHPUT}/src/*.rs"), {it.case for it in speed.rows()}
+    cases, rows_of = words_known(f"{THROUGHPUT}/src/*.rs"), {it.case for it in speed.rows() if it.last}
     yield from lacking(f"{THROUGHPUT}/original", cases, cases & words_known(f"{THROUGHPUT}/original/src/*.rs"), set(), "there is no case")
     yield from lacking(f"{THROUGHPUT}/measured.txt", cases_measured(), cases_measured() & rows_of, set(), "there is no row of")
 

@@ -6,7 +6,8 @@ HEADING = re.compile(r"# (?:\w+::)*(\w+): ")
 DEFINITION = re.compile(r"^(?:abbrev |unfoldable )*pub ([\w-]+) :", re.M)
 # An import: its path, the names in braces, and the rest.
 USE = re.compile(r"^((?:pub |ghost )*use [^;{]*)(?:\{([^}]*)\})?.*(?:;|$)\n?", re.M)
-# What belongs to the line before although it has the same indent, and what belongs to the line behind.
+# A parameter; what belongs to the line before although it has the same indent, and what belongs to the line behind.
+PARAMETER = re.compile(r"\w+: ")
 GOES_ON, COMMENT = re.compile(r"where\b|[{})\]]"), re.compile(r"//|#\[|--")
 
 
@@ -68,12 +69,18 @@ def end_of(lines, at):
     return here
 
 
+def is_argument(lines, at):
+    """Whether a line is an argument of a call, or the end of one. A parameter begins with its name and a colon."""
+    around = next((it for it in reversed(lines[:at]) if it.strip() and indent(it) < indent(lines[at])), "")
+    return around.endswith("(") and not PARAMETER.match(lines[at].strip())
+
+
 def with_items(text, names):
     """Returns a source in which each item that begins with the old name is followed by its copy, with the comments above it."""
     lines, found, at = text.split("\n"), [], 0
     while at < len(lines):
         line = lines[at]
-        if not names.old.search(line) or COMMENT.match(line.strip()):
+        if not names.old.search(line) or COMMENT.match(line.strip()) or is_argument(lines, at):
             found.append(line)
             at += 1
             continue
