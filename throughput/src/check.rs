@@ -11,7 +11,7 @@ use std::random::RandomSource;
 use std::sync::Wait;
 
 /// Cases that no file of theirs checks, their sizes, and the items that they fold.
-const FOLDS: [(&str, u64, &[u64]); 5] = [
+const FOLDS: &[(&str, u64, &[u64])] = &[
     ("blocking_next", 4, &[5, 4, 7, 6]),
     ("waits_next", 4, &[5, 4, 7, 6]),
     ("seek", 4, &[1, 2, 3, 4]),
@@ -116,16 +116,16 @@ pub(crate) fn check<R>(rt: &R, cx: &mut Context<'_>) -> Result<(), Fault>
 where
     R: Wait + RandomSource + AllocGlobal + Copy,
 {
-    for (name, n, items) in &streams::FOLDS {
+    for (name, n, items) in streams::FOLDS {
         gives(name, computed(rt, cx, name, *n)? == folded(items))?;
     }
-    for (name, n, items) in &consuming::FOLDS {
+    for (name, n, items) in consuming::FOLDS {
         gives(name, computed(rt, cx, name, *n)? == folded(items))?;
     }
-    for (name, n, items) in &merging::FOLDS {
+    for (name, n, items) in merging::FOLDS {
         gives(name, computed(rt, cx, name, *n)? == folded(items))?;
     }
-    for (name, n, items) in &FOLDS {
+    for (name, n, items) in FOLDS {
         gives(name, computed(rt, cx, name, *n)? == folded(items))?;
     }
     for (name, n, number) in &NUMBERS {

@@ -39,7 +39,7 @@ pub(crate) fn computed(
 }
 
 /// Cases of this file, their sizes, and the items that they fold.
-pub(crate) const FOLDS: [(&str, u64, &[u64]); 8] = [
+pub(crate) const FOLDS: &[(&str, u64, &[u64])] = &[
     ("next", 4, &[5, 4, 7, 6]),
     ("for_each", 4, &[0, 1, 2, 3]),
     ("try_for_each", 4, &[0, 1, 2, 3]),

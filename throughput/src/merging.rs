@@ -20,7 +20,7 @@ pub(crate) fn computed(cx: &mut Context<'_>, name: &str, n: u64) -> Result<Optio
 }
 
 /// Cases of this file, their sizes, and the items that they fold.
-pub(crate) const FOLDS: [(&str, u64, &[u64]); 7] = [
+pub(crate) const FOLDS: &[(&str, u64, &[u64])] = &[
     ("zip_streams", 4, &[5, 7, 9, 11]),
     ("or_streams", 4, &[0, 1, 2, 3]),
     // (its generator's words were reckoned apart)

@@ -52,7 +52,7 @@ pub(crate) fn computed(
 }
 
 /// Cases of this file, their sizes, and the items that they fold.
-pub(crate) const FOLDS: [(&str, u64, &[u64]); 30] = [
+pub(crate) const FOLDS: &[(&str, u64, &[u64])] = &[
     ("iter", 4, &[0, 1, 2, 3]),
     ("map", 4, &[0, 3, 6, 9]),
     ("filter", 6, &[1, 2, 3, 5]),
