@@ -301,12 +301,6 @@ class TwoModules(unittest.TestCase):
         self.assertEqual(self.headings("docs/api/stream/count.md"), ["fn `count`", "type `CountFuture`"])
         self.assertEqual(self.headings("docs/api/future/other.md"), ["trait `Other`"])
 
-    def test_each_method_of_a_type_with_many_has_a_page(self):
-        with unittest.mock.patch("sources.MANY", 2):
-            pages = dict(Reference(self.sources).pages())
-        self.assertIn("\n## method `Or::first`\n", pages["docs/api/stream/or_first.md"])
-        self.assertIn("\nMethods: [`first`](or_first.md#method-orfirst), [`or`](or_or.md#method-oror).\n", pages["docs/api/stream/or.md"])
-
     def test_the_index_of_modules_has_all_names(self):
         told = self.pages["docs/api/README.md"].partition("\n## All names\n\n")[2]
         for link in ("[`future::or`](future/or.md#fn-or)", "[`stream::or`](stream/or.md#fn-or)", "[`future::Or`](future/or.md#struct-or)"):
@@ -316,8 +310,8 @@ class TwoModules(unittest.TestCase):
     def test_a_definition_that_pages_share_stands_with_its_module_and_links_to_others(self):
         every = Reference(self.sources).every
         word = next(it for it in every.values() if it.name == "ListsAs")
-        pages = dict(Words(every, {"a.md": [word], "b.md": [word]}, {}).pages())
-        told = " ".join(pages["docs/api/words/lite_views.md"].partition("\n### `ListsAs`\n")[2].split())
+        page = Words(every, {"a.md": [word], "b.md": [word]}, {}).page()
+        told = " ".join(page.partition("\n#### `ListsAs`\n")[2].split())
         self.assertTrue(told.startswith("(`Lists`) The items of `s` are `xs`, as [`Lists`](#lists) says it:"))
 
     def test_a_definition_that_one_page_needs_stands_on_that_page_alone(self):
@@ -325,19 +319,20 @@ class TwoModules(unittest.TestCase):
         pages = Words({("lite_read", "Texts", "Reading"): word}, {"docs/api/io/a.md": [word, word]}, {})
         self.assertTrue(pages.is_alone(word))
         self.assertEqual(pages.told_alone(word, "docs/api/io/a.md"), "[`Reading`](../../../crates/lite_read/specs/Texts.antt): It says.")
-        self.assertNotIn("docs/api/words/lite_read.md", dict(pages.pages()))
+        self.assertNotIn("lite_read", pages.page())
 
     def test_a_definition_that_another_names_has_a_place_to_link_to(self):
         named, naming = Word("Named", "lite_read", "Texts", "It says."), Word("Naming", "lite_read", "Texts", "As `Named`.")
         every = {("lite_read", "Texts", it.name): it for it in (named, naming)}
         pages = Words(every, {"docs/api/io/a.md": [named, naming]}, {})
         self.assertEqual([pages.is_alone(it) for it in (named, naming)], [False, True])
-        self.assertIn("As [`Named`](../words/lite_read.md#named).", pages.told_alone(naming, "docs/api/io/a.md"))
+        self.assertIn("As [`Named`](../words.md#named).", pages.told_alone(naming, "docs/api/io/a.md"))
 
     def test_words_that_differ_in_their_case_have_anchors_of_their_own(self):
         every = {("lite_read", "Texts", it): Word(it, "lite_read", "Texts", "It says.") for it in ("Reading", "reading")}
-        pages = Words(every, {it: every.values() for it in ("a.md", "b.md")}, {})
-        self.assertEqual([pages.link(it, words.STD).partition("#")[2] for it in every.values()], ["reading)", "reading-1)"])
+        pages = Words(every, {it: every.values() for it in ("a.md", "b.md")}, {"Reading": "It says."})
+        self.assertEqual(pages.link_from(words.PAGE, "Reading", "It says."), "[`Reading`](#reading)")
+        self.assertEqual([pages.link(it, words.PAGE).partition("#")[2] for it in every.values()], ["reading-1)", "reading-2)"])
 
     def test_an_entry_has_the_links_of_the_list(self):
         told = {"stream::or": ["laws::collect_or", "guide/21-codec.md", "future::or"]}
@@ -366,8 +361,8 @@ class TwoModules(unittest.TestCase):
     def test_a_word_that_no_entry_explains_is_below_the_entries(self):
         told = self.words("docs/api/stream/or.md")
         for word in ("IfOk", "length"):
-            self.assertIn(f"[`{word}`](../words/std.md#{word.lower()})", told)
-            self.assertIn(f"\n### `{word}`\n\n", self.pages["docs/api/words/std.md"])
+            self.assertIn(f"[`{word}`](../words.md#{word.lower()})", told)
+            self.assertIn(f"\n### `{word}`\n\n", self.pages["docs/api/words.md"])
         for word in ("size", "first", "n", "it", "S", "Item", "Self"):
             self.assertNotIn(f"[`{word}`]", told)
         self.assertIn("[`Item`]", self.words("docs/api/stream/count.md"))

@@ -8,14 +8,13 @@ import textwrap
 import pictures
 import properties
 import see_also
-import words
 from contracts import clauses_of, in_a_row, sentences
 from examples import CLAUSES, GHOST
 from legend import FIELDS, LEGEND, NAME, PHASES, WITH_MEANING, arguments, fields, legend, members, text_of, unexplained
 from repository import FACADE, TOP, read_text, version
 from sources import EXTENSIONS, LINKED, MAKERS, MODULES, Sources, called, first_sentence, head_of_impl, plain, relative
 from vocabulary import PLAIN, WIDTH, Word, bullet, cited, definitions, imported, libraries, wrapped
-from words import STD, WRITTEN, Words
+from words import PAGE as WORDS, WRITTEN, Words
 
 # The clause of a call that lends what it has: the field that is lent, and what `self` is after that.
 WRITES_BACK = re.compile(r"^ensures\* (\w+) .*record self\.old \{ (\w+) = (record)?", re.S)
@@ -98,7 +97,7 @@ ABOUT_CONTRACTS = "\n".join(
             " that is not named, and `{A = T}` says which type an argument of a definition is.",
             "`[]`, `x ∷ xs` and `xs ++ ys` are lists, and `λ x. e` is a function. `p.0` and `p.1` are the parts of a pair.",
             "`T.run` is a member of the type `T`, by a trait that it has. `F.FnMut` is the contract of the closures of the type `F`.",
-            f"[These words]({relative(INDEX, STD)}) stand in most contracts: {', '.join(f'`{it}`' for it in IN_MOST)}.",
+            f"[These words]({relative(INDEX, WORDS)}) stand in most contracts: {', '.join(f'`{it}`' for it in IN_MOST)}.",
             "What only guides the search for proofs is left out: words that are always true, as `Seen`, and where a search begins. The source has it. A"
             " clause on what is written through a reference is a sentence below the contract.",
             "A sentence under \"In words\" says what a clause says. In it, the items of a stream are those before its end, if it ends, and the value of a"
@@ -229,7 +228,7 @@ class Reference:
 
     @functools.cached_property
     def words(self):
-        """The pages of words: the definitions that pages need, and the words that are none."""
+        """The words of the pages: the definitions that they need, and the words that are none."""
         needed, others = {}, {}
         for module in MODULES:
             for item in self.shown(module):
@@ -588,7 +587,7 @@ class Reference:
     def index(self):
         """Returns the page that lists the modules, and says how entries are read."""
         rows = [f"[`{called(module)}`]({relative(INDEX, index_of(module))}): {self.about(module)}" for module in filter(self.sources.items_of, MODULES)]
-        rows.append(f"[Words of contracts]({relative(INDEX, words.INDEX)}): their definitions.")
+        rows.append(f"[Words of contracts]({relative(INDEX, WORDS)}): their definitions.")
         listed = "\n".join(map(bullet, rows))
         names = "\n\n".join(["## All names", *self.all_names()])
         return f"{WRITTEN}\n# {FACADE} {version()}\n\nThe public items, each with its contract, by their modules:\n\n{listed}\n\n{ABOUT}\n{names}\n"
@@ -608,7 +607,7 @@ class Reference:
             yield index_of(module), self.index_of(module)
             for file, page in self.pages_of(module).items():
                 yield file, self.page(page)
-        yield from self.words.pages()
+        yield WORDS, self.words.page()
 
 
 def index_of(module):

@@ -36,8 +36,6 @@ MORE_FIELDS = "    // some fields are private"
 EXTENSIONS = ("StreamExt", "FutureExt", "AsyncReadExt", "AsyncBufReadExt", "AsyncWriteExt", "AsyncSeekExt")
 # The sentence of a type's comment that says which calls return it.
 MAKERS = re.compile(r"(Returned|Made) by \[`[^.]*\.")
-# How many methods of a type are too many for one page of docs/api.
-MANY = 9
 # A link in a comment.
 LINKED = re.compile(r"\[`([^`]*)`\](?:\(([^)]*)\))?")
 
@@ -320,12 +318,8 @@ class Sources:
         return made if made and MAKERS.search(made.says) and self.items_of(module).get(made.name) is made else item
 
     def page_of(self, item, module):
-        """Returns the page of docs/api that has an item's entry: that of the call, of the type or of the trait that the item belongs to. Of a type with many
-        methods each has a page of its own."""
-        home = self.home(item, module)
-        if item.owner is home and len(self.methods[home]) >= MANY:
-            return f"docs/api/{module}/{snake(home.name)}_{item.name}.md"
-        name = snake(home.name)
+        """Returns the page of docs/api that has an item's entry: that of the call, of the type or of the trait that the item belongs to."""
+        name = snake(self.home(item, module).name)
         short = name.removesuffix("_future")
         is_of_call = any(it.kind == "fn" and it.name == short for it in self.items_of(module).values())
         return f"docs/api/{module}/{short if is_of_call else name}.md"

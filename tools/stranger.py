@@ -10,14 +10,14 @@ ENTRY = re.compile(r"^## (?P<kind>\w+) `(?P<title>[\w:]+)`\n(?P<text>.*?)(?=^## 
 CODE = re.compile(r"^\[Code\]\((?:\.\./)+(crates/[\w/.]+)#L\d+\)", re.M)
 EXAMPLE = re.compile(r"^Example:\n\n```rust\n(.*?)^```$", re.M | re.S)
 CONTRACT = re.compile(r"^Contract:\n\n```text\n(.*?)^```$", re.M | re.S)
-# A word of a page, and its definition on the page that the link leads to.
-WORD = re.compile(r"\[`(?P<name>[^`]+)`\]\((?P<file>\.\./words/(?!std\.)\w+\.md)#[^)]*\)", re.M)
+# A word of a page, and where its link leads on the page of words.
+WORD = re.compile(r"\[`(?P<name>[^`]+)`\]\(\.\./words\.md#(?P<anchor>[^)]*)\)", re.M)
 # A definition that a page tells itself, and the file that it names.
 OWN_WORD = re.compile(r"^- \[`(?P<name>[^`]+)`\]\((?:\.\./)+(?P<path>crates/[^)]*)\): (?:\(`[\w.]+`\)\s)?(?P<says>.*(?:\n  .*)*)", re.M)
-DEFINITION = re.compile(r"^### `(?P<name>[^`]+)`\n\n(?:\(`[\w.]+`\)\s)?(?P<says>.*?)\n(?=\n##|\Z)", re.M | re.S)
-# The part of a page of definitions on one file, and that file.
-PART = re.compile(r"^## `specs/.*?(?=^## |\Z)", re.M | re.S)
-SOURCE = re.compile(r"\[Source\]\((?:\.\./)+(?P<path>[^)]+)\)")
+# A heading of the page of words: a file, or a word with what is said of it.
+SOURCE = r"### \[`specs/[^`]*`\]\((?:\.\./)+(?P<path>[^)]+)\)"
+HEADING = re.compile(rf"^(?:{SOURCE}|#{{3,4}} `(?P<name>[^`]+)`\n\n(?:\(`[\w.]+`\)\s)?(?P<says>.*?))\n(?=\n##|\Z)", re.M | re.S)
+WORDS = "docs/api/words.md"
 MADE_BY = re.compile(r"(?:Made|Returned) by `(?:\w+::)*(\w+)`")
 
 
@@ -86,11 +86,16 @@ def unlinked(text):
     return " ".join(re.sub(r"\[(`[^`]+`)\]\([^)]*\)", r"\1", text).split())
 
 
-def definitions(text):
-    """Yields each definition of a page, and the file that its part of the page names."""
-    for part in PART.findall(text):
-        source = SOURCE.search(part)
-        yield from ((found, source["path"] if source else "") for found in DEFINITION.finditer(part))
+def told_words(text):
+    """Returns what stands on the page of words, by the anchor of its heading: what is found of a word, and the file that its part names, "" for those of std."""
+    told, names, path = {}, [], ""
+    for found in HEADING.finditer(text):
+        path = found["path"] or path
+        if found["name"]:
+            anchor = re.sub(r"[^\w-]", "", found["name"].lower())
+            told[anchor if anchor not in names else f"{anchor}-{names.count(anchor)}"] = found, path
+            names.append(anchor)
+    return told
 
 
 def is_so(found, file):
@@ -100,31 +105,33 @@ def is_so(found, file):
     return bool(above) and " ".join(line.lstrip(" -") for line in above[1].splitlines()) == unlinked(found["says"])
 
 
-def faults_of_words(path, text):
-    """Yields each definition of a page that does not stand so in the file that the page names."""
-    for found, file in definitions(text):
-        if not is_so(found, file):
-            yield path, f"{found['name']} does not stand so in the file that it names"
+def faults_of_words(told):
+    """Yields each definition of the page of words that does not stand so in the file that the page names."""
+    for found, file in told.values():
+        if file and not is_so(found, file):
+            yield WORDS, f"{found['name']} does not stand so in the file that it names"
 
 
-def faults_of_page(path, text):
+def faults_of_page(path, text, words):
     """Yields what is not so in the entries of a page, and each word that none of them has or that is told otherwise where its link leads."""
     entries = [Entry(path, it) for it in ENTRY.finditer(text)]
     for entry in entries:
         for what in entry.faults():
             yield path, f"{entry.title}: {what}"
-    yield from faults_of_legend(path, text.partition("\n## Words\n")[2], entries)
+    yield from faults_of_legend(path, text.partition("\n## Words\n")[2], entries, words)
 
 
-def faults_of_legend(path, text, entries):
-    """Yields each word of a page that no entry means, and each definition that is not so."""
+def faults_of_legend(path, text, entries, words):
+    """Yields each word of a page that no entry means or whose link leads elsewhere, and each definition that is not so."""
     told = {it["name"]: it["path"] for it in OWN_WORD.finditer(text)}
     for found in WORD.finditer(OWN_WORD.sub("", text)):
-        file = os.path.normpath(os.path.join(os.path.dirname(path), found["file"]))
-        there = read_text(f"{TOP}/{file}") if os.path.isfile(f"{TOP}/{file}") else ""
-        told[found["name"]] = next((source for it, source in definitions(there) if it["name"] == found["name"]), "")
+        there, source = words.get(found["anchor"], ({"name": None}, ""))
+        if there["name"] != found["name"]:
+            yield path, f"the link of the word {found['name']} does not lead to it"
+        elif source:
+            told[found["name"]] = source
     for name, source in told.items():
-        if not source or not any(it.means(name, source) for it in entries):
+        if not any(it.means(name, source) for it in entries):
             yield path, f"the word {name} is not one that a contract or an example here means"
     for found in OWN_WORD.finditer(text):
         if not is_so(found, found["path"]):
@@ -133,8 +140,7 @@ def faults_of_legend(path, text, entries):
 
 def faults():
     """Yields what a reader of docs/api is told that is not so."""
-    pages = glob.glob("docs/api/*/*.md", root_dir=TOP)
-    for path in sorted(it for it in pages if not it.startswith("docs/api/words/")):
-        yield from faults_of_page(path, read_text(f"{TOP}/{path}"))
-    for path in sorted(glob.glob("docs/api/words/*.md", root_dir=TOP)):
-        yield from faults_of_words(path, read_text(f"{TOP}/{path}"))
+    words = told_words(read_text(f"{TOP}/{WORDS}"))
+    for path in sorted(glob.glob("docs/api/*/*.md", root_dir=TOP)):
+        yield from faults_of_page(path, read_text(f"{TOP}/{path}"), words)
+    yield from faults_of_words(words)

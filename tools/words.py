@@ -1,5 +1,5 @@
-"""The words of contracts in docs/api. A definition that one page alone needs is told on that page. The others have docs/api/words: a page for each
-crate, and one for the words of std and of the language."""
+"""The words of contracts in docs/api. A definition that one page alone needs is told on that page. The others have docs/api/words.md: first the words
+of std and of the language, then those of each crate."""
 import collections
 import functools
 import itertools
@@ -9,27 +9,21 @@ from repository import FACADE, TOP, read_text
 from sources import relative
 from vocabulary import PAGE as GLOSSARY, about_crate, bullet, imported, libraries, module_for_programs, wrapped
 
-FOLDER = "docs/api/words"
-INDEX, STD = f"{FOLDER}/README.md", f"{FOLDER}/std.md"
+PAGE = "docs/api/words.md"
 # What a page of docs/api begins with.
 WRITTEN = "<!--written by tools/documents-->\n"
 NAMED = re.compile(r"`([\w'-]+)`")
 ABOUT_STD = "Words of std, of the language and of the traits of the library, as contracts and the clauses of examples have them."
 ABOUT = (
-    "These pages have the definitions that more than one page of the reference needs, a page for each crate. A definition that one page alone needs is on"
-    f" that page. `tools/find NAME` prints each definition in full. On the pages a word in brackets is the module of `{FACADE}` from which a program imports the definition. The"
-    f" [glossary]({relative(INDEX, GLOSSARY)}) says how definitions are written."
+    "This page has the definitions that more than one page of the reference needs. A definition that one page alone needs is on that page."
+    f" `tools/find NAME` prints each definition in full. A word in brackets is the module of `{FACADE}` from which a program imports the definition. The"
+    f" [glossary]({relative(PAGE, GLOSSARY)}) says how definitions are written."
 )
 
 
-def file_of(word):
-    """Returns the page of a definition."""
-    return f"{FOLDER}/{word.crate}.md"
-
-
 def heading_of(path):
-    """Returns the heading of the part of a page on a file of specs/."""
-    return f"`{path.split('/', 2)[2]}`"
+    """Returns the heading of the part of the page on a file of specs/."""
+    return f"[`{path.split('/', 2)[2]}`]({relative(PAGE, path)})"
 
 
 def place_of(word):
@@ -66,20 +60,25 @@ class Words:
                 named.update(map(place_of, others_named))
                 left += others_named
         self.alone = {place: file for place, (file, *more) in users.items() if not more and place not in named}
-        # The headings of a page that differ in their case alone have other anchors.
-        self.anchors, counts = {}, collections.Counter()
-        for place in (it for it in every if it in self.by_place and it not in self.alone):
-            anchor = file_of(self.by_place[place]), anchor_of(place[2])
-            self.anchors[place] = f"{anchor[1]}{f'-{counts[anchor]}' if counts[anchor] else ''}"
+        # Headings of one name, or that differ in their case alone, have other anchors.
+        self.anchors, self.anchors_of_others, counts = {}, {}, collections.Counter()
+        told = sorted((it for it in every if it in self.by_place and it not in self.alone), key=lambda it: (libraries().index(it[0]), it[1]))
+        for anchors, key, name in (*((self.anchors_of_others, it, it) for it in self.names_of_others()), *((self.anchors, it, it[2]) for it in told)):
+            anchor = anchor_of(name)
+            anchors[key] = f"{anchor}{f'-{counts[anchor]}' if counts[anchor] else ''}"
             counts[anchor] += 1
 
+    def names_of_others(self):
+        """Returns the words that are no definitions of the library, in their order."""
+        return sorted(self.others, key=lambda it: (it.lower(), it))
+
     def link(self, word, here):
-        """Returns a link from a file to a definition that has a place in these pages."""
-        return f"[`{word.name}`]({relative(here, file_of(word), self.anchors[place_of(word)])})"
+        """Returns a link from a file to a definition that has a place on the page."""
+        return f"[`{word.name}`]({relative(here, PAGE, self.anchors[place_of(word)])})"
 
     def link_from(self, here, name, told):
         """Returns a link from a file to a word, which is a definition, or one of std or of the language."""
-        return f"[`{name}`]({relative(here, STD, anchor_of(name))})" if isinstance(told, str) else self.link(told, here)
+        return f"[`{name}`]({relative(here, PAGE, self.anchors_of_others[name])})" if isinstance(told, str) else self.link(told, here)
 
     def is_alone(self, word):
         """Tells whether one page alone needs a definition."""
@@ -100,31 +99,18 @@ class Words:
         text = NAMED.sub(linked, word.says)
         return f"(`{module}`) {text}" if module else text
 
-    def page(self, file, words):
-        """Returns the page of a crate, of which each module has a part."""
-        parts = [WRITTEN.rstrip(), f"# Words of `{words[0].crate}`"]
+    def part(self, crate, words):
+        """Yields the part of the page on a crate, of which each module has a part."""
+        yield f"## `{crate}`"
+        yield wrapped(about_crate(crate))
         for path, there in itertools.groupby(words, key=lambda it: it.path):
-            parts += [f"## {heading_of(path)}", f"[Source]({relative(file, path)})."]
-            parts += [f"### `{it.name}`\n\n{wrapped(self.says(it, file))}" for it in there]
+            yield f"### {heading_of(path)}"
+            yield from (f"#### `{it.name}`\n\n{wrapped(self.says(it, PAGE))}" for it in there)
+
+    def page(self):
+        """Returns the page."""
+        parts = [WRITTEN.rstrip(), "# Words of contracts", wrapped(ABOUT), "## Words of std and of the language", ABOUT_STD]
+        parts += [f"### `{it}`\n\n{wrapped(self.others[it])}" for it in self.names_of_others()]
+        for crate, words in itertools.groupby((self.by_place[it] for it in self.anchors), key=lambda it: it.crate):
+            parts += self.part(crate, words)
         return "\n\n".join(parts) + "\n"
-
-    def std(self):
-        """Returns the page of the words that are no definitions of the library."""
-        told = [f"### `{it}`\n\n{wrapped(self.others[it])}" for it in sorted(self.others, key=lambda it: (it.lower(), it))]
-        return "\n\n".join([WRITTEN.rstrip(), "# Words of std and of the language", ABOUT_STD, *told]) + "\n"
-
-    def index(self, files):
-        """Returns the list of the pages."""
-        rows = [f"[Words of std and of the language]({relative(INDEX, STD)})"]
-        rows += [f"[`{words[0].crate}`]({relative(INDEX, file)}): {about_crate(words[0].crate)}" for file, words in files.items()]
-        return "\n\n".join([WRITTEN.rstrip(), "# Words of contracts", wrapped(ABOUT), "\n".join(map(bullet, rows))]) + "\n"
-
-    def pages(self):
-        """Yields the path of each page, and its text."""
-        files = {}
-        for word in sorted((self.by_place[it] for it in self.anchors), key=lambda it: (libraries().index(it.crate), it.module)):
-            files.setdefault(file_of(word), []).append(word)
-        yield INDEX, self.index(files)
-        yield STD, self.std()
-        for file, words in files.items():
-            yield file, self.page(file, words)
