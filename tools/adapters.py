@@ -30,7 +30,7 @@ def relations():
     """Returns the adapters of each relation that several share."""
     found = {it: [] for it in RELATIONS}
     for _, made, _, trait, _, (crate, module, word), _ in calls():
-        said = re.search(rf"^{word} .*= Through run \(?(\w+)", read_text(f"{TOP}/{module_path(crate, module)}"), re.M)
+        said = re.search(rf"^ *{word} .*= Through run \(?(\w+)", read_text(f"{TOP}/{module_path(crate, module)}"), re.M)
         if trait == "Stream" and said and said[1] in found:
             found[said[1]] += made
     return found

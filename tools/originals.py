@@ -21,6 +21,11 @@ def lines():
             yield (found["module"], found["title"], found["note"]) if found else (None, line, None)
 
 
+def names():
+    """Returns the names of the public items of futures-lite, a method's without its type or trait."""
+    return {title.rpartition("::")[2] for _, title, _ in lines()}
+
+
 @functools.cache
 def sources():
     return Sources()

@@ -6,17 +6,19 @@ import time
 
 from repository import TOP
 
+NICE = ("nice", "-n", "5")
 COUNTS = re.compile(r"(\d+) passed, (\d+) failed$")
 
 
 class Part:
-    """A tool that ran. Its last line, with the counts, is held back."""
+    """A tool that ran, in the background if another one is to have the processors. Its last line, with the counts, is held back."""
 
-    def __init__(self, name, *words, quiet=False):
+    def __init__(self, name, *words, quiet=False, in_background=False):
         self.name, begun = name, time.time()
         how = {"cwd": TOP, "stdin": subprocess.DEVNULL, "stdout": subprocess.PIPE, "stderr": subprocess.STDOUT, "text": True, "errors": "replace"}
         self.printed, self.passed, self.failed = [], 0, 0
-        with subprocess.Popen([f"{TOP}/tools/{name}", *words], **how) as ran:
+        command = [*(NICE if in_background else ()), f"{TOP}/tools/{name}", *words]
+        with subprocess.Popen(command, **how) as ran:
             for line in map(str.rstrip, ran.stdout):
                 if found := COUNTS.match(line):
                     self.passed, self.failed = map(int, found.groups())

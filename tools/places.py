@@ -3,6 +3,7 @@ import functools
 import glob
 import re
 
+import originals
 import pictures
 import speed
 import vocabulary
@@ -208,12 +209,13 @@ def cases_measured():
 
 
 def measured():
-    """Each public function that does work is called by a case of the measured program, and each case there is one over the original, and has a row. Those
-    of `laws` are for proofs and tests."""
+    """Each public function that does work is called by a case of the measured program, and each case there has a row, and is one over the original, but one
+    that has the name of a call that the original lacks. Those of `laws` are for proofs and tests."""
     names = {it.name for module, of_module in functions().items() if module != "laws" for it in of_module if not it.does_nothing}
     yield from lacking(THROUGHPUT, names, names & names_called_in([f"{THROUGHPUT}/src"]), NO_CASE, "no case calls")
     cases, rows_of = words_known(f"{THROUGHPUT}/src/*.rs"), {it.case for it in speed.rows() if it.last}
-    yield from lacking(f"{THROUGHPUT}/original", cases, cases & words_known(f"{THROUGHPUT}/original/src/*.rs"), set(), "there is no case")
+    of_both = cases - (names - originals.names())
+    yield from lacking(f"{THROUGHPUT}/original", of_both, of_both & words_known(f"{THROUGHPUT}/original/src/*.rs"), set(), "there is no case")
     yield from lacking(f"{THROUGHPUT}/measured.txt", cases_measured(), cases_measured() & rows_of, set(), "there is no row of")
 
 

@@ -1,8 +1,10 @@
-"""The table and the plot of docs/SPEED.md, from throughput/measured.txt.
+"""The tables and the plot of docs/SPEED.md, from throughput/measured.txt and throughput/large.txt.
 
 A line there is a case, its size N, the instructions of a run at N and at 10 N, those that making its bytes takes for each item, and the
 instructions of an item in the two builds of the original, without those of its bytes. `tools/throughput FOLDER --measure` writes all but the
 last two, and `tools/throughput FOLDER --original` those. The line that begins with BUILD says of what build they are.
+
+A line of throughput/large.txt is a case, its size, and the seconds and the megabytes of a run here, of the two builds of the original, and over std.
 """
 import math
 import textwrap
@@ -32,6 +34,17 @@ MADE = {
     **dict.fromkeys(("copied", "cloned"), ("made_numbers", 1)),
     **dict.fromkeys(("cursor_overwrite", "vectored_read"), ("made_noise", 16)),
 }
+# The cases that are run in the large, with their sizes; and the case that has the same work over std, in the original's program.
+LARGE_FILE = f"{TOP}/throughput/large.txt"
+LARGE_HEAD = "| Case | Size | here, s | original, s | LTO, s | std, s | here, MB | original, MB | std, MB |\n|---|---|---|---|---|---|---|---|---|\n"
+ITEMS, LINES, BYTES = 10_000_000, 12_500_000, 200_000_000
+LARGE = {
+    **dict.fromkeys(("nest_of_eight", "collect", "or_streams", "race_streams"), ITEMS),
+    **dict.fromkeys(("lines", "split"), LINES),
+    **dict.fromkeys(("copy", "read_to_end", "read_to_string"), BYTES),
+    **dict.fromkeys(("values", "collect_frames", "served_lines"), ITEMS),
+}
+OVER_STD = {it: f"std_{it}" for it in ("lines", "split", "copy", "read_to_end", "read_to_string")}
 # The plot has ratios from the least to the most; what is beyond is drawn at its edge.
 LEAST, MOST = 0.25, 4.0
 
@@ -71,6 +84,17 @@ def table():
     """Returns the table of the page, and of what build the original is."""
     lines = [f"| `{it.case}` | " + " | ".join(shown(number) for number in (it.here, it.original, it.lto)) + " |" for it in rows()]
     return "\n\n" + HEAD + "\n".join(lines) + "\n\n" + textwrap.fill(build(), 120) + "\n\n"
+
+
+def large_table():
+    """Returns the table of the page on large sizes."""
+    lines = []
+    for line in (it for it in read_text(LARGE_FILE).splitlines() if not it.startswith("#")):
+        case, size, *told = line.split()
+        seconds, megabytes = told[::2], told[1::2]
+        peaks = [megabytes[it] for it in (0, 1, 3)]
+        lines.append(f"| `{case}` | {int(size):,} | " + " | ".join("-" if float(it) == 0 else it for it in (*seconds, *peaks)) + " |")
+    return "\n\n" + LARGE_HEAD + "\n".join(lines) + "\n\n"
 
 
 def across(ratio):

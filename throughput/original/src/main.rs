@@ -7,6 +7,7 @@ mod journals;
 mod merging;
 mod polled;
 mod sizes;
+mod std_cases;
 mod streams;
 mod texts;
 mod values;
@@ -39,6 +40,7 @@ fn computed(cx: &mut Context<'_>, name: &str, n: u64) -> Option<u64> {
     streams::computed(cx, name, n)
         .or_else(|| consuming::computed(cx, name, n))
         .or_else(|| merging::computed(cx, name, n))
+        .or_else(|| std_cases::computed(name, n))
         .or_else(|| computed_of_others(cx, name, n))
 }
 
