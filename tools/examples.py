@@ -17,9 +17,11 @@ from vocabulary import snake
 # The crate that the tests are compiled in, and its line for crates.txt.
 NAME = "examples"
 LINE = f"{NAME} tests_may=Threads+Wait: futures_lite framed futures bytes tokio_util rand_core rand_pcg"
-# The crates in crates.txt that have the functions with clauses: one a module, and two for the methods of `StreamExt`. They are proved side by side.
+# The crates in crates.txt that have the functions with clauses, which are proved side by side. A part is a module of the library, or is of the methods of
+# `StreamExt`.
 EXTENSION, ADAPTERS, CONSUMING = "StreamExt", "adapters", "consuming"
-PROVED = {it: f"proved_examples_{it}" for it in (*MODULES, ADAPTERS, CONSUMING)}
+PROVED = {it: f"proved_examples_{it}" for it in MODULES}
+PROVED |= dict.fromkeys(("future", "stream"), "proved_examples_functions") | dict.fromkeys((ADAPTERS, CONSUMING), "proved_examples_methods")
 ABOUT = {ADAPTERS: f"`{EXTENSION}` that return a stream", CONSUMING: f"`{EXTENSION}` that consume a stream"}
 # What an example may name with no import of its own: the words of a clause, and what a function that waits takes.
 GHOST = {
@@ -119,18 +121,25 @@ def proofs():
             uses[part] += USE.findall(block) if found else []
             # (two examples may have functions of one name)
             functions[part] += [re.sub(r"^fn (\w+)", rf"pub fn {name_of(item, number)}_\1", it, flags=re.M) for it in found]
-    files = {}
-    for part, crate in PROVED.items():
-        if functions[part]:
-            text, there = "\n".join(functions[part]), merged(uses[part])
-            told = f"in the examples of the methods of {ABOUT[part]}" if part in ABOUT else f"in the examples of `futures_lite::{part}`"
-            head = f"//! The functions with clauses {told}.\n#![tactic(auto)]\n"
-            files[f"{crate}/src/lib.rt"] = laid_out(f"{head}{imports(text, there)}{there}\n{text}")
+    files, parts = {}, {it: [part for part in PROVED if PROVED[part] == it and functions[part]] for it in PROVED.values()}
+    for crate, there in parts.items():
+        if there:
+            about = "//! Functions with clauses in the examples of doc comments.\n#![tactic(auto)]\n\n"
+            files[f"{crate}/src/lib.rt"] = about + "".join(f"pub mod {it};\n" for it in sorted(there))
+        for part in there:
+            files[f"{crate}/src/{part}.rt"] = text_of(part, functions[part], merged(uses[part]))
     return files
 
 
+def text_of(part, functions, uses):
+    """Returns a module of a crate of proofs: these functions, behind these imports and what else they name."""
+    text = "\n".join(functions)
+    told = f"in the examples of the methods of {ABOUT[part]}" if part in ABOUT else f"in the examples of `futures_lite::{part}`"
+    return laid_out(f"//! The functions with clauses {told}.\n{imports(text, uses)}{uses}\n{text}")
+
+
 def laid_out(text):
-    """Returns the text of a crate's root as `rt fmt` writes it."""
+    """Returns the text of a module as `rt fmt` writes it."""
     with tempfile.TemporaryDirectory(prefix="layout-") as place:
         os.makedirs(f"{place}/src")
         root = f"{place}/src/lib.rt"

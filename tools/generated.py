@@ -18,7 +18,7 @@ from repository import TOP, files_of, read_text
 from words import WRITTEN
 
 # The folders in which every file is generated.
-WHOLE = ("docs/api", "docs/pictures", *(f"crates/{it}/src" for it in examples.PROVED.values()))
+WHOLE = ("docs/api", "docs/pictures", *(f"crates/{it}/src" for it in dict.fromkeys(examples.PROVED.values())))
 
 # A line of an index of modules.
 MODULE = re.compile(r"^(?:pub )?mod (\w+)\n", re.M)

@@ -1,6 +1,4 @@
 //! The functions with clauses in the examples of `futures_lite::future`.
-#![tactic(auto)]
-
 ghost use Rattle.std.specs.Prelude.{◌≡◌, Err, IfOk, None, Some};
 
 use futures_lite::{Context, FutureExt, Poll, future};

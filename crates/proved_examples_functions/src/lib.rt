@@ -1,0 +1,5 @@
+//! Functions with clauses in the examples of doc comments.
+#![tactic(auto)]
+
+pub mod future;
+pub mod stream;

@@ -1,0 +1,5 @@
+//! Functions with clauses in the examples of doc comments.
+#![tactic(auto)]
+
+pub mod adapters;
+pub mod consuming;
