@@ -2,4 +2,3 @@
 #![tactic(auto)]
 
 pub mod adapters;
-pub mod consuming;
