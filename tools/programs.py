@@ -15,7 +15,22 @@ from concurrent.futures import ThreadPoolExecutor
 import examples
 import together
 from compiled import KEEP, NotBuilt, compile_at
-from repository import PARTS, TESTS, TEST_LINES, TOP, Crate, crates_in, in_cache, lay_beside, lay_crates, lay_texts, stop, sum_of_crates, sum_of_folder
+from repository import (
+    PARTS,
+    TESTS,
+    TEST_LINES,
+    TOP,
+    Crate,
+    crates_in,
+    in_cache,
+    lay_beside,
+    lay_crates,
+    lay_texts,
+    shared_below,
+    stop,
+    sum_of_crates,
+    sum_of_folder,
+)
 
 FAULTS = f"{TOP}/tools/faults.c"
 # The programs beside the crates, with their lines for crates.txt.
@@ -56,9 +71,12 @@ def line_and_folder(name):
 def sum_of_program(name):
     """The sum of all that a program is made from."""
     line, folder = line_and_folder(name)
-    found = hashlib.sha256(sum_of_crates(crates_in(TOP), Crate(line).below, PARTS[:2]).encode() + line.encode())
-    for part in PARTS[:2] if folder else ():
-        found.update(sum_of_folder(f"{folder}/{part}"))
+    shared = shared_below(line)
+    below = [name for it in (Crate(line), *shared) for name in it.below]
+    found = hashlib.sha256(sum_of_crates(crates_in(TOP), below, PARTS[:2]).encode() + "".join([line, *(it.line for it in shared)]).encode())
+    for at in (*(f"{TESTS}/{it.name}" for it in shared), *[folder] * bool(folder)):
+        for part in PARTS[:2]:
+            found.update(sum_of_folder(f"{at}/{part}"))
     if not folder:
         found.update("".join(written(name).values()).encode())
     for file in (KEEP, FAULTS):

@@ -16,7 +16,7 @@ PARTS = ("src", "specs", "proofs")
 FACADE = "futures_lite"
 # Crates that stand on the facade, and that users list beside it. Each has a page in docs/api.
 BESIDE = ("framed",)
-# The crates of tests stand below one folder, with their lines.
+# The crates of tests stand below one folder, with their lines. What they share stands there too, so that no gate proves it.
 TESTS, TEST_LINES = "tests", "tests/lines.txt"
 # The suffixes in a crate of those of a program beside the crates: `rt ci` takes a file of a crate's kind in a crate alone.
 IN_A_CRATE = {".rs": ".rt", ".txt": ".antt"}
@@ -204,9 +204,27 @@ def lay_texts(copy, texts, line):
     return at
 
 
+def shared_below(line):
+    """Returns the crates of tests that a crate uses, by its line, and those that they use."""
+    tests = crates_in(TOP, TEST_LINES)
+    return [tests[it] for it in with_below(tests, Crate(line).below)]
+
+
+def crates_with_tests():
+    """Returns the names of the crates of tests but those that others of them use, which have no tests."""
+    tests = crates_in(TOP, TEST_LINES).values()
+    return [it.name for it in tests if not any(it.name in other.below for other in tests)]
+
+
 def lay_beside(copy, folder, line):
-    """Copies a crate that stands beside the others, by its line for crates.txt, into the copy; returns its folder there."""
-    return lay_texts(copy, {file: read_text(f"{TOP}/{folder}/{file}") for file in files_of(f"{TOP}/{folder}")}, line)
+    """Copies a crate that stands beside the others, by its line for crates.txt, into the copy, and the crates of tests that it uses. One that is there
+    already stays. Returns the crate's folder there."""
+    at = f"{copy}/crates/{Crate(line).name}"
+    if not os.path.isdir(at):
+        for it in shared_below(line):
+            lay_beside(copy, f"{TESTS}/{it.name}", it.line)
+        lay_texts(copy, {file: read_text(f"{TOP}/{folder}/{file}") for file in files_of(f"{TOP}/{folder}")}, line)
+    return at
 
 
 @functools.cache

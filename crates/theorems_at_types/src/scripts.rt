@@ -7,11 +7,11 @@ ghost use Rattle.lite_theorems.specs.Interleaving.{Interleaves, items_given};
 use futures_lite::laws::{collect_or, collect_race};
 use futures_lite::stream::script;
 use futures_lite::{Future, Poll};
+use lite_mock::polled;
 use rand_core::Rng;
 use std::alloc::AllocGlobal;
 use std::io;
 use std::random::RandomSource;
-use test_support::polled;
 
 /// Collects `or` of the scripts of these answers by at most `polls` polls. What was collected is an interleaving of the
 /// items of `first` before its first end and of those of `second` before its first end.

@@ -1,6 +1,6 @@
 use Rattle.std.proofs.Common.{◌≡◌, length}
 use Rattle.lite_base.specs.Answers.{Waiting}
-use Rattle.test_support.proofs.polls.polled.Given as goal
+use Rattle.lite_mock.proofs.polls.polled.Given as goal
 
 abbrev pub invariant-loop : goal.invariant-loop
 invariant-loop g l = record {

@@ -1,7 +1,7 @@
 use Rattle.std.proofs.Common.{◌∙◌, ◌≡◌, [], ◌∷◌, ◌++◌, ap, arith, length}
 use Rattle.futures.specs.declared.task.Poll.TheVariants.{Ready, Pending}
-use Rattle.test_support.specs.Polled.{ends_polled, pends_more, waits_polled}
-use Rattle.test_support.proofs.polls.polled.Goals as goal
+use Rattle.lite_mock.specs.Polled.{ends_polled, pends_more, waits_polled}
+use Rattle.lite_mock.proofs.polls.polled.Goals as goal
 
 pub loop-preserved : goal.loop-preserved
 loop-preserved g c =

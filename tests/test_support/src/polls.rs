@@ -1,10 +1,9 @@
-//! What polls of a stream or a future answer, in a task of their own.
+//! What polls of a stream answer, in a task of their own.
 ghost use Rattle.std.specs.Prelude.{◌≡◌, IfOk, length, Some};
-ghost use Rattle.test_support.specs.Polled.{PolledUpTo};
 ghost use Rattle.futures.specs.declared.task.Poll.TheVariants.{Ready};
 
 use futures::task::{Doorbell, Solo};
-use lite_base::{Counted, Future, Poll, Stream};
+use lite_base::{Counted, Poll, Stream};
 use lite_laws::run;
 use std::alloc::AllocGlobal;
 use std::io;
@@ -26,33 +25,6 @@ where
     let ran = run(stream, &mut cx, polls, &mut out);
     cx.cancel();
     ran?;
-    Ok(out)
-}
-
-/// What the polls of a future answer, up to its value and at most `polls` of them, in a task of its own. An error is the
-/// system's: no memory, or no random bytes for the task's name; what was polled before it is not told then.
-pub fn polled<R, F>(rt: &R, future: &mut F, polls: usize) -> io::Result<Vec<Poll<F::Output>>>
-where
-    R: RandomSource + AllocGlobal,
-    F: Future<Output: Drop>,
-    requires { F.can_poll future.old }
-    ensures { IfOk result (λ out. F.run future.old out.items future.new × PolledUpTo polls out.items) }
-{
-    let solo = Solo::new(rt, Doorbell::spinning())?;
-    let mut out = Vec::new(rt.alloc());
-    for _ in 0..polls {
-        out.reserve(1)?;
-        let mut cx = solo.begin();
-        let answer = future.poll(&mut cx);
-        cx.cancel();
-        match answer {
-            Poll::Pending => out.push_reserved(Poll::Pending),
-            Poll::Ready(value) => {
-                out.push_reserved(Poll::Ready(value));
-                return Ok(out);
-            }
-        }
-    }
     Ok(out)
 }
 

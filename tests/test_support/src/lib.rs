@@ -14,6 +14,7 @@ pub use calls::{
 };
 pub use compared::{gives, lends, try_read_room};
 pub use entries::{are, cursor_on, got, journal_on};
-pub use polls::{answers, firm, is_woken, item, polled, ranked};
+pub use lite_mock::polled;
+pub use polls::{answers, firm, is_woken, item, ranked};
 pub use refusing::Refusing;
 pub use shown::shows;
