@@ -32,8 +32,6 @@ pub use Rattle.lite_stream.specs.Scan.{scan_parts}
 pub use Rattle.lite_stream.specs.TakeWhile.{take_while_parts}
 pub use Rattle.lite_views.proofs.Consume.{only_made, value_made}
 pub use Rattle.lite_views.proofs.Futures.{gathered_left, when_less}
-pub use Rattle.lite_views.proofs.Merge.{or_first_never, or_second_never, race_first_never, race_second_never}
-pub use Rattle.lite_views.proofs.Merge.{or_at_once as stream_or_at_once}
 pub use Rattle.lite_views.proofs.Pieces.{pieces_listed}
 pub use Rattle.lite_views.proofs.Texts.{text_left}
 pub use Rattle.lite_views.proofs.Views.{lent_lists, listed_through, seen}

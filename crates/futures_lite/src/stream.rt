@@ -280,6 +280,7 @@ pub fn once_future<F: Future>(future: F) -> OnceFuture<F>
 ///
 /// assert_eq!(rt; repeated(&rt, 7, 2)?.as_slice(), [Ok(7), Ok(7)].as_slice());
 /// ```
+#[tactic(auto, using(lite_views::proofs::Views::seen, lite_views::proofs::Repeat::repeated_on))]
 pub fn repeat<T: Clone>(item: T) -> Repeat<T>
     ensures made { result ≡ record { item = item } }
     ensures on { T.is_infallible item → ((y : T) → T.is_clone item y → y ≡ item)
@@ -531,6 +532,7 @@ where
 /// let both = stream::or(stream::once(1u8), stream::once(2)).collect::<Vec<_>>(rt.alloc());
 /// assert_eq!(rt; future::block_on(&rt, both)??.as_slice(), [1, 2].as_slice());
 /// ```
+#[tactic(auto, using(lite_views::proofs::Merge::or_rules))]
 pub fn or<T, S1, S2>(stream1: S1, stream2: S2) -> Or<S1, S2>
 where
     S1: Stream<Item = T>,
@@ -590,6 +592,7 @@ where
 /// let got = future::block_on(&rt, merged.collect::<BTreeSet<_>>(rt.alloc()))??;
 /// assert!(rt; got.iter().copied().eq([0, 1, 2, 7, 8].into_iter()));
 /// ```
+#[tactic(auto, using(lite_views::proofs::Merge::race_rules))]
 pub fn race<T, S1, S2, R>(stream1: S1, stream2: S2, rng: R) -> Race<S1, S2, R>
 where
     S1: Stream<Item = T>,
@@ -643,6 +646,7 @@ where
 /// assert_eq!(rt; orders[0].len(), 18);
 /// assert_eq!(rt; orders[0].as_slice(), orders[1].as_slice());
 /// ```
+#[tactic(auto, using(lite_views::proofs::Merge::race_rules))]
 pub fn race_with_seed<T, S1, S2>(stream1: S1, stream2: S2, seed: u64) -> Race<S1, S2, Pcg32>
 where
     S1: Stream<Item = T>,
@@ -773,6 +777,7 @@ pub trait StreamExt: Stream {
     ///
     /// assert_eq!(rt; twice(&rt, vec![in rt.alloc(); 1, 2]?)?.as_slice(), [1, 1, 2, 2].as_slice());
     /// ```
+    #[tactic(auto, using(lite_views::proofs::Views::seen, lite_views::proofs::Holding::flat_mapped_lists))]
     final fn flat_map<U, F>(self, f: F) -> FlatMap<Self, U, F>
     where
         Self: Counted + Sized,
@@ -804,6 +809,7 @@ pub trait StreamExt: Stream {
     /// let got = future::block_on(&rt, parts.flatten().collect::<Vec<_>>(rt.alloc()))??;
     /// assert_eq!(rt; got.as_slice(), [1, 2, 5, 6].as_slice());
     /// ```
+    #[tactic(auto, using(lite_views::proofs::Views::seen, lite_views::proofs::Holding::flattened_lists))]
     final fn flatten(self) -> Flatten<Self>
     where
         Self: Counted + Sized,
@@ -839,6 +845,7 @@ pub trait StreamExt: Stream {
     ///
     /// assert_eq!(rt; doubled(&rt, vec![in rt.alloc(); 1, 2, 3]?)?.as_slice(), [2, 4, 6].as_slice());
     /// ```
+    #[tactic(auto, using(lite_views::proofs::Views::seen, lite_views::proofs::Holding::awaited_lists))]
     final fn then<F, Fut>(self, f: F) -> Then<Self, F, Fut>
     where
         Self: Sized,
@@ -874,6 +881,7 @@ pub trait StreamExt: Stream {
     ///
     /// assert_eq!(rt; halves(&rt, vec![in rt.alloc(); 1, 2, 4]?)?.as_slice(), [1, 2].as_slice());
     /// ```
+    #[tactic(auto, using(lite_views::proofs::Views::seen, lite_views::proofs::FilterMap::filter_mapped_lists, lite_views::proofs::FilterMap::filter_map_fewer))]
     final fn filter_map<T, F>(self, f: F) -> FilterMap<Self, F>
     where
         Self: Counted + Sized,
@@ -985,6 +993,7 @@ pub trait StreamExt: Stream {
     /// assert_eq!(rt; future::block_on(&rt, below.next())?, None);
     /// assert_eq!(rt; future::block_on(&rt, below.next())?, Some(4));
     /// ```
+    #[tactic(auto, using(lite_views::proofs::Views::seen, lite_views::proofs::MapWhile::mapped_while_lists, lite_views::proofs::MapWhile::map_while_fewer))]
     final fn map_while<B, F>(self, f: F) -> MapWhile<Self, F>
     where
         Self: Sized,
@@ -1212,6 +1221,7 @@ pub trait StreamExt: Stream {
     /// let both = stream::once(1u8).or(stream::once(2)).collect::<Vec<_>>(rt.alloc());
     /// assert_eq!(rt; future::block_on(&rt, both)??.as_slice(), [1, 2].as_slice());
     /// ```
+    #[tactic(auto, using(lite_views::proofs::Merge::or_rules))]
     final fn or<S>(self, other: S) -> Or<Self, S>
     where
         Self: Sized,
@@ -1270,6 +1280,7 @@ pub trait StreamExt: Stream {
     /// let got = future::block_on(&rt, merged.collect::<BTreeSet<_>>(rt.alloc()))??;
     /// assert!(rt; got.iter().copied().eq([0, 1, 2, 7, 8].into_iter()));
     /// ```
+    #[tactic(auto, using(lite_views::proofs::Merge::race_rules))]
     final fn race<S, R>(self, other: S, rng: R) -> Race<Self, S, R>
     where
         Self: Sized,
@@ -1421,6 +1432,7 @@ pub trait StreamExt: Stream {
     /// assert_eq!(rt; future::block_on(&rt, clones.next())?, Some(Ok(2)));
     /// assert_eq!(rt; future::block_on(&rt, clones.next())?, None);
     /// ```
+    #[tactic(auto, using(lite_views::proofs::Views::seen, lite_views::proofs::Holding::cloned_lists))]
     final fn cloned<'a, T: 'a>(self) -> Cloned<Self>
     where
         Self: Stream<Item = &'a T> + Sized,
@@ -1605,6 +1617,7 @@ pub trait StreamExt: Stream {
     /// assert_eq!(rt; future::block_on(&rt, items.next())?, Some(5));
     /// assert_eq!(rt; seen.get(), 5);
     /// ```
+    #[tactic(auto, using(lite_views::proofs::Views::seen, lite_views::proofs::Inspect::shown_lists))]
     final fn inspect<F>(self, f: F) -> Inspect<Self, F>
     where
         Self: Sized,

@@ -4,13 +4,18 @@ use Rattle.std.specs.Prelude.{◌≡◌, List, [], ◌∷◌, ◌++◌, map, ref
 use Rattle.lite_views.specs.Uses.{inl, inr, ap, sym, subst, append-nil, Called, Mut, AllByRecursion, Bor, Poll, Ready, Pending, Answer, Gives}
 use Rattle.lite_views.specs.Uses.{Waiting, end, Always, handed, Question, Runs, Flat, Expands, HandsOut, Exchanges}
 use Rattle.lite_base.specs.Calling.{Calls}
-use Rattle.lite_reshape.specs.Cloned.{Clones, IsCloneRefusal, Refers}
+use Rattle.lite_reshape.specs.Cloned.{Clones, ClonesAll, IsCloneRefusal, Refers, cloned_parts}
 use Rattle.lite_reshape.specs.Expanding.{Expanding}
 use Rattle.lite_reshape.specs.FlatMap.{FlatMaps}
-use Rattle.lite_reshape.specs.Flatten.{Flattening}
+use Rattle.lite_reshape.specs.Flatten.{Flattening, Flattens}
+use Rattle.lite_reshape.specs.Inner.{flatten_parts}
+use Rattle.lite_reshape.specs.Then.{Thens, then_parts}
+use Rattle.lite_reshape.specs.declared.cloned.Cloned.{Cloned}
+use Rattle.lite_reshape.specs.declared.flatten.Flatten.{Flatten}
+use Rattle.lite_reshape.specs.declared.then.Then.{Then}
 use Rattle.lite_reshape.specs.declared.flat_map.FlatMap.{FlatMap}
 use Rattle.lite_views.proofs.Continuing.{continued_fits, endless_fits}
-use Rattle.lite_views.proofs.Views.{Carries, listed}
+use Rattle.lite_views.proofs.Views.{Carries, listed, listed_through}
 use Rattle.lite_views.specs.Views.{Fits, HasValue, Lists, ListsAs}
 
 pub waiting_fits : {A : Type 0} (l : List (Answer A)) (xs : List A) → Waiting l → Fits l xs
@@ -61,7 +66,7 @@ gives_handed [] v g = absurd g
 gives_handed (Pending ∷ ins) v g = gives_handed ins v g
 gives_handed (Ready x ∷ ins) v g = (ap Some g.0, ap (map (handed Some)) g.1)
 
-pub awaited_fits : {F A V B : Type 0} (call : Question F A V) (run : Runs (Poll B) V) (h : A → B) (f : F)
+awaited_fits : {F A V B : Type 0} (call : Question F A V) (run : Runs (Poll B) V) (h : A → B) (f : F)
     → ((x : A) (v : V) (g : F) → call f x v g → (g ≡ f) × HasValue run v (h x))
     → (xs : List A) → Carries (Expanding call (HandsOut run)) (f, None) xs (map h xs)
 unfolding HasValue
@@ -76,6 +81,14 @@ awaited_fits call run h f acts =
           (gives_handed s.ins s.value s.finishes.gives),
     ))
 
+pub awaited_lists : {S F V A B : Type 0} (run : Runs (Answer A) S) (g : Mut F (A × Unit {0}) V) (run' : Runs (Poll B) V)
+    (x : Then S F V) (h : A → B) (xs : List A) → x.future ≡ None → Lists run x.stream xs
+    → ((y : A) (v : V) (k : F) → Called g x.f (y, tt) v k → (k ≡ x.f) × HasValue run' v (h y))
+    → ListsAs (Thens run (Calls g) run') x (map h xs)
+awaited_lists run g run' x h xs none lists makes =
+    listed_through then_parts run (Expanding (Calls g) (HandsOut run')) x xs (map h xs) lists
+    (rw none (awaited_fits (Calls g) run' h x.f makes xs))
+
 -- `cloned`, where a clone is not refused and is equal
 module _ {T E : Type 0} (is_clone : T → T → Type 0) (is_infallible : T → Type 0)
     (infallible : (x : T) → is_infallible x)
@@ -88,7 +101,7 @@ module _ {T E : Type 0} (is_clone : T → T → Type 0) (is_infallible : T → T
   abbrev clone_shown : Bor T → Result T E
   clone_shown x = Ok x.now
 
-  pub cloned_fits : (xs : List (Bor T))
+  cloned_fits : (xs : List (Bor T))
       → Carries (Expanding Refers (Clones is_clone is_infallible)) (tt, None) xs (map clone_shown xs)
   cloned_fits =
       expanded_fits Refers (Clones is_clone is_infallible) clone_shown tt
@@ -97,6 +110,13 @@ module _ {T E : Type 0} (is_clone : T → T → Type 0) (is_infallible : T → T
         λ out w s. rw (none_refused v out s.0) tt,
         λ out s. rw (s.4, none_refused v s.0 s.2, ← c) (ap (λ z. Some (Ok z)) (equal v.now s.1 s.3), refl),
       ))
+
+  pub cloned_lists : {S : Type 0} (run : Runs (Answer (Bor T)) S) (x : Cloned S (Bor T)) (xs : List (Bor T))
+      → x.held ≡ None → Lists run x.stream xs
+      → ListsAs (ClonesAll {E = E} is_clone is_infallible run) x (map (λ y. Ok y.now) xs)
+  cloned_lists run x xs none lists =
+      listed_through cloned_parts run (Expanding Refers (Clones is_clone is_infallible)) x xs (map clone_shown xs) lists
+      (rw none (cloned_fits xs))
 
 -- `flatten` and `flat_map`: the answers, up to their first end, are streams, each with the list that h makes of the
 -- item in its place
@@ -159,5 +179,12 @@ module _ {V B : Type 0} (run : Runs (Answer B) V) (h : V → List B) (lists : (v
   itself_makes (Ready (Some v) ∷ m) [] e = absurd e
   itself_makes (Ready (Some v) ∷ m) (x ∷ xs) e = (rw (← e.0) (lists v), itself_makes m xs e.1)
 
-  pub flattened_fits : (xs : List V) → Carries (Flattening run) None xs (flat_map h xs)
+  flattened_fits : (xs : List V) → Carries (Flattening run) None xs (flat_map h xs)
   flattened_fits xs i o q e = flat_fits run h i o q xs (itself_makes i xs e)
+
+pub flattened_lists : {S V B : Type 0} (run : Runs (Answer B) V) (outer : Runs (Answer V) S) (x : Flatten S V)
+    (h : V → List B) (xs : List V) → x.inner_stream ≡ None → Lists outer x.stream xs → ((v : V) → Lists run v (h v))
+    → ListsAs (Flattens run outer) x (flat_map h xs)
+flattened_lists run outer x h xs none lists inner =
+    listed_through flatten_parts outer (Flattening run) x xs (flat_map h xs) lists
+    (rw none (flattened_fits run h inner xs))

@@ -1,8 +1,11 @@
 -- The items of `map_while`, by those of its source.
 use Rattle.std.specs.Prelude.{◌≡◌, List, [], ◌∷◌, refl, Option, Some, None}
 use Rattle.std.proofs.Common.{◌≤◌}
-use Rattle.lite_views.specs.Uses.{length, arith, Question, Exchanges}
-use Rattle.lite_views.proofs.Views.{AnswersAs, Carries, answered}
+use Rattle.lite_views.specs.Uses.{length, arith, Answer, Question, Exchanges, Runs}
+use Rattle.lite_stream.specs.MapWhile.{MapsWhile, map_while_parts}
+use Rattle.lite_stream.specs.declared.map_while.MapWhile.{MapWhile}
+use Rattle.lite_views.specs.Views.{Lists, ListsAs}
+use Rattle.lite_views.proofs.Views.{AnswersAs, Carries, answered, listed_through}
 use Rattle.lite_views.specs.Lists.{map_while}
 use Rattle.lite_views.proofs.Carrying.{exchanged_fits}
 use Rattle.lite_views.proofs.Fewer.{while_fewer}
@@ -15,6 +18,12 @@ module _ {F A B : Type 0} (call : Question F A (Option B)) (f : F) (h : A → Op
         exchanged_fits call (λ p. p ≡ f) (λ p. map_while h) (λ p g. refl)
         (λ p q x y l g c. let a = answered call f h acts p q x (Some y) g c in (rw a.1, a.0))
         (λ p q x l g c. let a = answered call f h acts p q x None g c in rw a.1) f xs refl
+
+pub mapped_while_lists : {S F A B : Type 0} (run : Runs (Answer A) S) (call : Question F A (Option B))
+    (x : MapWhile S F) (h : A → Option B) (xs : List A) → Lists run x.stream xs → AnswersAs call x.f h
+    → ListsAs (MapsWhile run call) x (map_while h xs)
+mapped_while_lists run call x h xs lists acts =
+    listed_through map_while_parts run (Exchanges call) x xs (map_while h xs) lists (mapped_while_fits call x.f h acts xs)
 
 -- no more items come out than go in
 module _ {A B : Type 0} (h : A → Option B) where

@@ -174,3 +174,8 @@ module _ {S U A : Type 0} (run : Runs (Answer A) S) (run' : Runs (Answer A) U) w
         by (c ∷ l) y h =
             merged_first run run' (map is_first h.words) x.stream1 y.stream1 x.stream2 y.stream2 unended unended' (c ∷ l) xs
             never lists h.merges
+
+-- What the clauses of `or` and `race` say.
+pub ruleset or_rules = (seen, or_first_never, or_second_never, or_at_once)
+
+pub ruleset race_rules = (seen, race_first_never, race_second_never)
