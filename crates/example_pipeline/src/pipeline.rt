@@ -201,6 +201,7 @@ fn write_last<R: Wait, O: AsyncWrite>(
 }
 
 // Flushes.
+#[tactic(auto, using(crate::proofs::Taken::flush_unwritten))]
 fn finish_early<R: Wait, O: AsyncWrite>(
     on: &mut BlockOn,
     rt: &R,
