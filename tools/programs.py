@@ -24,7 +24,7 @@ from repository import (
     crates_in,
     in_cache,
     lay_beside,
-    lay_crates,
+    lay_sources,
     lay_texts,
     shared_below,
     stop,
@@ -93,7 +93,7 @@ def try_at(at, made, has_tests=False):
 def compile_program(name, kept):
     """Compiles a program in a copy of the working tree, and leaves it where it is kept."""
     with tempfile.TemporaryDirectory(prefix=f"{name}-", dir=place()) as copy:
-        lay_crates(copy)
+        lay_sources(copy)
         line, folder = line_and_folder(name)
         if not folder:
             at = lay_texts(copy, written(name), line)
