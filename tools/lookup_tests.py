@@ -24,7 +24,7 @@ LOOKED_UP = {
     "RoundTrip": ("framed::RoundTrip: trait", "ghost readable: { Self → List X → Self.Decoder → Type 0 };", "docs/api/framed/round_trip.md#trait-roundtrip"),
     "gives_headed": ("use Rattle.framed.specs.Heads.{gives_headed}", "gives_headed {C : Type 0} (f : HeadForm C) : Gives C Filled FrameError"),
     "FrameStep": ("use Rattle.framed.specs.Frames.{FrameStep}", "FrameStep {T D X E : Type 0} (gives : Gives D X E)"),
-    "taken_both": ("use Rattle.futures_lite.specs.Laws.Taken.{taken_both}",),
+    "taken_both": ("use Rattle.futures_lite.specs.Laws.Told.{taken_both}",),
     "WriteMark.closed": ("use Rattle.futures_lite.specs.Marks.{WriteMark}", "WriteMark.closed : WriteMark"),
     "RoundTripLaws.back": ("RoundTripLaws::back: field of RoundTripLaws", "The frame of an item comes back as the item, whatever follows it."),
     "CutOff": ("use Rattle.framed.specs.declared.FrameError.TheVariants.{CutOff}", "docs/api/framed/frame_error.md#enum-frameerror"),

@@ -5,8 +5,7 @@ use Rattle.std.specs.declared.io.Error.{Error}
 use Rattle.std.proofs.Common.{ap, append-nil, arith, append_assoc, inl, inr, subst, sym, take-append-drop, ◌∙◌}
 use Rattle.std.proofs.lemmas.Bool.{ne_eqb}
 use Rattle.std.proofs.lemmas.List.{map-append}
-use Rattle.futures_lite.specs.Laws.Taken.{taken_both}
-use Rattle.futures_lite.specs.Laws.Told.{told_follow, told_none}
+use Rattle.futures_lite.specs.Laws.Told.{taken_both, told_follow, told_none}
 use Rattle.futures_lite.specs.Marks.{ReadMark, WriteMark, bytes, bytes_taken}
 use Rattle.futures_lite.specs.Own.{MarkLaws, Runs}
 use Rattle.futures_lite.specs.Readers.{StandsFirst, ToldStripped}

@@ -1,7 +1,7 @@
 -- What the output took, call by call.
 use Rattle.std.proofs.Common.{◌≡◌, ℕ, ◌∙◌, List, [], ◌∷◌, ◌++◌, ap, append-nil, append_assoc, inl, inr, refl, sym}
 use Rattle.std.specs.declared.io.Error.{Error}
-use Rattle.futures_lite.specs.Laws.Taken.{front_follows, front_of_more, taken_both}
+use Rattle.futures_lite.specs.Laws.Told.{front_follows, front_of_more, taken_both}
 use Rattle.futures_lite.specs.Marks.{WriteMark, bytes_taken}
 use Rattle.futures_lite.specs.Own.{MarkLaws, Runs}
 use Rattle.futures_lite.specs.Writers.{FailsAfter, FailsBy, OnlyWrites}

@@ -8,13 +8,12 @@ use Rattle.futures_lite.specs.Answers.{Answer, Pending, Ready, end, item, items}
 use Rattle.futures_lite.specs.Marks.{ReadMark, bytes, given_count}
 use Rattle.futures_lite.specs.Own.{MarkLaws, Reaches, Runs}
 use Rattle.futures_lite.specs.Ranks.{AtMost, AtMost-both, Below, Below-after, Below-first, Lowers, OkCounting, Ranks, ReadCounting}
-use Rattle.lite_base.specs.OkRanks.{all_ok}
-use Rattle.lite_base.specs.Laws.Falling.{Lowers-at_most}
-use Rattle.lite_io_base.specs.Falls.{Falls}
-use Rattle.lite_io_base.specs.Laws.Falls.{GivenRun}
+use Rattle.lite_base.specs.Ranks.{all_ok}
+use Rattle.lite_base.specs.Laws.Ranks.{AtMost-then_below, Lowers-at_most, Lowers-then_at_most}
+use Rattle.lite_io_base.specs.Counting.{Falls}
+use Rattle.lite_io_base.specs.Laws.Counting.{GivenRun}
 use Rattle.lite_io_base.specs.Laws.Marks.{given_count-append, given_count-bytes}
 use Rattle.lite_read.specs.Laws.PollSteps.{given_of, steps_answer}
-use Rattle.lite_stream.specs.Laws.Lower.{at_most_below, lowers_at_most}
 use Rattle.tokio_util.specs.Codec.Next.{Gives, Next, PartialHasNoFrame, Resumes, at_end, decoded, partial}
 use Rattle.tokio_util.proofs.CodecLemmas.Next.{Resumes-append, Resumes_trans}
 use Rattle.framed.specs.Frames.{AfterEnd, Found, FrameStep, Framed, ResumesAt, Last, Phase, PollGives, NoFrame, ended, ending, frame_ranks, phase_rank, reading}
@@ -261,13 +260,13 @@ module _ {T D X E : Type 0} (gives : Gives D X E) (owes : D → ℕ) (laws : Pro
     run_lowers x y [] f h = inl (ap whole (sym h))
     run_lowers x y (Pending ∷ l) f h =
         let firm = frame_firm gives from_gives reads counting x h.0 _ f h.1 in
-        lowers_at_most l _ _ _ (run_lowers h.0 y l firm h.2) (step_pending x h.0 f h.1)
+        Lowers-then_at_most l _ _ _ (run_lowers h.0 y l firm h.2) (step_pending x h.0 f h.1)
     run_lowers x y (Ready None ∷ l) f h =
         let firm = frame_firm gives from_gives reads counting x h.0 _ f h.1 in
-        lowers_at_most l _ _ _ (run_lowers h.0 y l firm h.2) (step_end x h.0 f h.1)
+        Lowers-then_at_most l _ _ _ (run_lowers h.0 y l firm h.2) (step_end x h.0 f h.1)
     run_lowers x y (Ready (Some v) ∷ l) f h =
         let firm = frame_firm gives from_gives reads counting x h.0 _ f h.1 in
-        at_most_below _ _ _ (Lowers-at_most l _ _ (run_lowers h.0 y l firm h.2)) (step_item x h.0 v f h.1)
+        AtMost-then_below _ _ _ (Lowers-at_most l _ _ (run_lowers h.0 y l firm h.2)) (step_item x h.0 v f h.1)
 
     -- Each frame lowers the rank.
     pub frames_counting : OkCounting (FoldsTo (FrameStep gives from_gives reads)) (frame_ranks owes r)

@@ -2,6 +2,5 @@
 pub use Rattle.futures.specs.Poll.{IfReady, OnPending}
 pub use Rattle.futures.specs.Task.{Holds, Keeps, Lasting}
 pub use Rattle.futures.specs.declared.task.context.Context.{Context}
-pub use Rattle.lite_base.specs.Registered.{Registered}
-pub use Rattle.lite_base.specs.Woken.{HoldsWoken}
+pub use Rattle.lite_base.specs.Registered.{Registered, HoldsWoken}
 pub use Rattle.lite_laws.specs.Waits.{HoldsEach, IfWaits}

@@ -1,10 +1,6 @@
 -- Readers: what runs of calls may do, what is lent, and what each reader of the library does, by its own file.
-pub use Rattle.lite_io_base.specs.Runs.{Afterwards, Fills, Idle, LendsFront, OnlyOkLends, ReadsInto, Shows, StandsFirst}
-pub use Rattle.lite_io_base.specs.Runs.{room_in}
-pub use Rattle.lite_io_base.specs.Told.{ReadsScript}
-pub use Rattle.lite_io_base.specs.Known.{Known, Knows, ReadsKnown, unknown}
-pub use Rattle.lite_io_base.specs.Steps.{Steps}
-pub use Rattle.lite_io_base.specs.SeekKeeps.{SeekKeeps}
+pub use Rattle.lite_io_base.specs.Runs.{Afterwards, Fills, Idle, LendsFront, OnlyOkLends, ReadsInto, Shows, StandsFirst, room_in, Steps, SeekKeeps}
+pub use Rattle.lite_io_base.specs.Known.{ReadsScript, Known, Knows, ReadsKnown, unknown}
 pub use Rattle.lite_io_base.specs.Steady.{CalmReadLaws, NoPendingRead, OneListOfMarks, SteadyReadLaws, strip_marks}
 pub use Rattle.lite_buffered.specs.BufReader
 pub use Rattle.lite_buffered.specs.Budgeted
@@ -14,15 +10,11 @@ pub use Rattle.lite_buffered.specs.Take
 pub use Rattle.lite_bridge.specs.Cursor
 pub use Rattle.lite_theorems.specs.BothReaders.{BothRead, HasReadMemory, LacksNext, ReadsUp}
 -- what one was told while a call was waited for
-pub use Rattle.lite_theorems.specs.Told.{EndsAtFirst, FillsUp, PieceTold, PieceWithin, EndsShort, ToldFewer, VectorLacksRoom}
-pub use Rattle.lite_theorems.specs.Told.{ToldStripped, Without}
-pub use Rattle.lite_views.specs.OneCall.{ReadsFront}
-pub use Rattle.lite_views.specs.YieldsOn.{EachByte}
-unfoldable pub use Rattle.lite_views.specs.YieldsOn.{YieldsOn}
-pub use Rattle.lite_read.specs.Appending
-pub use Rattle.lite_read.specs.Bytes
-pub use Rattle.lite_read.specs.Filling
-pub use Rattle.lite_read.specs.ReadExact
+pub use Rattle.lite_theorems.specs.Told.{EndsAtFirst, FillsUp, PieceTold, PieceWithin, EndsShort, ToldFewer, VectorLacksRoom, ToldStripped, Without}
+pub use Rattle.lite_views.specs.OneCall.{ReadsFront, EachByte}
+unfoldable pub use Rattle.lite_views.specs.OneCall.{YieldsOn}
 pub use Rattle.lite_read.specs.ReadToEnd
+pub use Rattle.lite_read.specs.Bytes
+pub use Rattle.lite_read.specs.ReadExact
 pub use Rattle.lite_read.specs.Deterministic.{SameByKind, SameOr}
 pub use Rattle.lite_base.specs.Runs.{Runs}

@@ -5,12 +5,10 @@ pub use Rattle.lite_base.specs.Alike.{Alike, AlikeBy, Either, MadeOf, OptionBy, 
 pub use Rattle.lite_base.specs.Alike.{SameHeld, SameItem, SameList, SameOk, Sameness}
 pub use Rattle.lite_base.specs.Calm.{CalmLaws}
 pub use Rattle.lite_base.specs.Steady.{Steadiness, SteadinessBy, SteadyLaws, SteadyLawsBy, TakesNone}
-pub use Rattle.lite_base.specs.Lent.{Lent}
+pub use Rattle.lite_base.specs.Runs.{Lent}
 pub use Rattle.lite_base.specs.Laws.Lent.{lent_counting, lent_laws}
 pub use Rattle.lite_laws.specs.Both.{Agreed, Fewer}
 -- of folders and of collections
-pub use Rattle.lite_consume.specs.Agreeing.{FoldSteadyLaws, SameDecision, Within, WithinWhere}
-pub use Rattle.lite_consume.specs.Kin.{AgreeBeside, AgreeDeciding, AgreeOrKin, Giving, KinGive}
+pub use Rattle.lite_consume.specs.Agreeing.{FoldSteadyLaws, SameDecision, Within, WithinWhere, AgreeBeside, AgreeDeciding, AgreeOrKin, Giving, KinGive}
 pub use Rattle.lite_consume.specs.TryNext.{SameNext, next_item_of}
-pub use Rattle.lite_gather.specs.Agreeing.{HoldsParts, HoldsSame, HoldsSameBoth, HoldsSameParts, NeverMixed}
-pub use Rattle.lite_gather.specs.Agreeing.{SameCollected, TrySameCollected, Unmixed}
+pub use Rattle.lite_gather.specs.Agreeing.{HoldsParts, HoldsSame, HoldsSameBoth, HoldsSameParts, NeverMixed, SameCollected, TrySameCollected, Unmixed}

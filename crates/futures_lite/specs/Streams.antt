@@ -31,7 +31,7 @@ pub use Rattle.lite_reshape.specs.declared.step_by.StepBy.{StepBy}
 pub use Rattle.lite_reshape.specs.Chain.{Chains}
 pub use Rattle.lite_reshape.specs.Cloned.{AlikeCloned, ClonedFrom, ClonesAll, ClonesUnrefused, EqualClones}
 pub use Rattle.lite_base.specs.Calling.{MakesAlways}
-pub use Rattle.lite_base.specs.Laws.Promises.{makes_on}
+pub use Rattle.lite_base.specs.Laws.Calling.{makes_on}
 pub use Rattle.lite_reshape.specs.FlatMap.{FlatMaps}
 pub use Rattle.lite_reshape.specs.Flatten.{Flattens}
 pub use Rattle.lite_reshape.specs.Then.{Thens}

@@ -2,7 +2,7 @@
 -- A word that programs can import from nowhere else is here too, whoever uses it in the facade.
 pub use Rattle.futures.specs.declared.task.context.Context.{Context}
 pub use Rattle.lite_base.specs.Calling.{Calls}
-pub use Rattle.lite_consume.specs.Calls.{CallsBoth}
+pub use Rattle.lite_consume.specs.Fold.{CallsBoth}
 pub use Rattle.lite_gather.specs.Gathering.{LacksRoom}
 pub use Rattle.lite_merge.specs.Cycle.{CycleOf}
 pub use Rattle.lite_merge.specs.Race.{RacesOn}
@@ -39,16 +39,14 @@ pub use Rattle.lite_views.specs.Acting.{ActsAsOnState}
 unfoldable pub use Rattle.lite_views.specs.Answering.{AtOnce, NeverReady}
 pub use Rattle.lite_views.specs.Futures.{CountRuns, FindRuns, FoldRuns, LastRuns, NthRuns, TryFoldRuns, TryZipRuns, ZipRuns}
 pub use Rattle.lite_views.specs.Iterators.{GivesAll}
-pub use Rattle.lite_views.specs.OkLists.{AllTaken}
-pub use Rattle.lite_views.specs.Trying.{TriesCollect, first_error, try_fold}
+pub use Rattle.lite_views.specs.Trying.{AllTaken, TriesCollect, first_error, try_fold}
 pub use Rattle.lite_views.specs.Views.{FoundBy, FrontsAs, ListsAs, ValueHolds, ValueIs}
 unfoldable pub use Rattle.lite_views.specs.Views.{Fronts, HasValue, Seen, Waited}
-pub use Rattle.lite_views.specs.Waiting.{WhenLeft}
-unfoldable pub use Rattle.lite_views.specs.Waiting.{LeftAs}
+pub use Rattle.lite_views.specs.Answering.{WhenLeft}
+unfoldable pub use Rattle.lite_views.specs.Answering.{LeftAs}
 pub use Rattle.lite_write.specs.Close.{Closes}
-pub use Rattle.lite_write.specs.Copy.{CopyRuns}
+pub use Rattle.lite_write.specs.Copy.{CopyRuns, source_of}
 pub use Rattle.lite_write.specs.Flush.{Flushes}
-pub use Rattle.lite_write.specs.Parts.{source_of}
 pub use Rattle.lite_write.specs.Write.{Writes}
 pub use Rattle.std.proofs.Common.{ap, refl, subst, ◌∙◌}
 pub use Rattle.std.specs.Fn.{Called, CalledAt}

@@ -1,14 +1,13 @@
 //! Functions that make futures, and the extension methods of every future.
 ghost use Rattle.std.specs.Prelude.{◌≡◌, Err, IfOk, List, Ok, OnErr, Result, Some};
-ghost use Rattle.futures_lite.specs.Uses.{LeftAs, HasValue, Seen, ValueIs, Waited, AllocError, Called, Context, MutBor, ValueHolds, AtOnce};
-ghost use Rattle.futures_lite.specs.Uses.{NeverReady, TryZipRuns, ZipRuns};
+ghost use Rattle.futures_lite.specs.Uses.{LeftAs, HasValue, Seen, ValueIs, Waited, AllocError, Called, Context, MutBor};
+ghost use Rattle.futures_lite.specs.Uses.{ValueHolds, AtOnce, NeverReady, TryZipRuns, ZipRuns};
 ghost use Rattle.futures.specs.declared.task.Poll.{Poll};
 ghost use Rattle.lite_base.specs.Answers.{Gives};
-ghost use Rattle.lite_base.specs.Future.Finishes.{Finishes};
+ghost use Rattle.lite_base.specs.Future.Spent.{Finishes};
 ghost use Rattle.lite_base.specs.Future.TryZip.{try_pair};
 ghost use Rattle.lite_base.specs.declared.future.side.Side.TheVariants.{Asked};
-ghost use Rattle.lite_views.specs.Answering.{HasOk, HasValueAs, PickedValue, ReturnedBy};
-ghost use Rattle.lite_views.specs.Waiting.{LeftSeen};
+ghost use Rattle.lite_views.specs.Answering.{HasOk, HasValueAs, PickedValue, ReturnedBy, LeftSeen};
 
 pub use lite_base::Future;
 pub use lite_base::future::block_on::BlockOn;

@@ -1,10 +1,13 @@
 //! Streams: sources, and the methods that adapt and consume every stream.
-ghost use Rattle.std.specs.Prelude.{◌≡◌, ℕ, ◌+◌, ◌-◌, ◌<◌, ◌≤◌, ◌^◌, ◌++◌, ◌∷◌, [], List, Bool, IfOk, IfSome, IsSome, MatchResult, None, Ok, Option, Result, Some};
-ghost use Rattle.std.specs.Prelude.{drop, false, flat_map, length, map, not, replicate, take};
-ghost use Rattle.futures_lite.specs.Uses.{Called, CalledAt, AllocError, Calls, Inspects, ActsAsOnState, Fronts, FrontsAs, HasValue, ListsAs, Seen};
-ghost use Rattle.futures_lite.specs.Uses.{ValueHolds, ValueIs, CountRuns, FindRuns, FoldRuns, LastRuns, NthRuns, TryFoldRuns, TriesCollect};
-ghost use Rattle.futures_lite.specs.Uses.{first_error, AtOnce, FoundBy, NeverReady, RacesOn, WhenLeft, Context, GivesFuture, Holding, MutBor};
-ghost use Rattle.futures_lite.specs.Uses.{TryUnfoldsBy, UnfoldsBy, item_of, seed_of, try_item_of, try_seed_of, try_fold, AllTaken, CycleOf};
+ghost use Rattle.std.specs.Prelude.{◌≡◌, ℕ, ◌+◌, ◌-◌, ◌<◌, ◌≤◌, ◌^◌, ◌++◌, ◌∷◌, [], List, Bool, IfOk, IfSome, IsSome};
+ghost use Rattle.std.specs.Prelude.{MatchResult, None, Ok, Option, Result, Some, drop, false, flat_map, length, map};
+ghost use Rattle.std.specs.Prelude.{not, replicate, take};
+ghost use Rattle.futures_lite.specs.Uses.{Called, CalledAt, AllocError, Calls, Inspects, ActsAsOnState, Fronts};
+ghost use Rattle.futures_lite.specs.Uses.{FrontsAs, HasValue, ListsAs, Seen, ValueHolds, ValueIs, CountRuns, FindRuns};
+ghost use Rattle.futures_lite.specs.Uses.{FoldRuns, LastRuns, NthRuns, TryFoldRuns, TriesCollect, first_error, AtOnce};
+ghost use Rattle.futures_lite.specs.Uses.{FoundBy, NeverReady, RacesOn, WhenLeft, Context, GivesFuture, Holding};
+ghost use Rattle.futures_lite.specs.Uses.{MutBor, TryUnfoldsBy, UnfoldsBy, item_of, seed_of, try_item_of, try_seed_of};
+ghost use Rattle.futures_lite.specs.Uses.{try_fold, AllTaken, CycleOf};
 ghost use Rattle.futures.specs.declared.task.Poll.TheVariants.{Ready};
 ghost use Rattle.lite_base.specs.Answers.{until_end};
 ghost use Rattle.lite_merge.specs.Budgeted.{Budgets};
@@ -24,13 +27,13 @@ ghost use Rattle.lite_stream.specs.Take.{Takes};
 ghost use Rattle.lite_stream.specs.TakeWhile.{TakesWhile};
 ghost use Rattle.lite_views.specs.Futures.{RestIfFound, behind_match};
 ghost use Rattle.lite_views.specs.Lists.{map_while, scan, step_from};
-ghost use Rattle.lite_views.specs.OkLists.{OkLists, OkSeen};
+ghost use Rattle.lite_views.specs.Trying.{OkLists, OkSeen};
 ghost use Rattle.lite_views.specs.Unfold.{UnfoldsInto};
 ghost use Rattle.lite_views.specs.Views.{ListsIf, OfItems, RestIs, GoesOn, Lists};
 ghost use Rattle.std.specs.Iterator.{ActsAs, ActsAsAt, ActsAsOnTwo};
 ghost use Rattle.std.specs.Iterator.Runs.{CallKeepsClosure};
-ghost use Rattle.std.specs.List.{AllByRecursion, enumerate_from, filter, filter_map, find, fold, last_or, list_all, list_any, position, prefix_len};
-ghost use Rattle.std.specs.List.{range_with_len, slice_get, zip};
+ghost use Rattle.std.specs.List.{AllByRecursion, enumerate_from, filter, filter_map, find, fold, last_or, list_all};
+ghost use Rattle.std.specs.List.{list_any, position, prefix_len, range_with_len, slice_get, zip};
 ghost use Rattle.std.specs.Option.{option_transpose};
 ghost use denote.Ref.{Bor};
 

@@ -1,7 +1,7 @@
 ghost use Rattle.lite_base.specs.Laws.Calm.{lent_calm};
-ghost use Rattle.lite_base.specs.Lent.{Lent};
+ghost use Rattle.lite_base.specs.Runs.{Lent};
 ghost use Rattle.lite_base.specs.Laws.Lent.{lent_counting, lent_future_laws, lent_laws};
-ghost use Rattle.lite_base.specs.Laws.OkRanks.{lent_ok_counting};
+ghost use Rattle.lite_base.specs.Laws.Ranks.{lent_ok_counting};
 ghost use Rattle.lite_base.specs.Ranks.{ranks_of};
 ghost use Rattle.lite_base.specs.Laws.Steady.{lent_future_steady, lent_steady};
 

@@ -1,7 +1,5 @@
-ghost use Rattle.lite_base.specs.Ends.{Terminates};
-ghost use Rattle.lite_base.specs.OkRanks.{OkCounting, OkRun};
-ghost use Rattle.lite_base.specs.Laws.OkRanks.{ok_counting_ends};
-ghost use Rattle.lite_base.specs.Ranks.{Ranks};
+ghost use Rattle.lite_base.specs.Ranks.{Terminates, OkCounting, OkRun, Ranks};
+ghost use Rattle.lite_base.specs.Laws.Ranks.{ok_counting_ends};
 
 use crate::stream::Stream;
 

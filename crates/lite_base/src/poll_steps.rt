@@ -1,7 +1,7 @@
 ghost use Rattle.std.specs.Prelude.{◌≡◌, None, Option, Some, IfSome, IsSome, MatchOption, true, false};
 ghost use Rattle.lite_base.specs.Uses.{Poll, Keeps, Lasting};
 ghost use Rattle.lite_base.specs.Chain.{NextStep, Reaches};
-ghost use Rattle.lite_base.specs.Ends.{Terminates};
+ghost use Rattle.lite_base.specs.Ranks.{Terminates};
 ghost use Rattle.lite_base.specs.Registered.{Registered};
 
 use futures::task::{Context, Poll};

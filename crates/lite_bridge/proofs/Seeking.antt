@@ -1,12 +1,11 @@
 -- A seek of a buffered reader over a cursor is one of the bare cursor.
 use Rattle.std.specs.Prelude.{◌≡◌, ◌<◌, ◌^◌, ℕ, pos, ◌-◌, List, [], length, take, Option, Some, None, Ok}
 use Rattle.std.proofs.Common.{◌-ℤ◌}
-use Rattle.lite_bridge.specs.Uses.{◌∙◌, inl, inr, refl, sym, ap, subst, arith, SeekFrom, Start, End, Current, Ready, BufReader, bytes_ahead}
-use Rattle.lite_bridge.specs.Uses.{reader_capacity, reader_inner, SeeksThrough}
-use Rattle.lite_buffered.specs.SeeksThrough.{AheadAfter, IsUnsuccessful, SeekAnswer, SeeksOnce}
+use Rattle.lite_bridge.specs.Uses.{◌∙◌, inl, inr, refl, sym, ap, subst, arith, SeekFrom, Start, End, Current, Ready}
+use Rattle.lite_bridge.specs.Uses.{BufReader, bytes_ahead, reader_capacity, reader_inner, SeeksThrough}
+use Rattle.lite_buffered.specs.BufReader.{AheadAfter, IsUnsuccessful, SeekAnswer, SeeksOnce}
 use Rattle.lite_bridge.specs.declared.cursor.Cursor.{Cursor}
-use Rattle.lite_bridge.specs.Cursor.{CursorSeeks, Lands, at_offset, at_place, bytes_left, cursor_inner as value_of}
-use Rattle.lite_bridge.specs.Cursor.{position_of, target}
+use Rattle.lite_bridge.specs.Cursor.{CursorSeeks, Lands, at_offset, at_place, bytes_left, cursor_inner as value_of, position_of, target}
 use Rattle.lite_bridge.specs.Calls.{IsPlace}
 use Rattle.lite_bridge.specs.Logical.{IsInStep, logical}
 use Rattle.lite_bridge.proofs.Offsets.{at_offset_back, at_offset_less, at_offset_place}

@@ -1,9 +1,8 @@
 -- A read of a buffered reader over a cursor is one of the bare cursor.
 use Rattle.std.specs.Prelude.{◌≡◌, ◌≤◌, ◌<◌, ◌^◌, ℕ, suc, ◌+◌, ◌-◌, List, [], ◌∷◌, ◌++◌, length, take}
-use Rattle.lite_bridge.specs.Uses.{◌∙◌, refl, sym, ap, subst, arith, length-take, BufReader, ThroughBuffer, bytes_ahead, reader_capacity, reader_inner}
-use Rattle.lite_bridge.specs.Uses.{Runs}
+use Rattle.lite_bridge.specs.Uses.{◌∙◌, refl, sym, ap, subst, arith, length-take, BufReader, ThroughBuffer, bytes_ahead, reader_capacity, reader_inner, Runs}
 use Rattle.lite_buffered.specs.Laws.BufReader.{passes_some}
-use Rattle.lite_io_base.specs.Laws.Steps.{steps_follow, steps_split}
+use Rattle.lite_io_base.specs.Laws.Runs.{steps_follow, steps_split}
 use Rattle.std.proofs.Common.{length-drop}
 use Rattle.lite_io_base.specs.Marks.{ReadMark, bytes as marks_of}
 use Rattle.lite_bridge.specs.declared.cursor.Cursor.{Cursor}

@@ -1,8 +1,7 @@
 -- What is known of the bytes of a std reader or writer, and how its calls change that.
 use Rattle.std.specs.Prelude.{◌≡◌, ℕ, List, [], ◌∷◌, Option, None, Some, Result, ⊤}
-use Rattle.lite_bridge.specs.Uses.{Keeps, SeekMoves, ErrorKind, SeekFrom, Poll, Ready, Pending, ReadMark, NoPendingRead, NoPendingWrite, WriteMark}
-use Rattle.lite_bridge.specs.Uses.{Runs}
-use Rattle.lite_io_base.specs.Grows.{GrowsWhere}
+use Rattle.lite_bridge.specs.Uses.{Keeps, SeekMoves, ErrorKind, SeekFrom, Poll, Ready, Pending, ReadMark, NoPendingRead, NoPendingWrite, WriteMark, Runs}
+use Rattle.lite_io_base.specs.Stored.{GrowsWhere}
 
 -- If the bytes `xs` are to come, these marks can come, and `ys` are left. Bytes come from the front, end of file only
 -- when no byte is left, and an error may come anywhere. No `Pending` comes.

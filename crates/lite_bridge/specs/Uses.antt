@@ -5,22 +5,19 @@ pub use Rattle.futures.specs.declared.task.Poll.TheVariants.{Pending, Ready}
 pub use Rattle.lite_base.specs.Answers.{Comparable, Gives}
 pub use Rattle.lite_base.specs.Registered.{Registered}
 pub use Rattle.lite_base.specs.Runs.{Runs}
-pub use Rattle.lite_buffered.specs.BufReader.{ThroughBuffer, bytes_ahead, reader_capacity, reader_inner}
-pub use Rattle.lite_buffered.specs.SeeksThrough.{SeeksThrough}
+pub use Rattle.lite_buffered.specs.BufReader.{ThroughBuffer, bytes_ahead, reader_capacity, reader_inner, SeeksThrough}
 pub use Rattle.lite_buffered.specs.declared.buf_reader.BufReader.{BufReader}
-pub use Rattle.lite_io_base.specs.Kinds.{by_kind}
+pub use Rattle.lite_io_base.specs.Marks.{by_kind, ReadMark, bytes, fill_marks, read_marks}
 pub use Rattle.lite_io_base.specs.Laws.Steady.{told_marks_agree}
-pub use Rattle.lite_io_base.specs.Laws.Steps.{steps_laws}
-pub use Rattle.lite_io_base.specs.Marks.{ReadMark, bytes, fill_marks, read_marks}
+pub use Rattle.lite_io_base.specs.Laws.Runs.{steps_laws}
 pub use Rattle.lite_io_base.specs.Runs.{MarkLaws, room_in}
-pub use Rattle.lite_io_base.specs.Steady.{CalmReadLaws, NoPendingRead, SteadyReadLaws, strip_marks}
-pub use Rattle.lite_io_base.specs.SteadyWrite.{CalmWriteLaws, NoPendingWrite, SteadyWriteLaws}
+pub use Rattle.lite_io_base.specs.Steady.{CalmReadLaws, NoPendingRead, SteadyReadLaws, strip_marks, CalmWriteLaws, NoPendingWrite, SteadyWriteLaws}
 pub use Rattle.lite_io_base.specs.WriteMarks.{WriteMark, bytes_taken, done_marks, write_marks}
 pub use Rattle.lite_io_base.specs.WriteMarks.WriteMark.{closed, flushed}
-pub use Rattle.lite_io_base.specs.Told.{ReadsScript}
+pub use Rattle.lite_io_base.specs.Known.{ReadsScript}
 pub use Rattle.lite_read.specs.Polled.{PolledByCalls}
-pub use Rattle.std.proofs.Common.{Global, add-zero, ap, append-nil, arith, drop-drop, inl, inr, length-append, length-take, length-take-le, refl}
-pub use Rattle.std.proofs.Common.{subst, sym, ◌∙◌}
+pub use Rattle.std.proofs.Common.{Global, add-zero, ap, append-nil, arith, drop-drop, inl, inr, length-append}
+pub use Rattle.std.proofs.Common.{length-take, length-take-le, refl, subst, sym, ◌∙◌}
 pub use Rattle.std.proofs.lemmas.Grind.{common_steps}
 pub use Rattle.std.proofs.lemmas.List.{take_all}
 pub use Rattle.std.specs.Borrow.{Lends, sem}

@@ -1,12 +1,7 @@
 pub mod Answering
-pub mod Asking
 pub mod Crossing
 pub mod Draining
-pub mod Ends
-pub mod Limits
-pub mod Offsets
 pub mod Pacing
-pub mod Polling
 pub mod Ranges
 pub mod Reading
 pub mod Seeking

@@ -1,12 +1,14 @@
 -- What single polls of a `BufReader` do.
-use Rattle.std.specs.Prelude.{◌≡◌, ℕ, zero, suc, ◌≤◌, ◌<◌, min, List, [], ◌∷◌, ◌++◌, length, take, drop}
-use Rattle.lite_buffered.specs.Uses.{◌∙◌, refl, sym, ap, subst, arith, append-nil, length-take-le, take-append-drop, ReadMark, bytes, filled_marks, moved_marks}
-use Rattle.lite_buffered.specs.Uses.{MarkLaws, Runs}
+use Rattle.std.specs.Prelude.{◌≡◌, ℕ, zero, suc, ◌≤◌, ◌<◌, min, List, [], ◌∷◌, ◌++◌, length, take, drop, Result, ◌-◌}
+use Rattle.lite_buffered.specs.Uses.{◌∙◌, refl, sym, ap, subst, arith, append-nil, length-take-le, take-append-drop}
+use Rattle.lite_buffered.specs.Uses.{ReadMark, bytes, filled_marks, moved_marks, MarkLaws, Runs, inl, inr, Error, Poll}
+use Rattle.lite_buffered.specs.Uses.{read_marks}
 use Rattle.std.proofs.Math.Nat.{sub-zero}
 use Rattle.std.proofs.lemmas.List.{map-append}
 use Rattle.lite_buffered.specs.declared.buf_reader.BufReader.{BufReader}
-use Rattle.lite_buffered.specs.BufReader.{Padded, PassesBuffer, ThroughBuffer, bytes_ahead, reader_capacity}
+use Rattle.lite_buffered.specs.BufReader.{Padded, PassesBuffer, ThroughBuffer, bytes_ahead, reader_capacity, AsksWhereEmpty, PollsOnce, ReadsOnce}
 use Rattle.lite_buffered.specs.Laws.BufReader.{ahead_none, passes_of, through_laws}
+use Rattle.lite_buffered.specs.Take.{WithinLimit}
 
 -- nothing is moved into no room
 pub moved_none : (buf xs : List ℕ) → length buf ≡ 0 → length xs ≡ 0 → moved_marks buf xs ≡ []
@@ -91,3 +93,71 @@ fill_then_take {reads = reads} laws x s y n room fills inner same rest is some =
     rw (fill_then_read (bytes_ahead s) room n is some)
     ((through_laws laws).follows x s y (filled_marks (bytes_ahead s)) (bytes (take n (bytes_ahead s))) fills
     (through_advance reads s y laws n inner same rest))
+
+-- A read that polls the inner reader at most once.
+
+module _ {R : Type 0} (reads : Runs ReadMark R) (most : ℕ) (x y : R) where
+  pub polls_none : MarkLaws reads → y ≡ x → PollsOnce reads most x y
+  polls_none laws same = record { told = []; ran = subst (λ v. reads x [] v) (sym same) (laws.rests x); one = inl refl }
+
+  pub polls_one : (r : Poll (Result ℕ Error)) (buf : List ℕ) → length buf ≤ most → reads x (read_marks r buf) y
+      → PollsOnce reads most x y
+  polls_one r buf fits ran = record { told = read_marks r buf; ran = ran; one = inr (r, buf, fits, refl) }
+
+  -- it is asked where nothing of this list is there
+  polls_where : (l : List ℕ) (space : ℕ) → MarkLaws reads → space ≤ most → (l ≡ [] → ReadsOnce reads space x y)
+      → (0 < length l → y ≡ x) → PollsOnce reads most x y
+  polls_where [] space laws within asks rests =
+      let h = asks refl in polls_one h.answer h.buf (omega (arith, h.fits, within)) h.ran
+  polls_where (b ∷ l) space laws within asks rests = polls_none laws (rests (omega arith))
+
+-- the inner reader is asked where nothing is ahead
+pub polls_asked : {R : Type 0} (reads : Runs ReadMark R) (space most : ℕ) (x y : BufReader R) → MarkLaws reads
+    → space ≤ most → AsksWhereEmpty reads space x y → PollsOnce reads most x.inner y.inner
+polls_asked reads space most x y laws within h =
+    polls_where reads most x.inner y.inner (bytes_ahead x) space laws within h.0 h.1
+
+pub ruleset polls_rules = (polls_none, polls_one, polls_asked)
+
+-- Reads within a limit.
+
+pub fits_bytes : (limit : ℕ) (xs : List ℕ) → length xs ≤ limit → WithinLimit limit (bytes xs) (limit - length xs)
+fits_bytes limit [] h = omega arith
+fits_bytes zero (x ∷ xs) h = absurd (omega (arith, h))
+fits_bytes (suc n) (x ∷ xs) h = let e : n - length xs ≡ suc n - length (x ∷ xs) = omega arith in
+    subst (λ k. WithinLimit n (bytes xs) k) e (fits_bytes n xs (omega (arith, h)))
+
+pub fits_moved : (limit : ℕ) (buf xs : List ℕ) → length xs ≤ limit → 0 < limit → 0 < length buf
+    → WithinLimit limit (moved_marks buf xs) (limit - length xs)
+fits_moved limit buf (x ∷ xs) fits some room = fits_bytes limit (x ∷ xs) fits
+fits_moved limit [] [] fits some room = absurd (omega (arith, room))
+fits_moved zero (b ∷ buf) [] fits some room = absurd (omega (arith, some))
+fits_moved (suc n) (b ∷ buf) [] fits some room = omega arith
+
+-- When a `BufReader` asks its inner reader.
+
+some_ahead : (l : List ℕ) → l ≡ [] → 0 < length l → {A : Type 0} → A
+some_ahead l e some = absurd (omega (arith, subst (λ k. 0 < length k) e some))
+
+module _ {R : Type 0} (reads : Runs ReadMark R) (room : ℕ) (x y : BufReader R) where
+  pub asks_none : 0 < length (bytes_ahead x) → y.inner ≡ x.inner → AsksWhereEmpty reads room x y
+  asks_none some same = ((λ e. some_ahead (bytes_ahead x) e some), (λ _. same))
+
+  pub asks_one : (r : Poll (Result ℕ Error)) (buf : List ℕ) → length buf ≡ room → bytes_ahead x ≡ []
+      → reads x.inner (read_marks r buf) y.inner → AsksWhereEmpty reads room x y
+  asks_one r buf whole none ran =
+      let fits : length buf ≤ room = omega (arith, whole) in
+      let some : 0 < room → 0 < length buf = λ more. omega (arith, whole, more) in
+      ((λ _. record { answer = r; buf = buf; fits = fits; some = some; ran = ran }), (λ more. some_ahead (bytes_ahead x) none more))
+
+  -- a fill asks for as much as the capacity, and nothing where bytes are ahead
+  pub asks_room : (space : ℕ) → (bytes_ahead x ≡ [] → space ≡ room) → AsksWhereEmpty reads space x y
+      → AsksWhereEmpty reads room x y
+  asks_room space is h = ((λ none. subst (λ n. ReadsOnce reads n x.inner y.inner) (is none) (h.0 none)), h.1)
+
+  -- bytes are taken of what a fill left
+  pub asks_filled : (z : BufReader R) → AsksWhereEmpty reads room x z → y.inner ≡ z.inner → AsksWhereEmpty reads room x y
+  asks_filled z h same =
+      ((λ none. subst (λ v. ReadsOnce reads room x.inner v) (sym same) (h.0 none)), (λ some. same ∙ h.1 some))
+
+  pub ruleset asks_rules = (asks_none, asks_one, asks_room, asks_filled)

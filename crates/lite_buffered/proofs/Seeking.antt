@@ -1,9 +1,12 @@
 -- What a seek leaves.
-use Rattle.std.specs.Prelude.{◌≡◌, ℕ, List, [], ◌++◌, Result, Ok, Err}
-use Rattle.lite_buffered.specs.Uses.{◌∙◌, inl, inr, refl, sym, ap, append-nil, ErrorKind, SeekFrom, Poll, Ready, Pending, WriteMark, bytes_taken, Runs}
+use Rattle.std.specs.Prelude.{◌≡◌, ℕ, List, [], ◌++◌, Result, Ok, Err, ◌<◌, ◌-ℤ◌, zero, suc, pos, FitsSigned}
+use Rattle.lite_buffered.specs.Uses.{◌∙◌, inl, inr, refl, sym, ap, append-nil, ErrorKind, SeekFrom, Poll, Ready, Pending, WriteMark, bytes_taken, Runs, rules}
 use Rattle.lite_buffered.specs.declared.buf_writer.BufWriter.{BufWriter}
 use Rattle.lite_buffered.specs.BufWriter.{Balanced, FlushesBuffer, SeeksAfter, StopsShort, unwritten, writer_capacity}
 use Rattle.lite_buffered.specs.Laws.BufWriter.{drains_balance, segment_balance}
+use Rattle.std.proofs.lemmas.Int.{to_z-of_z}
+use Rattle.std.proofs.Common.{w64, ℤ}
+use mir.Val.{of_z, to_z}
 
 module _ {W : Type 0} (writes : Runs WriteMark W) (seeks : W → SeekFrom → Poll (Result ℕ ErrorKind) → W → Type 0) where
   -- some of what was held is not taken
@@ -47,3 +50,22 @@ module _ {W : Type 0} (writes : Runs WriteMark W) (seeks : W → SeekFrom → Po
         balanced = append-nil (unwritten x) ∙ drains_balance (unwritten x) [] f.taken f.empties.0 f.empties.1
             ∙ ap (λ l. bytes_taken f.taken ++ l) (sym none);
       }
+
+-- Offsets of a seek as numbers.
+
+pub to_z_offset : (z : ℤ) → FitsSigned w64 z → to_z w64 (of_z w64 z) ≡ z
+to_z_offset z fits = to_z-of_z w64 z fits
+
+count_fits : (k : ℕ) → k < 9223372036854775808 → FitsSigned w64 (pos k)
+count_fits k small = search rules
+
+-- an offset that is known
+pub to_z_known : (z : ℤ) (k : ℕ) → z ≡ pos k → k < 9223372036854775808 → to_z w64 (of_z w64 z) ≡ pos k
+to_z_known z k is small = rw is (to_z_offset (pos k) (count_fits k small))
+
+back_fits : (k : ℕ) → k < 9223372036854775808 → FitsSigned w64 (pos 0 -ℤ pos k)
+back_fits zero small = search rules
+back_fits (suc k) small = search rules
+
+pub to_z_back : (k : ℕ) → k < 9223372036854775808 → to_z w64 (of_z w64 (pos 0 -ℤ pos k)) ≡ pos 0 -ℤ pos k
+to_z_back k small = to_z-of_z w64 (pos 0 -ℤ pos k) (back_fits k small)

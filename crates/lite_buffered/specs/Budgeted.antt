@@ -1,7 +1,7 @@
 -- `with_budget` of a reader: it returns a `Pending` of its own after so many bytes and errors in a row.
 use Rattle.std.specs.Prelude.{◌≡◌, ℕ, zero, suc, ◌-◌, List, [], ◌∷◌, Option, Some, None, take, ⊤, Result}
 use Rattle.lite_buffered.specs.Uses.{HoldsWoken, Lasting, ErrorKind, SeekFrom, Poll, Ranks, Runs, ReadMark, WriteMark}
-use Rattle.lite_base.specs.Paces.{Paces}
+use Rattle.lite_base.specs.Segments.{Paces}
 use Rattle.lite_buffered.specs.declared.budgeted.Budgeted.{Budgeted}
 
 -- The reader that is read.

@@ -1,7 +1,10 @@
 -- How bytes pass through the buffer of a `BufReader`.
-use Rattle.std.specs.Prelude.{◌≡◌, ℕ, zero, suc, ◌+◌, List, [], ◌∷◌, ◌++◌, ◌≤◌, ◌<◌, ◌⊎◌, length, slice_range, Result}
-use Rattle.lite_buffered.specs.Uses.{Error, Poll, ReadMark, bytes, read_marks, WriteMark, Ranks, Runs}
+use Rattle.std.specs.Prelude.{◌≡◌, ℕ, zero, suc, ◌+◌, List, [], ◌∷◌, ◌++◌, ◌≤◌, ◌<◌, ◌⊎◌, length, slice_range, Result, ⊤, pos, ◌-ℤ◌, Ok, Err, FitsSigned}
+use Rattle.lite_buffered.specs.Uses.{Error, Poll, ReadMark, bytes, read_marks, WriteMark, Ranks, Runs, Part, ErrorKind, SeekFrom, Current, Ready, Pending}
 use Rattle.lite_buffered.specs.declared.buf_reader.BufReader.{BufReader}
+use Rattle.lite_io_base.specs.Parts.{PartsInOrder, reading_of}
+use Rattle.std.specs.Int.{w64}
+use Rattle.std.specs.declared.io.traits.SeekFrom.TheVariants.{End, Start}
 
 -- The bytes ahead: those in the buffer that were read from the inner reader and not yet consumed.
 abbrev pub bytes_ahead : {R : Type 0} → BufReader R → List ℕ
@@ -81,3 +84,63 @@ ahead_ranks r =
       counts = λ x. r.counts x.inner;
       firm = λ x. r.firm x.inner;
     }
+
+-- How reads and writes of one `BufReader` reach its inner value.
+
+-- Two lists of parts have the same writes, and reads at the same places.
+abbrev pub SameWrites : List Part → List Part → Type 0
+SameWrites [] [] = ⊤
+SameWrites (Part.reading l ∷ ps) (Part.reading k ∷ qs) = SameWrites ps qs
+SameWrites (Part.writing l ∷ ps) (Part.writing k ∷ qs) = (k ≡ l) × SameWrites ps qs
+SameWrites ps qs = ⊥
+
+-- However reads and writes of `x` follow one another, the inner value is read and written in the same order. The writes
+-- are the same. Over all reads together, the bytes pass through the buffer (`PassesBuffer`).
+abbrev pub KeepsOrder : {R : Type 0} → Runs ReadMark R → Runs WriteMark R → BufReader R → Type 0
+KeepsOrder {R} reads writes x =
+    (ps : List Part) (y : BufReader R) → PartsInOrder (ThroughBuffer reads) (Past writes) x ps y
+    → (qs : List Part) × PartsInOrder reads writes x.inner qs y.inner × SameWrites ps qs
+    × PassesBuffer (reader_capacity x) (bytes_ahead x) (reading_of qs) (reading_of ps) (bytes_ahead y)
+
+-- What a seek of a `BufReader` does. `seeks` says what a seek of its inner reader may do.
+
+-- What a seek returns, with an error given by its kind.
+abbrev pub SeekAnswer : Type 0
+SeekAnswer = Poll (Result ℕ ErrorKind)
+
+-- The bytes ahead after a seek: none after a success, and the same as before after any other result.
+abbrev pub AheadAfter : SeekAnswer → List ℕ → List ℕ → Type 0
+AheadAfter (Ready (Ok n)) before after = after ≡ []
+AheadAfter (Ready (Err kind)) before after = after ≡ before
+AheadAfter Pending before after = after ≡ before
+
+-- The result of a seek is not a success.
+abbrev pub IsUnsuccessful : SeekAnswer → Type 0
+IsUnsuccessful (Ready (Ok n)) = ⊥
+IsUnsuccessful (Ready (Err kind)) = ⊤
+IsUnsuccessful Pending = ⊤
+
+module _ {R : Type 0} (seeks : R → SeekFrom → SeekAnswer → R → Type 0) where
+  -- The inner reader seeks once. A success drops the bytes ahead.
+  pub record SeeksOnce (x : BufReader R) (to : SeekFrom) (r : SeekAnswer) (y : BufReader R) : Type 0 where
+    pub sought : seeks x.inner to r y.inner
+    pub capacity : reader_capacity y ≡ reader_capacity x
+    pub after : AheadAfter r (bytes_ahead x) (bytes_ahead y)
+
+  -- The inner reader seeks twice, the second time only if the first succeeds. Otherwise the result is that of the
+  -- first.
+  abbrev pub SeeksTwice : BufReader R → SeekFrom → SeekFrom → SeekAnswer → BufReader R → Type 0
+  SeeksTwice x first second r y =
+      ((n : ℕ) × (m : BufReader R) × SeeksOnce x first (Ready (Ok n)) m × SeeksOnce m second r y)
+      ⊎ (SeeksOnce x first r y × IsUnsuccessful r)
+
+  -- A seek of a `BufReader`. From the current position it seeks by the offset minus the number of bytes ahead. If that
+  -- is not an `i64`, it seeks back by that number, and then by the offset. From the start or the end it seeks as the
+  -- inner reader does.
+  abbrev pub SeeksThrough : BufReader R → SeekFrom → SeekAnswer → BufReader R → Type 0
+  SeeksThrough x (Start n) r y = SeeksOnce x (Start n) r y
+  SeeksThrough x (End offset) r y = SeeksOnce x (End offset) r y
+  SeeksThrough x (Current offset) r y =
+      let less = offset -ℤ pos (length (bytes_ahead x)) in
+      (FitsSigned w64 less × SeeksOnce x (Current less) r y)
+      ⊎ ((FitsSigned w64 less → ⊥) × SeeksTwice x (Current (pos 0 -ℤ pos (length (bytes_ahead x)))) (Current offset) r y)

@@ -2,10 +2,7 @@ pub mod BufReader
 pub mod BufWriter
 pub mod Budgeted
 pub mod Chain
-pub mod InOrder
 pub mod Known
 pub mod Repeat
-pub mod SeeksThrough
-pub mod Steady
 pub mod SteadyWrite
 pub mod Take

@@ -2,9 +2,7 @@ pub mod BufReader
 pub mod BufWriter
 pub mod Budgeted
 pub mod Chain
-pub mod InOrder
 pub mod Laws
 pub mod Repeat
-pub mod SeeksThrough
 pub mod Take
 pub mod Uses

@@ -564,9 +564,7 @@ impl<R: AsyncRead> AsyncRead for BufReader<R> {
 }
 
 impl<R: AsyncRead> AsyncBufRead for BufReader<R> {
-    ghost use Rattle.lite_buffered.specs.BufReader.{AsksWhereEmpty, ThroughBuffer, bytes_ahead, reader_capacity, reader_inner};
     ghost use Rattle.lite_buffered.specs.Laws.BufReader.{through_shows};
-    ghost use Rattle.lite_buffered.specs.contracts.buf_reader.BufReader.{the_row};
     ghost use Rattle.lite_io_base.specs.Runs.{Afterwards, Fills};
 
     ghost buffer_of = { bytes_ahead };
@@ -618,8 +616,7 @@ impl<R: AsyncWrite> AsyncWrite for BufReader<R> {
 }
 
 impl<R: AsyncSeek> AsyncSeek for BufReader<R> {
-    ghost use Rattle.lite_buffered.specs.BufReader.{reader_inner};
-    ghost use Rattle.lite_buffered.specs.SeeksThrough.{SeeksThrough};
+    ghost use Rattle.lite_buffered.specs.BufReader.{SeeksThrough};
 
     ghost seeks = { SeeksThrough R.seeks };
 
@@ -641,8 +638,7 @@ impl<R: AsyncSeek> AsyncSeek for BufReader<R> {
 
 impl<R: AsyncSeek> BufReader<R> {
     ghost use Rattle.lite_buffered.specs.Uses.{by_kind};
-    ghost use Rattle.lite_buffered.specs.BufReader.{reader_inner};
-    ghost use Rattle.lite_buffered.specs.SeeksThrough.{SeeksOnce, SeeksThrough, SeeksTwice};
+    ghost use Rattle.lite_buffered.specs.BufReader.{SeeksOnce, SeeksThrough, SeeksTwice};
 
     // Seeks from the position of the byte that is read next.
     #[inline(always)]
@@ -704,8 +700,7 @@ impl<R: CountedRead> CountedRead for BufReader<R> {
 
 // If its capacity is above 0: without one, a fill looks like end of file.
 impl<R: SteadyRead> SteadyRead for BufReader<R> {
-    ghost use Rattle.lite_buffered.specs.BufReader.{ThroughBuffer};
-    ghost use Rattle.lite_buffered.specs.Laws.Steady.BufReader.{AheadAlike, buf_reader_steady};
+    ghost use Rattle.lite_buffered.specs.Laws.BufReader.{AheadAlike, buf_reader_steady};
 
     ghost ample = { ThroughBuffer R.ample };
 
@@ -718,7 +713,7 @@ impl<R: SteadyRead> SteadyRead for BufReader<R> {
 
 // Past what is ahead.
 impl<R: SteadyWrite> SteadyWrite for BufReader<R> {
-    ghost use Rattle.lite_buffered.specs.Laws.Steady.Past.{past_steady};
+    ghost use Rattle.lite_buffered.specs.Laws.SteadyWrite.{past_steady};
 
     ghost alike = { λ x y. R.alike x.inner y.inner };
 
@@ -728,7 +723,7 @@ impl<R: SteadyWrite> SteadyWrite for BufReader<R> {
 }
 
 impl<R: CalmRead> CalmRead for BufReader<R> {
-    ghost use Rattle.lite_buffered.specs.Laws.Steady.BufReader.{buf_reader_calm};
+    ghost use Rattle.lite_buffered.specs.Laws.BufReader.{buf_reader_calm};
 
     ghost is_calm = { λ x. R.is_calm x.inner };
 
@@ -737,7 +732,7 @@ impl<R: CalmRead> CalmRead for BufReader<R> {
 
 // Past what is ahead.
 impl<R: CalmWrite> CalmWrite for BufReader<R> {
-    ghost use Rattle.lite_buffered.specs.Laws.Steady.Past.{past_calm};
+    ghost use Rattle.lite_buffered.specs.Laws.SteadyWrite.{past_calm};
 
     ghost is_calm = { λ x. R.is_calm x.inner };
 

@@ -1,6 +1,6 @@
 ghost use Rattle.std.specs.Prelude.{◌≡◌, ◌<◌, ◌≤◌, ℕ, List, Ok, length, min, IfOk, false};
-ghost use Rattle.lite_buffered.specs.Uses.{IoSliceMut, Lends, sem, IfReady, Keeps, fill_marks, read_marks, Idle, OnlyOkLends, ReadsInto, room_in, idle_laws};
-ghost use Rattle.lite_buffered.specs.Uses.{Registered};
+ghost use Rattle.lite_buffered.specs.Uses.{IoSliceMut, Lends, sem, IfReady, Keeps, fill_marks, read_marks, Idle};
+ghost use Rattle.lite_buffered.specs.Uses.{OnlyOkLends, ReadsInto, room_in, idle_laws, Registered};
 
 use lite_base::{Context, Poll, ready};
 use lite_io_base::{
@@ -431,8 +431,7 @@ impl<R1: CountedRead, R2: CountedRead> CountedRead for Chain<R1, R2> {
 }
 
 impl<R1: SteadyRead, R2: SteadyRead> SteadyRead for Chain<R1, R2> {
-    ghost use Rattle.lite_buffered.specs.Chain.{ChainsReaders};
-    ghost use Rattle.lite_buffered.specs.Laws.Steady.Chain.{PlaceAlike, chain_steady};
+    ghost use Rattle.lite_buffered.specs.Laws.Chain.{PlaceAlike, chain_steady};
 
     ghost ample = { ChainsReaders R1.ample R2.ample };
 
@@ -444,7 +443,7 @@ impl<R1: SteadyRead, R2: SteadyRead> SteadyRead for Chain<R1, R2> {
 }
 
 impl<R1: CalmRead, R2: CalmRead> CalmRead for Chain<R1, R2> {
-    ghost use Rattle.lite_buffered.specs.Laws.Steady.Chain.{chain_calm};
+    ghost use Rattle.lite_buffered.specs.Laws.Chain.{chain_calm};
 
     ghost is_calm = { λ x. R1.is_calm x.first × R2.is_calm x.second };
 

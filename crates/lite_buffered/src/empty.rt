@@ -2,10 +2,9 @@ ghost use Rattle.std.specs.Prelude.{[], ◌≡◌, ⊤};
 ghost use Rattle.lite_buffered.specs.Uses.{Idle, idle_laws, strip_marks};
 ghost use Rattle.lite_base.specs.Ranks.{number_ranks};
 ghost use Rattle.lite_io_base.specs.Laws.Counting.{number_counting};
-ghost use Rattle.lite_io_base.specs.Laws.Known.{told_known};
+ghost use Rattle.lite_io_base.specs.Laws.Known.{told_known, told_falls, told_laws};
 ghost use Rattle.lite_io_base.specs.Laws.Steady.{told_calm, told_steady};
-ghost use Rattle.lite_io_base.specs.Laws.Told.{told_falls, told_laws};
-ghost use Rattle.lite_io_base.specs.Told.{ReadsScript};
+ghost use Rattle.lite_io_base.specs.Known.{ReadsScript};
 
 use lite_base::{Context, Poll};
 use lite_io_base::{

@@ -1,4 +1,4 @@
-ghost use Rattle.lite_buffered.specs.InOrder.{KeepsOrder};
+ghost use Rattle.lite_buffered.specs.BufReader.{KeepsOrder};
 
 use crate::buf_reader::BufReader;
 use lite_io_base::{AsyncRead, AsyncWrite};

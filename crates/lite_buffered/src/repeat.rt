@@ -1,8 +1,7 @@
 ghost use Rattle.std.specs.Prelude.{◌≡◌, ◌≤◌, ⊤, Ok, length, IfOk};
 ghost use Rattle.lite_buffered.specs.Uses.{IfReady, Keeps, read_marks, Idle, idle_laws, Registered};
 ghost use Rattle.lite_buffered.specs.Repeat.{RepeatsByte, byte_of};
-ghost use Rattle.lite_buffered.specs.Laws.Repeat.{repeats_laws};
-ghost use Rattle.lite_buffered.specs.Laws.Steady.Repeat.{repeat_calm, repeat_steady};
+ghost use Rattle.lite_buffered.specs.Laws.Repeat.{repeats_laws, repeat_calm, repeat_steady};
 
 use lite_base::{Context, Poll};
 use lite_io_base::{AsyncRead, CalmRead, ReadSpec, SteadyRead, WriteSpec};

@@ -1,6 +1,5 @@
 ghost use Rattle.lite_buffered.specs.Uses.{SeekKeeps};
-ghost use Rattle.lite_buffered.specs.BufReader.{ahead_ranks};
-ghost use Rattle.lite_buffered.specs.SeeksThrough.{SeeksThrough};
+ghost use Rattle.lite_buffered.specs.BufReader.{ahead_ranks, SeeksThrough};
 
 use crate::buf_reader::BufReader;
 use lite_io_base::{AsyncSeek, CountedRead};

@@ -259,8 +259,6 @@ impl<R: AsyncRead> AsyncRead for Take<R> {
 }
 
 impl<R: AsyncBufRead> Take<R> {
-    ghost use Rattle.lite_buffered.specs.Take.{limit_of, take_inner};
-
     fn show(&self) -> &[u8]
         ensures { result.now ≡ take (limit_of self.now) (R.buffer_of (take_inner self.now)) }
     {
@@ -277,7 +275,6 @@ fn first_bytes(all: &[u8], limit: u64) -> &[u8]
 }
 
 impl<R: AsyncBufRead> AsyncBufRead for Take<R> {
-    ghost use Rattle.lite_buffered.specs.Take.{limit_of, take_inner};
     ghost use Rattle.lite_buffered.specs.Laws.Take.{takes_show};
 
     ghost buffer_of = { λ r. take (limit_of r) (R.buffer_of (take_inner r)) };
@@ -321,8 +318,7 @@ impl<R: CountedRead> CountedRead for Take<R> {
 }
 
 impl<R: SteadyRead> SteadyRead for Take<R> {
-    ghost use Rattle.lite_buffered.specs.Take.{ReadsWithin};
-    ghost use Rattle.lite_buffered.specs.Laws.Steady.Take.{LimitAlike, take_steady};
+    ghost use Rattle.lite_buffered.specs.Laws.Take.{LimitAlike, take_steady};
 
     ghost ample = { ReadsWithin R.ample };
 
@@ -334,7 +330,7 @@ impl<R: SteadyRead> SteadyRead for Take<R> {
 }
 
 impl<R: CalmRead> CalmRead for Take<R> {
-    ghost use Rattle.lite_buffered.specs.Laws.Steady.Take.{take_calm};
+    ghost use Rattle.lite_buffered.specs.Laws.Take.{take_calm};
 
     ghost is_calm = { λ x. R.is_calm x.inner };
 

@@ -1,11 +1,10 @@
 -- What is given of a part, and of a stream that is lent.
 use Rattle.std.specs.Prelude.{Result, Ok, Err, IfOk, IsOk, List, [], ◌∷◌}
 use Rattle.lite_consume.specs.Uses.{FoldsTo, Poll, MutBor, Answer, Gives, Hints, Lent, Runs, StreamLaws, items_in}
-use Rattle.lite_consume.specs.Consume.{Folds}
+use Rattle.lite_consume.specs.Consume.{Folds, MayTakeEach}
 use Rattle.lite_consume.specs.Consuming.{Consumes, Fold, TakesIn, fold_of}
 use Rattle.lite_consume.specs.Laws.Agreeing.{within_itself}
 use Rattle.lite_consume.specs.Laws.Consuming.{consumes_by}
-use Rattle.lite_consume.specs.PollSteps.{MayTakeEach}
 use Rattle.lite_consume.specs.declared.consume.Consume.{Consume}
 use Rattle.lite_consume.specs.Given.{BlockGives}
 

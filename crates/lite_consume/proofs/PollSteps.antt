@@ -5,9 +5,8 @@ use Rattle.lite_consume.specs.Uses.{Poll, Answer, item, answers_given, answers_t
 use Rattle.lite_base.specs.Chain.{NextStep, Reaches}
 use Rattle.lite_base.specs.Laws.Answers.{up_to_one}
 use Rattle.lite_base.specs.Laws.Chain.{Reaches-back}
-use Rattle.lite_consume.specs.Consume.{ConsumePollStep, Folds}
+use Rattle.lite_consume.specs.Consume.{ConsumePollStep, Folds, ConsumeStep}
 use Rattle.lite_consume.specs.Consuming.{Consumed, Decides, Fold, TakesIn}
-use Rattle.lite_consume.specs.PollSteps.{ConsumeStep}
 use Rattle.lite_consume.specs.declared.consume.Consume.{Consume}
 
 module _ {S M A R : Type 0} (run : Runs (Answer A) S) (fold : Fold M A R) where

@@ -2,6 +2,8 @@
 -- end of the stream.
 use Rattle.std.specs.Prelude.{◌≡◌, Option, Some, None, IsSome, refl}
 use Rattle.lite_consume.specs.Consuming.{Fold}
+use Rattle.lite_consume.specs.Uses.{Mut}
+use Rattle.std.specs.Fn.{Called}
 
 -- The state is the function and the accumulator, which is `None` once it was returned.
 module _ {F T A : Type 0} (call : F → T × A → T → F → Type 0) where
@@ -18,3 +20,9 @@ module _ {F T A : Type 0} (call : F → T × A → T → F → Type 0) where
   -- After an item there is an accumulator.
   pub folds_open : (p q : F × Option T) (x : A) → FoldStep p x None q → IsSome q.1
   folds_open p q x h = rw h.4 refl
+
+-- Calls of functions with two arguments, as `fold` makes them.
+
+-- A call of the function `g` with the two arguments in `xs`: it goes from the state `p` to `q` and returns `y`.
+abbrev pub CallsBoth : {F A B C : Type 0} → Mut F (A × (B × Unit {0})) C → F → A × B → C → F → Type 0
+CallsBoth g p xs y q = Called g p (xs.0, (xs.1, tt)) y q

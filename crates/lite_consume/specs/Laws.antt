@@ -2,4 +2,3 @@ pub mod Agreeing
 pub mod Consuming
 pub mod Matching
 pub mod Returning
-pub mod TryNext

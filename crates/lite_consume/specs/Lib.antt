@@ -2,7 +2,6 @@ pub mod Agreeing
 pub mod All
 pub mod Any
 pub mod BlockOn
-pub mod Calls
 pub mod Consume
 pub mod Consuming
 pub mod Count
@@ -11,12 +10,10 @@ pub mod FindMap
 pub mod Fold
 pub mod ForEach
 pub mod Given
-pub mod Kin
 pub mod Last
 pub mod Laws
 pub mod Next
 pub mod Nth
-pub mod PollSteps
 pub mod Position
 pub mod TestedUntil
 pub mod TryFold

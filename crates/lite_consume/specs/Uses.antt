@@ -5,10 +5,9 @@ pub use Rattle.lite_base.specs.Alike.{OptionBy, Optional, SameAnswer, SameHeld, 
 pub use Rattle.lite_base.specs.Answers.{Answer, Gives, item}
 pub use Rattle.lite_base.specs.Calling.{Agree, AgreeFrom, AgreeKeeping, Calls, Keeping, Kin, KinAnswers}
 pub use Rattle.lite_base.specs.Laws.Alike.{both_items}
-pub use Rattle.lite_base.specs.Laws.Ends.{Terminates-map}
+pub use Rattle.lite_base.specs.Laws.Ranks.{Terminates-map}
 pub use Rattle.lite_base.specs.Laws.Segments.{answers_given, answers_taken}
-pub use Rattle.lite_base.specs.Lent.{Lent}
-pub use Rattle.lite_base.specs.Runs.{Hints, Question, Runs}
+pub use Rattle.lite_base.specs.Runs.{Lent, Hints, Question, Runs}
 pub use Rattle.lite_base.specs.Segments.{OneAnswer, Segment}
 pub use Rattle.lite_base.specs.StreamLaws.{StreamLaws}
 pub use Rattle.lite_stream.specs.EachItem.{items_in}

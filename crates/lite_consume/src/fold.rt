@@ -1,9 +1,8 @@
 ghost use Rattle.std.specs.Prelude.{◌≡◌, IsSome, Some};
 ghost use Rattle.lite_consume.specs.Uses.{Agree};
-ghost use Rattle.lite_consume.specs.Calls.{CallsBoth};
+ghost use Rattle.lite_consume.specs.Fold.{CallsBoth, folds, folds_open};
 ghost use Rattle.lite_consume.specs.Consuming.{fold_of};
-ghost use Rattle.lite_consume.specs.Fold.{folds, folds_open};
-ghost use Rattle.lite_consume.specs.Kin.{AgreeBeside, AgreeOrKin, Giving};
+ghost use Rattle.lite_consume.specs.Agreeing.{AgreeBeside, AgreeOrKin, Giving};
 ghost use Rattle.lite_consume.specs.Laws.Agreeing.{part_steady};
 ghost use Rattle.lite_consume.specs.Laws.Matching.{fold_steady};
 ghost use Rattle.lite_consume.specs.Laws.Returning.{returns_counted};

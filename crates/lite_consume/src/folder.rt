@@ -2,7 +2,7 @@ ghost use Rattle.std.specs.Prelude.{⊤, Some, MatchOption};
 ghost use Rattle.lite_consume.specs.Uses.{SameItem, Sameness};
 ghost use Rattle.lite_consume.specs.Agreeing.{FoldSteadyLaws};
 ghost use Rattle.lite_consume.specs.Consuming.{Fold};
-ghost use Rattle.lite_consume.specs.PollSteps.{Returns};
+ghost use Rattle.lite_consume.specs.Consume.{Returns};
 
 use lite_base::{SteadyStream, Stream};
 

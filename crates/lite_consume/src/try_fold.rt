@@ -1,8 +1,8 @@
 ghost use Rattle.std.specs.Prelude.{◌≡◌, IsSome, Ok, Some};
 ghost use Rattle.lite_consume.specs.Uses.{Agree};
-ghost use Rattle.lite_consume.specs.Calls.{CallsBoth};
+ghost use Rattle.lite_consume.specs.Fold.{CallsBoth};
 ghost use Rattle.lite_consume.specs.Consuming.{fold_of};
-ghost use Rattle.lite_consume.specs.Kin.{AgreeBeside, AgreeDeciding, Giving};
+ghost use Rattle.lite_consume.specs.Agreeing.{AgreeBeside, AgreeDeciding, Giving};
 ghost use Rattle.lite_consume.specs.Laws.Agreeing.{part_steady};
 ghost use Rattle.lite_consume.specs.Laws.Matching.{try_fold_steady};
 ghost use Rattle.lite_consume.specs.Laws.Returning.{returns_ok};

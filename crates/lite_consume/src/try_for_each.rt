@@ -1,6 +1,6 @@
 ghost use Rattle.lite_consume.specs.Uses.{Agree, Calls};
 ghost use Rattle.lite_consume.specs.Consuming.{fold_of};
-ghost use Rattle.lite_consume.specs.Kin.{AgreeDeciding, Giving};
+ghost use Rattle.lite_consume.specs.Agreeing.{AgreeDeciding, Giving};
 ghost use Rattle.lite_consume.specs.Laws.Agreeing.{part_steady};
 ghost use Rattle.lite_consume.specs.Laws.Matching.{try_for_each_steady};
 ghost use Rattle.lite_consume.specs.Laws.Returning.{returns_counted};

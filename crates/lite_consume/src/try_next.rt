@@ -1,8 +1,7 @@
 ghost use Rattle.std.specs.Prelude.{⊤};
 ghost use Rattle.lite_consume.specs.TryNext.{SameNext, tries_next};
 ghost use Rattle.lite_consume.specs.Laws.Matching.{try_next_steady};
-ghost use Rattle.lite_consume.specs.Laws.Returning.{returns_none};
-ghost use Rattle.lite_consume.specs.Laws.TryNext.{none_given};
+ghost use Rattle.lite_consume.specs.Laws.Returning.{returns_none, none_given};
 
 use crate::consume::Consume;
 use crate::folder::{Folder, SteadyFolder};

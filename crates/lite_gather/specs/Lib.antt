@@ -3,7 +3,6 @@ pub mod Collect
 pub mod Gathering
 pub mod Laws
 pub mod Partition
-pub mod Refused
 pub mod TryCollect
 pub mod Unzip
 pub mod Uses

@@ -4,6 +4,8 @@ use Rattle.lite_gather.specs.Uses.{Fold}
 use Rattle.lite_gather.specs.Gathering.{Kept, Took}
 use Rattle.lite_gather.specs.declared.refused.UnzipRefused.{UnzipRefused}
 use Rattle.lite_gather.specs.declared.refused.UnzipRefused.TheVariants.{Left, Right}
+use Rattle.lite_gather.specs.declared.unzip.Part.{Part}
+use Rattle.lite_gather.specs.declared.unzip.Part.TheVariants.{Both, Second}
 
 module _ {C D A B : Type 0} (holds_first : C → List A → Type 0) (holds_second : D → List B → Type 0) where
   -- `first_refuses c x` and `second_refuses d y` say that the collection may refuse this part. The state is both
@@ -32,3 +34,11 @@ module _ {C D A B : Type 0} (holds_first : C → List A → Type 0) (holds_secon
     -- After an item that is consumed there are collections.
     pub unzips_open : (p q : Option (C × D)) (x : A × B) → Unzipped p x None q → IsSome q
     unzips_open p q x h = rw h.5 refl
+
+-- What `unzip` returns if a part of an item was refused.
+
+-- The error with the collections and what was not put in: the whole pair if its first part was refused, and only its
+-- second part if that was.
+abbrev pub refused_of : {C D A B : Type 0} → Part A B → C × D → UnzipRefused C D A B
+refused_of (Both a b) c = Left c (a, b)
+refused_of (Second b) c = Right c b

@@ -2,8 +2,7 @@ ghost use Rattle.std.specs.Prelude.{◌≡◌, IfErr, IsSome, OnOk};
 ghost use Rattle.lite_gather.specs.Uses.{OptionBy, Sameness, fold_of, part_steady, returns_counted};
 ghost use Rattle.lite_gather.specs.Agreeing.{HoldsSameParts, SameCollected};
 ghost use Rattle.lite_gather.specs.Gathering.{LacksRoom, NeverRefuses, Took};
-ghost use Rattle.lite_gather.specs.Refused.{refused_of};
-ghost use Rattle.lite_gather.specs.Unzip.{RefusedOne, unzips, unzips_open};
+ghost use Rattle.lite_gather.specs.Unzip.{refused_of, RefusedOne, unzips, unzips_open};
 ghost use Rattle.lite_gather.specs.Laws.Agreeing.{unzip_steady};
 
 use crate::gather::Gather;

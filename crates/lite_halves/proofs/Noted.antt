@@ -1,10 +1,13 @@
 -- A journal with one entry more.
-use Rattle.std.specs.Prelude.{◌≡◌, ◌≤◌, ◌+◌, ℕ, List, [], ◌∷◌, ◌++◌}
-use Rattle.lite_halves.specs.Uses.{◌∙◌, ap, arith, sym, refl, subst, map-append, Part, PartRuns, ReadMark, WriteMark, Runs}
+use Rattle.std.specs.Prelude.{◌≡◌, ◌≤◌, ◌+◌, ℕ, List, [], ◌∷◌, ◌++◌, ◌<◌, ◌^◌, length}
+use Rattle.lite_halves.specs.Uses.{◌∙◌, ap, arith, sym, refl, subst, map-append, Part, PartRuns, ReadMark, WriteMark, Runs, sum_by-append, sum_by-cons, sum_by}
 use Rattle.lite_halves.specs.declared.entry.Entry.{Entry}
-use Rattle.lite_halves.specs.Entry.{FitsCall, Note, asked_of, note_of, notes_in, part_of, told_of}
+use Rattle.lite_halves.specs.Entry.{FitsCall, Note, asked_of, note_of, notes_in, part_of, told_of, Request}
 use Rattle.lite_halves.specs.Journal.{Adds, Chronicle, IsSound}
 use Rattle.lite_halves.specs.Laws.Journal.{adds_one, sound_more}
+use Rattle.lite_halves.specs.declared.journalled.tally.Side.{Side}
+use Rattle.lite_halves.specs.declared.journalled.tally.Side.TheVariants.{Reading, Writing}
+use Rattle.lite_halves.specs.Counts.{calls_by, counted_in, one_if_read, one_if_write}
 
 notes_in-push : (es fs gs : List Entry) (e : Entry) (n : Note) → fs ≡ es → gs ≡ fs ++ e ∷ [] → asked_of e.call ≡ n.asked
     → told_of e.answer ≡ n.told
@@ -47,3 +50,39 @@ module _ {T : Type 0} (reads : Runs ReadMark T) (writes : Runs WriteMark T) wher
         ran = subst P (ap (λ (j : Chronicle T). j.stream) same) h.ran;
         room = omega (arith, h.room, more);
       }
+
+-- Calls of one side are no more than all entries.
+
+read_le_one : (a : Request) → one_if_read a ≤ 1
+read_le_one (Request.room n) = omega arith
+read_le_one (Request.offer xs) = omega arith
+read_le_one Request.flush = omega arith
+read_le_one Request.close = omega arith
+
+write_le_one : (a : Request) → one_if_write a ≤ 1
+write_le_one (Request.room n) = omega arith
+write_le_one (Request.offer xs) = omega arith
+write_le_one Request.flush = omega arith
+write_le_one Request.close = omega arith
+
+calls_by-le : (side : Side) (e : Note) → calls_by side e ≤ 1
+calls_by-le Reading e = read_le_one e.asked
+calls_by-le Writing e = write_le_one e.asked
+
+pub counted_in-le : (side : Side) (es : List Note) → (counted_in side es).calls ≤ length es
+counted_in-le side [] = omega arith
+counted_in-le side (e ∷ es) = omega (arith, calls_by-le side e, counted_in-le side es, sum_by-cons (calls_by side) e es)
+
+-- with a call more there is room for its count
+pub call_fits : (side : Side) (es fs : List Note) (e : Note) → fs ≡ es ++ e ∷ [] → calls_by side e ≡ 1
+    → length fs < 2 ^ 64
+    → (counted_in side es).calls + 1 < 2 ^ 64
+call_fits side es fs e is one fits =
+    omega (
+      arith,
+      fits,
+      one,
+      counted_in-le side fs,
+      ap (sum_by (calls_by side)) is,
+      sum_by-append (calls_by side) es (e ∷ []),
+    )

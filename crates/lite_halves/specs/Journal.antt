@@ -1,12 +1,10 @@
 -- Journals: a stream, the calls that were made of it with their results, and a clone of the stream before these calls.
 use Rattle.std.specs.Prelude.{◌≡◌, ◌⊎◌, ◌<◌, ◌≤◌, ℕ, ◌+◌, List, [], ◌∷◌, ◌++◌, length, map, Option, Some, None, Result, vec_capacity}
-use Rattle.lite_halves.specs.Uses.{Error, OutOfMemory, IoSliceMut, Poll, Part, PartRuns, PartsInOrder, ReadMark, StandsFirst, room_in, Steps}
-use Rattle.lite_halves.specs.Uses.{WriteMark, Runs}
+use Rattle.lite_halves.specs.Uses.{Error, OutOfMemory, IoSliceMut, Poll, Part, PartRuns, PartsInOrder, ReadMark, StandsFirst, room_in, Steps, WriteMark, Runs}
 use Rattle.std.proofs.Common.{Global}
 use Rattle.std.specs.List.{flat_map}
 use Rattle.std.specs.declared.vec.Vec.{Vec}
-use Rattle.lite_halves.specs.Entry.{AllFit, FitsCall, Note, Request, Told, copied, part_of, parts_in, read_note}
-use Rattle.lite_halves.specs.Entry.{write_note}
+use Rattle.lite_halves.specs.Entry.{AllFit, FitsCall, Note, Request, Told, copied, part_of, parts_in, read_note, write_note}
 
 -- What contracts see of a journal: the stream at the start, the calls since then with their results, and the stream
 -- now. `room` is how many more entries fit without an allocation.
@@ -122,3 +120,10 @@ module _ {T : Type 0} (reads : Runs ReadMark T) (writes : Runs WriteMark T) wher
   -- `OutOfMemory` errors of calls that did not reach the stream.
   abbrev pub JournalWrites : Runs WriteMark (Chronicle T)
   JournalWrites = Journals Part.writing (WriteMark.fault OutOfMemory)
+
+-- The runs of a journal in which no allocation fails.
+
+-- The journal was read, and its stream was read by the same marks in an ample run: no allocation failed.
+abbrev pub ReadsAmply : {T : Type 0} → Runs ReadMark T → Runs WriteMark T → Runs ReadMark T
+    → Runs ReadMark (Chronicle T)
+ReadsAmply reads writes ample a ms b = JournalReads reads writes a ms b × ample a.stream ms b.stream

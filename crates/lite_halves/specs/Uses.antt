@@ -8,12 +8,10 @@ pub use Rattle.lite_base.specs.Runs.{Runs}
 pub use Rattle.lite_io_base.specs.Laws.Runs.{CountsWithin, reads_among}
 pub use Rattle.lite_io_base.specs.Marks.{ReadMark, bytes, count_of, moved_marks, read_marks}
 pub use Rattle.lite_io_base.specs.Parts.{Part, PartRuns, PartsInOrder}
-pub use Rattle.lite_io_base.specs.Runs.{MarkLaws, ReadsInto, StandsFirst, room_in}
-pub use Rattle.lite_io_base.specs.Steps.{Steps}
+pub use Rattle.lite_io_base.specs.Runs.{MarkLaws, ReadsInto, StandsFirst, room_in, Steps}
 pub use Rattle.lite_io_base.specs.WriteMarks.{WriteMark, done_marks, write_marks}
 pub use Rattle.lite_io_base.specs.WriteMarks.WriteMark.{closed, flushed}
-pub use Rattle.std.proofs.Common.{add-zero, ap, append-nil, append_assoc, arith, get_or, inl, inr, length-append, length-take-le, refl, subst, sym}
-pub use Rattle.std.proofs.Common.{◌∙◌}
+pub use Rattle.std.proofs.Common.{add-zero, ap, append-nil, append_assoc, arith, get_or, inr, length-append, length-take-le, refl, subst, sym, ◌∙◌}
 pub use Rattle.std.proofs.lemmas.List.{map-append}
 pub use Rattle.std.proofs.lemmas.List.Concat.{flat_map-append}
 pub use Rattle.std.proofs.lemmas.List.Sums.{sum_by-append, sum_by-cons}

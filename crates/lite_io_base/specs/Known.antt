@@ -29,3 +29,12 @@ unknown = record { told = λ x l y. ⊥; knows = λ x. ⊥; left = λ x. []; tel
 -- The bytes that will come from `x` are known, and each run of the reader from `x` is one that `known` speaks of.
 abbrev pub Knows : {S : Type 0} → Runs ReadMark S → Known S → S → Type 0
 Knows {S} reads known x = known.knows x × ((l : List ReadMark) (y : S) → reads x l y → known.told x l y)
+
+-- Readers whose marks are fixed in advance, such as a slice.
+
+-- The run of a reader whose marks to come are `x`: it produces them in order, and then end of file forever. `y` is what
+-- is left of them.
+abbrev pub ReadsScript : Runs ReadMark (List ReadMark)
+ReadsScript x [] y = y ≡ x
+ReadsScript [] (m ∷ ms) y = (m ≡ ReadMark.end) × ReadsScript [] ms y
+ReadsScript (t ∷ x) (m ∷ ms) y = (m ≡ t) × ReadsScript x ms y

@@ -1,7 +1,8 @@
 -- What is known of the bytes that a writer keeps.
 use Rattle.std.specs.Prelude.{◌≡◌, ℕ, List, [], ◌∷◌, ◌++◌, ⊤}
-use Rattle.lite_io_base.specs.Uses.{Runs}
+use Rattle.lite_io_base.specs.Uses.{Runs, ErrorKind}
 use Rattle.lite_io_base.specs.WriteMarks.{WriteMark, bytes_taken}
+use Rattle.std.specs.declared.io.ErrorKind.TheVariants.{OutOfMemory}
 
 -- The mark is a flush or a close.
 abbrev pub Arrives : WriteMark → Type 0
@@ -38,3 +39,22 @@ unstored = record {
 -- The bytes that `x` keeps are known, and each run of the writer from `x` is one that `stored` speaks of.
 abbrev pub Stores : {S : Type 0} → Runs WriteMark S → Stored S → S → Type 0
 Stores {S} writes stored x = stored.stores x × ((l : List WriteMark) (y : S) → writes x l y → stored.told x l y)
+
+-- How a `Vec<u8>` is written to.
+
+-- The run of a writer that appends the bytes it takes to a list. It may return errors of the kinds that `may` allows.
+-- An error, a flush and a close change nothing. It is never pending.
+abbrev pub GrowsWhere : (ErrorKind → Type 0) → Runs WriteMark (List ℕ)
+GrowsWhere may xs [] ys = ys ≡ xs
+GrowsWhere may xs (WriteMark.wrote zs ∷ ms) ys = GrowsWhere may (xs ++ zs) ms ys
+GrowsWhere may xs (WriteMark.fault kind ∷ ms) ys = may kind × GrowsWhere may xs ms ys
+GrowsWhere may xs (WriteMark.pending ∷ ms) ys = ⊥
+GrowsWhere may xs (_ ∷ ms) ys = GrowsWhere may xs ms ys
+
+-- The error says that an allocation failed (`OutOfMemory`).
+abbrev pub IsRefusal : ErrorKind → Type 0
+IsRefusal kind = kind ≡ OutOfMemory
+
+-- The run of a `Vec<u8>` as a writer: the bytes that it takes are appended. The only error is a failed allocation.
+abbrev pub Grows : Runs WriteMark (List ℕ)
+Grows = GrowsWhere IsRefusal

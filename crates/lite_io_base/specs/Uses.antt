@@ -4,13 +4,9 @@ pub use Rattle.futures.specs.Task.{Keeps, Lasting}
 pub use Rattle.futures.specs.declared.task.Poll.{Poll}
 pub use Rattle.futures.specs.declared.task.Poll.TheVariants.{Pending, Ready}
 pub use Rattle.lite_base.specs.Answers.{Comparable}
-pub use Rattle.lite_base.specs.Calm.{CalmRuns}
-pub use Rattle.lite_base.specs.Ends.{Terminates}
-pub use Rattle.lite_base.specs.Lent.{Lent}
-pub use Rattle.lite_base.specs.Rank.{AtMost, Below}
-pub use Rattle.lite_base.specs.Ranks.{Ranks, number_ranks, ranks_of}
+pub use Rattle.lite_base.specs.Ranks.{Terminates, AtMost, Below, Ranks, number_ranks, ranks_of}
+pub use Rattle.lite_base.specs.Runs.{Lent, Runs}
 pub use Rattle.lite_base.specs.Registered.{Registered}
-pub use Rattle.lite_base.specs.Runs.{Runs}
 pub use Rattle.std.proofs.Common.{ap, append-nil, arith, inl, length-append, length-drop, replicate, subst, sym, take-append-drop, take_all, ◌∙◌}
 pub use Rattle.std.proofs.lemmas.Grind.{common_steps}
 pub use Rattle.std.proofs.lemmas.List.{length-replicate}

@@ -1,4 +1,4 @@
-ghost use Rattle.lite_io_base.specs.SteadyWrite.{CalmWriteLaws};
+ghost use Rattle.lite_io_base.specs.Steady.{CalmWriteLaws};
 
 use crate::async_write::AsyncWrite;
 

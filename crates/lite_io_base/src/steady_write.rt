@@ -1,5 +1,5 @@
 ghost use Rattle.std.specs.Prelude.{ℕ, List};
-ghost use Rattle.lite_io_base.specs.SteadyWrite.{SteadyWriteLaws};
+ghost use Rattle.lite_io_base.specs.Steady.{SteadyWriteLaws};
 
 use crate::async_write::AsyncWrite;
 

@@ -1,7 +1,7 @@
 -- `drain`: an end of stream replaces each `Pending`.
 use Rattle.std.specs.Prelude.{◌≡◌, List, [], ◌∷◌}
 use Rattle.lite_merge.specs.Uses.{Ready, Pending, Answer, end, Runs, AdapterParts, Through, parts_of, Relates}
-use Rattle.lite_base.specs.Lent.{Lent}
+use Rattle.lite_base.specs.Runs.{Lent}
 use denote.MutBor.{MutBor}
 use Rattle.lite_merge.specs.declared.drain.Drain.{Drain}
 

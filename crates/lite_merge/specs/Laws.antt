@@ -5,6 +5,5 @@ pub mod Ends
 pub mod Merge
 pub mod Or
 pub mod Race
-pub mod SteadyZip
 pub mod StopAfterFuture
 pub mod Zip

@@ -2,7 +2,7 @@
 -- one yields no item.
 use Rattle.std.specs.Prelude.{◌≡◌, ◌⊎◌, ◌+◌, List, ◌∷◌, ◌++◌, Bool, false, Some, None}
 use Rattle.lite_merge.specs.Uses.{Ready, Pending, Lasting, Answer, item, Ranks, Runs, Fuses, Fuse}
-use Rattle.lite_base.specs.Rows.{Rows}
+use Rattle.lite_base.specs.Segments.{Rows}
 
 -- The result of a row in which one stream is pending and the other returns this: its item, or `Pending`, also if it has
 -- ended.

@@ -1,7 +1,6 @@
 ghost use Rattle.std.specs.Prelude.{◌≡◌, List, [], ◌∷◌, None};
 ghost use Rattle.lite_merge.specs.Uses.{Keeps, Answer, Registered, NoHint, Pairwise, SameHeld};
-ghost use Rattle.lite_merge.specs.Laws.SteadyZip.{zip_steady};
-ghost use Rattle.lite_merge.specs.Laws.Zip.{zip_calm, zip_counting, zip_laws};
+ghost use Rattle.lite_merge.specs.Laws.Zip.{zip_steady, zip_calm, zip_counting, zip_laws};
 ghost use Rattle.lite_merge.specs.Zip.{Pairs, WithHeld, ZipRegisters, Zips, zip_ranks};
 
 use lite_base::{CalmStream, Context, Counted, Poll, SteadyStream, Stream, ready};

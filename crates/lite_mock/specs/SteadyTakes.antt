@@ -1,7 +1,7 @@
 -- Laws of the test writer `Takes`: what it has taken does not depend on when it was pending.
 use Rattle.std.proofs.Common.{List, [], ◌∷◌}
 use Rattle.std.specs.Prelude.{⊤}
-use Rattle.lite_io_base.specs.SteadyWrite.{NoPendingWrite}
+use Rattle.lite_io_base.specs.Steady.{NoPendingWrite}
 use Rattle.lite_io_base.specs.WriteMarks.{WriteMark}
 use Rattle.lite_mock.specs.Takes.{Orders}
 use Rattle.lite_mock.specs.declared.takes.Order.{Order}

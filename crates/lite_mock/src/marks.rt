@@ -1,10 +1,9 @@
-ghost use Rattle.std.specs.Prelude.{◌≡◌, ◌≤◌, ◌+◌, ◌<◌, ◌++◌, ◌∷◌, [], List, length, take, drop, map, OnOk, OnErr};
-ghost use Rattle.std.specs.Prelude.{MatchResult};
+ghost use Rattle.std.specs.Prelude.{◌≡◌, ◌≤◌, ◌+◌, ◌<◌, ◌++◌, ◌∷◌, [], List, length, take, drop, map, OnOk, OnErr, MatchResult};
 ghost use Rattle.lite_io_base.specs.Marks.{ReadMark, bytes};
 ghost use Rattle.lite_io_base.specs.Steady.{NoPendingRead, strip_marks};
-ghost use Rattle.lite_io_base.specs.Told.{ReadsScript};
+ghost use Rattle.lite_io_base.specs.Known.{ReadsScript};
 ghost use Rattle.lite_io_base.specs.Laws.Steady.{told_calm, told_steady};
-ghost use Rattle.lite_io_base.specs.Laws.Told.{told_falls, told_laws};
+ghost use Rattle.lite_io_base.specs.Laws.Known.{told_falls, told_laws};
 ghost use Rattle.lite_base.specs.Ranks.{number_ranks};
 ghost use Rattle.lite_io_base.specs.Laws.Counting.{number_counting};
 ghost use Rattle.lite_io_base.specs.Runs.{Idle};

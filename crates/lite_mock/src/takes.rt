@@ -1,7 +1,7 @@
 ghost use Rattle.std.specs.Prelude.{◌≡◌, ◌≤◌, ◌⊎◌, ◌++◌, ◌∷◌, [], Ok, Err, length, IfOk, MatchResult};
 ghost use Rattle.futures.specs.Poll.{IfReady};
 ghost use Rattle.futures.specs.Task.{Keeps};
-ghost use Rattle.lite_io_base.specs.Kinds.{by_kind};
+ghost use Rattle.lite_io_base.specs.Marks.{by_kind};
 ghost use Rattle.lite_io_base.specs.WriteMarks.{done_marks, write_marks};
 ghost use Rattle.lite_io_base.specs.WriteMarks.WriteMark.{closed, flushed};
 ghost use Rattle.lite_io_base.specs.Runs.{Idle};
@@ -53,8 +53,6 @@ impl Model for Takes {
 }
 
 impl Takes {
-    ghost use Rattle.lite_mock.specs.Takes.{Orders};
-
     /// A writer that takes all.
     pub fn new(alloc: Global) -> Takes
         ensures orders { result.orders ≡ [] }
@@ -87,7 +85,7 @@ impl Takes {
 
 impl WriteSpec for Takes {
     ghost use Rattle.lite_mock.specs.Takes.{AllObey, ObeysOrder};
-    ghost use Rattle.lite_io_base.specs.Laws.Steps.{steps_laws};
+    ghost use Rattle.lite_io_base.specs.Laws.Runs.{steps_laws};
 
     ghost writes = { AllObey };
 

@@ -1,12 +1,12 @@
 -- A read into what is left of a buffer.
 use Rattle.std.specs.Prelude.{◌≡◌, ◌≤◌, ◌<◌, ◌+◌, ◌-◌, ℕ, List, [], ◌∷◌, ◌++◌, Result, Ok, length, take, drop}
-use Rattle.lite_read.specs.Uses.{◌∙◌, refl, ap, sym, subst, arith, append-nil, append_assoc, length-append, take-append-le, FoldsTo, with_items, Vec}
-use Rattle.lite_read.specs.Uses.{Error, Poll, Ready, ReadMark, bytes, moved_marks, up_to_one, segment_alone, segments_one, Runs}
+use Rattle.lite_read.specs.Uses.{◌∙◌, refl, ap, sym, subst, arith, append-nil, append_assoc, length-append}
+use Rattle.lite_read.specs.Uses.{take-append-le, FoldsTo, with_items, Vec, Error, Poll, Ready, ReadMark, bytes}
+use Rattle.lite_read.specs.Uses.{moved_marks, up_to_one, segment_alone, segments_one, Runs}
 use Rattle.std.proofs.Math.Seq.{take-append-add}
 use Rattle.std.proofs.lemmas.List.{length-take-le, take_at}
 use borrow.Rule.Slice.PartMut.{mid_len, mid_of, post_of, put_mid, same_len_mid, take_put}
-use Rattle.lite_read.specs.Filling.{ExactStays, filling_of}
-use Rattle.lite_read.specs.ReadExact.{ReadsExactly, fills}
+use Rattle.lite_read.specs.ReadExact.{ExactStays, filling_of, ReadsExactly, fills}
 use Rattle.lite_read.specs.ReadFold.{AnswerMarks, LastMarks}
 use Rattle.lite_read.specs.PollSteps.{ReadsMore}
 use Rattle.lite_read.specs.declared.read_exact.ReadExactFuture.{ReadExactFuture}

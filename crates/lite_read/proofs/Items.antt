@@ -1,12 +1,11 @@
 -- The steps of a stream of the pieces of a reader.
 use Rattle.std.specs.Prelude.{◌≡◌, ◌<◌, ◌≤◌, ◌+◌, ℕ, List, [], ◌∷◌, ◌++◌, Option, Some, None, Result, Ok, Err, length, take, ⊤, IfErr, IfOk}
-use Rattle.lite_read.specs.Uses.{inl, inr, refl, arith, error_kind, Error, OutOfMemory, Ready, Pending, IsFirstByte, is_byte, ReadMark, bytes, filled_marks, MarkLaws}
-use Rattle.lite_read.specs.Uses.{Runs}
+use Rattle.lite_read.specs.Uses.{inl, inr, refl, arith, error_kind, Error, OutOfMemory, Ready, Pending, IsFirstByte}
+use Rattle.lite_read.specs.Uses.{is_byte, ReadMark, bytes, filled_marks, MarkLaws, Runs}
 use Rattle.lite_read.specs.Pieces.{AtEnd, Cut, Itemised, pieces}
 use Rattle.lite_read.specs.Segments.{Flows, StreamOver}
-use Rattle.lite_read.specs.PieceSteps.{TakesPieceIn}
-use Rattle.lite_read.proofs.Cutting.{concludes_at, concludes_piece, fill_then, flow_one, found_at, found_none}
-use Rattle.lite_read.proofs.Cutting.{takes_all, waits_here}
+use Rattle.lite_read.specs.PollSteps.{TakesPieceIn}
+use Rattle.lite_read.proofs.Cutting.{concludes_at, concludes_piece, fill_then, flow_one, found_at, found_none, takes_all, waits_here}
 
 module _ {X S K A : Type 0} {over : StreamOver X S (List ℕ) K} {byte : K → ℕ}
     {whole final : List ℕ → Result A Error → Type 0} {m : List ℕ → Type 0} {reads : Runs ReadMark S}

@@ -2,7 +2,7 @@
 use Rattle.std.specs.Prelude.{◌≡◌, ◌≢◌, ◌<◌, ◌≤◌, ◌+◌, ◌==◌, ℕ, Bool, true, List, [], ◌∷◌, Some, None, length}
 use Rattle.lite_read.specs.Uses.{false, refl, arith, get_or, eqb-true, eq-eqb, length-take-le, zero, suc, before_first, IsFirstByte, is_byte}
 use Rattle.std.proofs.lemmas.List.Sums.{position_or_len_is}
-use Rattle.lite_read.specs.BytePieces.{through_first}
+use Rattle.lite_read.specs.Pieces.{through_first}
 
 not_true : (b : Bool) → (b ≡ true → ⊥) → b ≡ false
 not_true true n = absurd (n refl)

@@ -5,7 +5,6 @@ mod Refusals
 mod Strings
 mod TextSteps
 mod Until
-pub mod Ample
 pub mod Appending
 pub mod Cutting
 pub mod Filling

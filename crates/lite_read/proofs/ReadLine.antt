@@ -1,7 +1,8 @@
 -- The steps of `read_line`.
 use Rattle.std.specs.Prelude.{◌≡◌, ◌<◌, ◌+◌, ℕ, List, [], ◌++◌, Some, None, Result, Ok, Err, length, take, IfErr, IfOk, IsUtf8, string_bytes, true}
-use Rattle.lite_read.specs.Uses.{◌∙◌, inl, refl, sym, subst, arith, append-nil, length-take-le, error_kind, FoldsTo, Error, OutOfMemory, IsFirstByte, is_byte}
-use Rattle.lite_read.specs.Uses.{Ready, ReadMark, bytes, filled_marks, MarkLaws, Runs}
+use Rattle.lite_read.specs.Uses.{◌∙◌, inl, refl, sym, subst, arith, append-nil, length-take-le, error_kind, FoldsTo}
+use Rattle.lite_read.specs.Uses.{Error, OutOfMemory, IsFirstByte, is_byte, Ready, ReadMark, bytes, filled_marks}
+use Rattle.lite_read.specs.Uses.{MarkLaws, Runs}
 use Rattle.lite_read.specs.ReadFold.{AnswerMarks}
 use Rattle.lite_read.proofs.Cutting.{fill_then, found_at, found_none, takes_all}
 use Rattle.lite_read.specs.ReadUntil.{CountsPiece}
@@ -9,7 +10,7 @@ use Rattle.lite_read.proofs.Lacking.{lacks_through, through_found}
 use Rattle.lite_read.specs.Holding.{TextStays, room_for}
 use Rattle.lite_read.specs.ReadLine.{LineHolds, LineLacksMemory, line_over, read_line_fold}
 use Rattle.lite_read.specs.Texts.{AppendsText, FinishesText, ValueOf}
-use Rattle.lite_read.specs.TextSteps.{AnswersText, AnswersTextByRoom, TakesTextIn}
+use Rattle.lite_read.specs.PollSteps.{AnswersText, AnswersTextByRoom, TakesTextIn}
 use Rattle.lite_read.specs.declared.read_line.ReadLineFuture.{ReadLineFuture}
 use Rattle.lite_read.proofs.Texts.{all_utf8}
 use Rattle.lite_read.proofs.TextSteps.{text_finished, text_given, text_value}

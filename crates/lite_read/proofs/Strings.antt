@@ -1,17 +1,16 @@
 -- The steps of `read_to_string`.
 use Rattle.std.specs.Prelude.{◌≡◌, ◌≤◌, ◌<◌, ◌+◌, ◌-◌, ℕ, List, [], ◌∷◌, length, take, Result, Ok, Err, ⊤, ◌*◌, max, string_bytes}
-use Rattle.lite_read.specs.Uses.{◌∙◌, refl, ap, sym, subst, arith, length-take-le, error_kind, with_items, Error, OutOfMemory, Ready, Pending, ReadMark, bytes}
-use Rattle.lite_read.specs.Uses.{moved_marks, segment_alone, Runs}
+use Rattle.lite_read.specs.Uses.{◌∙◌, refl, ap, sym, subst, arith, length-take-le, error_kind, with_items, Error}
+use Rattle.lite_read.specs.Uses.{OutOfMemory, Ready, Pending, ReadMark, bytes, moved_marks, segment_alone, Runs}
 use denote.MutBor.{MutBor}
 use borrow.Rule.Slice.PartMut.{put_mid}
 use Rattle.lite_read.proofs.Filling.{Behind, bytes_came, how_long, put_front, put_kept, put_len}
 use Rattle.lite_read.specs.ReadFold.{AnswerMarks}
 use Rattle.lite_read.specs.Laws.ReadToEnd.{appends_all}
 use Rattle.lite_read.specs.Holding.{TextStays, room_for}
-use Rattle.lite_read.specs.ReadToString.{StringHolds, all_over}
-use Rattle.lite_read.specs.ReadToString.{read_to_string_fold, text_front}
+use Rattle.lite_read.specs.ReadToString.{StringHolds, all_over, read_to_string_fold, text_front}
 use Rattle.lite_read.specs.Texts.{FinishesText}
-use Rattle.lite_read.specs.TextSteps.{AnswersText, TakesTextIn}
+use Rattle.lite_read.specs.PollSteps.{AnswersText, TakesTextIn}
 use Rattle.lite_read.proofs.TextSteps.{text_finished, text_waits}
 use Rattle.lite_read.specs.declared.read_to_string.ReadToStringFuture.{ReadToStringFuture}
 

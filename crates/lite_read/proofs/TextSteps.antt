@@ -1,7 +1,7 @@
 -- Answers of futures that read for a text.
 use Rattle.std.specs.Prelude.{◌≡◌, ℕ, List, [], ◌∷◌, Result, ⊤, string_bytes}
-use Rattle.lite_read.specs.Uses.{refl, subst, sym, Error, Poll, Ready, Pending, OnPending, Reaches, Ranks, ReadCounting, ReadMark, MarkLaws, up_to_one}
-use Rattle.lite_read.specs.Uses.{segment_alone, segments_one, Runs}
+use Rattle.lite_read.specs.Uses.{refl, subst, sym, Error, Poll, Ready, Pending, OnPending, Reaches, Ranks, ReadCounting}
+use Rattle.lite_read.specs.Uses.{ReadMark, MarkLaws, up_to_one, segment_alone, segments_one, Runs}
 use denote.MutBor.{MutBor}
 use Rattle.lite_read.specs.ReadFold.{AnswerMarks, ReadFold}
 use Rattle.lite_read.specs.Laws.Refusals.{takes_alike}
@@ -9,7 +9,7 @@ use Rattle.lite_read.specs.Holding.{TextOver, TextStays}
 use Rattle.lite_read.specs.Laws.Texts.{TextRoom, folds_in, stays_join, step_before, text_weaker_run}
 use Rattle.lite_read.specs.Laws.PollSteps.{goes_again, steps_answer}
 use Rattle.lite_read.specs.Texts.{AppendsText, FinishesText, ReadsText, ValueOf, in_text, reading}
-use Rattle.lite_read.specs.TextSteps.{AnswersText, AnswersTextByRoom, TakesTextIn}
+use Rattle.lite_read.specs.PollSteps.{AnswersText, AnswersTextByRoom, TakesTextIn}
 
 module _ {X R A : Type 0} (over : TextOver X R A) (fold : ReadFold (List ℕ) (Result ℕ Error)) (reads : Runs ReadMark R)
     (x y : X) (stays : TextStays over x y) where

@@ -1,17 +1,16 @@
 -- The steps of `read_until`.
 use Rattle.std.specs.Prelude.{◌≡◌, ◌<◌, ◌≤◌, ◌+◌, ◌-◌, ℕ, List, [], ◌∷◌, ◌++◌, Some, None, Result, Ok, Err, length, take, drop, ⊤, vec_capacity}
-use Rattle.lite_read.specs.Uses.{◌∙◌, inl, inr, refl, ap, sym, subst, arith, append-nil, append_assoc, length-append, length-drop, take-append-le}
-use Rattle.lite_read.specs.Uses.{error_kind, Error, OutOfMemory, Poll, Ready, Pending, IsFirstByte, is_byte, ReadMark, bytes, filled_marks, MarkLaws}
-use Rattle.lite_read.specs.Uses.{Reaches, up_to_one, segments_one, Runs}
+use Rattle.lite_read.specs.Uses.{◌∙◌, inl, inr, refl, ap, sym, subst, arith, append-nil, append_assoc, length-append}
+use Rattle.lite_read.specs.Uses.{length-drop, take-append-le, error_kind, Error, OutOfMemory, Poll, Ready, Pending}
+use Rattle.lite_read.specs.Uses.{IsFirstByte, is_byte, ReadMark, bytes, filled_marks, MarkLaws, Reaches, up_to_one}
+use Rattle.lite_read.specs.Uses.{segments_one, Runs}
 use Rattle.std.proofs.lemmas.List.{drop-append-le}
 use Rattle.lite_read.specs.ReadFold.{AnswerMarks}
 use Rattle.lite_read.specs.Pieces.{Cut}
-use Rattle.lite_read.specs.UntilVector.{UntilStays, read_of}
-use Rattle.lite_read.specs.ReadUntil.{CountsPiece, ReadsUntil, ReadsUntilByRoom, UntilLacksRoom, until, until_where}
-use Rattle.lite_read.specs.PieceSteps.{AppendsMore}
+use Rattle.lite_read.specs.ReadUntil.{UntilStays, read_of, CountsPiece, ReadsUntil, ReadsUntilByRoom, UntilLacksRoom, until, until_where}
+use Rattle.lite_read.specs.PollSteps.{AppendsMore}
 use Rattle.lite_read.specs.declared.read_until.ReadUntilFuture.{ReadUntilFuture}
-use Rattle.lite_read.proofs.Cutting.{concludes_at, concludes_piece, fill_then, found_at, found_none, takes_all}
-use Rattle.lite_read.proofs.Cutting.{waits_here}
+use Rattle.lite_read.proofs.Cutting.{concludes_at, concludes_piece, fill_then, found_at, found_none, takes_all, waits_here}
 use Rattle.lite_read.specs.Laws.PollSteps.{steps_answer}
 use Rattle.lite_read.specs.Laws.ReadUntil.{lacks_sooner, step_before}
 use Rattle.lite_read.specs.Laws.Refusals.{gathers_weaker, pieces_weaker, takes_alike}

@@ -1,10 +1,7 @@
-pub mod ByRoom
 pub mod Bytes
-pub mod CalmRead
 pub mod Counting
 pub mod Deterministic
 pub mod DeterministicPieces
-pub mod DeterministicTexts
 pub mod Gathers
 pub mod Marks
 pub mod PollSteps
@@ -15,8 +12,4 @@ pub mod ReadToEnd
 pub mod ReadUntil
 pub mod Refusals
 pub mod Segments
-pub mod SteadyBytes
-pub mod SteadyReadExact
-pub mod SteadyReadToEnd
-pub mod SteadyTexts
 pub mod Texts

@@ -1,16 +1,11 @@
-pub mod Appending
-pub mod BytePieces
 pub mod Bytes
 pub mod Deterministic
 pub mod FillBuf
-pub mod Filling
 pub mod Find
 pub mod Holding
 pub mod Laws
-pub mod LineText
 pub mod Lines
 pub mod NoneRefused
-pub mod PieceSteps
 pub mod Pieces
 pub mod PollSteps
 pub mod Polled
@@ -26,7 +21,5 @@ pub mod Scan
 pub mod Seek
 pub mod Segments
 pub mod Split
-pub mod TextSteps
 pub mod Texts
-pub mod UntilVector
 pub mod Uses

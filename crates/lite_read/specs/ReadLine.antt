@@ -1,7 +1,7 @@
 -- The `read_line` future: it reads as `read_until` does up to a newline, 0x0A, and appends the bytes to a `String`.
 use Rattle.std.specs.Prelude.{◌≡◌, ◌≤◌, ◌<◌, ◌+◌, ℕ, List, Result, length}
 use Rattle.lite_read.specs.Uses.{is_ascii, list_all, Error, Poll, ReadMark, Runs}
-use Rattle.lite_read.specs.BytePieces.{through_first}
+use Rattle.lite_read.specs.Pieces.{through_first}
 use Rattle.lite_read.specs.ReadUntil.{until_where}
 use Rattle.lite_read.specs.ReadFold.{ReadFold}
 use Rattle.lite_read.specs.Holding.{HasRoomFor, TextOver, room_for}

@@ -1,9 +1,46 @@
 -- The `read_to_end` future: the bytes before the first end of file are appended to a vector.
-use Rattle.std.specs.Prelude.{◌≡◌, ◌<◌, ◌+◌, ◌*◌, ℕ, List, [], ◌∷◌, ◌++◌, length, max, Result, Ok, Err, ⊤, vec_capacity}
-use Rattle.lite_read.specs.Uses.{error_kind, Error, OutOfMemory, Poll, ReadMark, Runs}
-use Rattle.lite_read.specs.Appending.{ToEndStays, VectorGrows}
-use Rattle.lite_read.specs.ReadFold.{Gathers, GathersByRoom, ReadFold}
+use Rattle.std.specs.Prelude.{◌≡◌, ◌≤◌, ◌-◌, ◌*◌, ℕ, List, length, take, max, vec_capacity, ◌<◌, ◌+◌, [], ◌∷◌, ◌++◌, Result, Ok, Err, ⊤}
 use Rattle.lite_read.specs.declared.read_to_end.ReadToEndFuture.{ReadToEndFuture}
+use Rattle.lite_read.specs.Uses.{error_kind, Error, OutOfMemory, Poll, ReadMark, Runs}
+use Rattle.lite_read.specs.ReadFold.{Gathers, GathersByRoom, ReadFold}
+
+-- The vector of a `read_to_end` future. The bytes read so far are at its front, and room for the next read follows
+-- them.
+
+module _ {R A : Type 0} where
+  -- The bytes in the vector up to `filled`: those that were there before the call, and those read so far. The room
+  -- behind them is left out.
+  abbrev pub read_front : ReadToEndFuture R A → List ℕ
+  read_front x = take x.filled x.buf.now.items
+
+  -- A poll keeps both references of the `read_to_end` future, to the reader and to the vector. It also keeps `start`,
+  -- the length that the vector had before the call.
+  pub record ToEndStays (x y : ReadToEndFuture R A) : Type 0 where
+    pub reader : y.reader ≡ record x.reader { now = y.reader.now }
+    pub buf : y.buf ≡ record x.buf { now = y.buf.now }
+    pub start : y.start ≡ x.start
+
+  -- From `x` to `y`, the number of filled bytes grows or stays, and so does the vector's capacity. `y.room` is at most
+  -- the larger of `x.room` and twice the number of bytes read in between.
+  pub record ToEndGrows (x y : ReadToEndFuture R A) : Type 0 where
+    pub filled : x.filled ≤ y.filled
+    pub within : y.filled ≤ length y.buf.now.items
+    pub capacity : vec_capacity x.buf.now ≤ vec_capacity y.buf.now
+    pub room : y.room ≤ max x.room (2 * (y.filled - x.filled))
+
+  -- From `x` to `y`, the vector's length grows or stays, and so does its capacity. `y.room` is at most the larger of
+  -- `x.room` and twice the number of bytes appended in between.
+  pub record VectorGrows (x y : ReadToEndFuture R A) : Type 0 where
+    pub items : length x.buf.now.items ≤ length y.buf.now.items
+    pub capacity : vec_capacity x.buf.now ≤ vec_capacity y.buf.now
+    pub room : y.room ≤ max x.room (2 * (length y.buf.now.items - length x.buf.now.items))
+
+  -- The future can be polled: the bytes read so far are within the vector, and the reader's rank counts (`counting`),
+  -- so its reads terminate.
+  pub record CanAppend (counting : R → Type 0) (x : ReadToEndFuture R A) : Type 0 where
+    pub started : x.start ≤ x.filled
+    pub within : x.filled ≤ length x.buf.now.items
+    pub counts : counting x.reader.now
 
 -- The value of `read_to_end`, and the marks that produce it. At end of file it is `Ok` of the number of bytes appended
 -- behind the first `start`. An error of the reader is the value. If `may_refuse` holds, it may be a failed allocation,

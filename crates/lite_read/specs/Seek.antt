@@ -1,7 +1,7 @@
 -- The `seek` future: each poll seeks once.
 use Rattle.std.specs.Prelude.{◌≡◌, ℕ, Result}
 use Rattle.lite_read.specs.Uses.{Error, ErrorKind, Poll}
-use Rattle.lite_io_base.specs.Kinds.{by_kind}
+use Rattle.lite_io_base.specs.Marks.{by_kind}
 use Rattle.std.specs.declared.io.traits.SeekFrom.{SeekFrom}
 use Rattle.lite_read.specs.declared.seek.SeekFuture.{SeekFuture}
 

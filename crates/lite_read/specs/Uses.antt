@@ -9,28 +9,26 @@ pub use Rattle.lite_base.specs.Calm.{CalmLaws, NoPending}
 pub use Rattle.lite_base.specs.Chain.{OneStep, Reaches}
 pub use Rattle.lite_base.specs.FutureLaws.{FutureLaws, FutureRunLaws}
 pub use Rattle.lite_base.specs.Laws.Answers.{up_to_once, up_to_one}
-pub use Rattle.lite_base.specs.Laws.Ends.{Terminates-map}
+pub use Rattle.lite_base.specs.Laws.Ranks.{Terminates-map}
 pub use Rattle.lite_base.specs.Laws.FutureLaws.{future_laws_of}
 pub use Rattle.lite_base.specs.Laws.Segments.{segment_alone, segments_one}
 pub use Rattle.lite_base.specs.Laws.StreamLaws.{laws_of, runs_of}
-pub use Rattle.lite_base.specs.Rank.{Below, Lowers}
-pub use Rattle.lite_base.specs.Ranks.{Ranks, ranks_of}
-pub use Rattle.lite_base.specs.Registered.{Registered}
+pub use Rattle.lite_base.specs.Ranks.{Below, Lowers, Ranks, ranks_of}
+pub use Rattle.lite_base.specs.Registered.{Registered, HoldsWoken}
 pub use Rattle.lite_base.specs.Runs.{NoHint, Runs}
 pub use Rattle.lite_base.specs.Segments.{Segments}
 pub use Rattle.lite_base.specs.Steady.{FutureSteadyLawsBy, SteadyLawsBy}
 pub use Rattle.lite_base.specs.StreamLaws.{RunLaws, StreamLaws}
-pub use Rattle.lite_base.specs.Woken.{HoldsWoken}
-pub use Rattle.lite_io_base.specs.Counting.{ReadCounting}
-pub use Rattle.lite_io_base.specs.Falls.{Falls}
-pub use Rattle.lite_io_base.specs.Laws.Falls.{GivenRun}
+pub use Rattle.lite_io_base.specs.Counting.{ReadCounting, Falls}
+pub use Rattle.lite_io_base.specs.Laws.Counting.{GivenRun}
 pub use Rattle.lite_io_base.specs.Laws.Lent.{lent_still}
 pub use Rattle.lite_io_base.specs.Marks.{ReadMark, bytes, fill_marks, filled_marks, given_count, moved_marks}
 pub use Rattle.lite_io_base.specs.Runs.{LendsFront, MarkLaws}
 pub use Rattle.lite_io_base.specs.Steady.{CalmReadLaws, NoPendingRead, SteadyReadLaws, strip_marks}
 pub use Rattle.memchr.specs.Find.{IsFirstByte, is_byte}
-pub use Rattle.std.proofs.Common.{All, Global, add-one, ap, append-nil, append_assoc, arith, cond, eq-eqb, eqb-true, false, get_or, inl, inr, le_refl}
-pub use Rattle.std.proofs.Common.{leb, length-append, length-take-le, not, refl, rules, subst, suc, sym, zero, ◌∙◌}
+pub use Rattle.std.proofs.Common.{All, Global, add-one, ap, append-nil, append_assoc, arith, cond, eq-eqb, eqb-true}
+pub use Rattle.std.proofs.Common.{false, get_or, inl, inr, le_refl, leb, length-append, length-take-le, not, refl}
+pub use Rattle.std.proofs.Common.{rules, subst, suc, sym, zero, ◌∙◌}
 pub use Rattle.std.proofs.lemmas.Bool.{le-leb, lt-leb, lt-ltb}
 pub use Rattle.std.proofs.lemmas.Grind.{common_steps}
 pub use Rattle.std.proofs.lemmas.List.{length-drop, length-take, map-append, take-append-le}
@@ -43,6 +41,6 @@ pub use Rattle.std.specs.List.{AllByRecursion, FoldsTo, before_first, list_all, 
 pub use Rattle.std.specs.Vec.{with_items}
 pub use Rattle.std.specs.declared.io.Error.{Error}
 pub use Rattle.std.specs.declared.io.ErrorKind.{ErrorKind}
-pub use Rattle.std.specs.declared.io.ErrorKind.TheVariants.{Interrupted, InvalidData, OutOfMemory}
+pub use Rattle.std.specs.declared.io.ErrorKind.TheVariants.{Interrupted, OutOfMemory}
 pub use Rattle.std.specs.declared.string.String.{String}
 pub use Rattle.std.specs.declared.vec.Vec.{Vec}

@@ -4,8 +4,7 @@ ghost use Rattle.lite_io_base.specs.Laws.Runs.{idle_laws};
 ghost use Rattle.lite_io_base.specs.Runs.{Idle};
 ghost use Rattle.lite_read.specs.Bytes.{BytesPend, GivesBytes};
 ghost use Rattle.lite_read.specs.Deterministic.{SameByKind};
-ghost use Rattle.lite_read.specs.Laws.Bytes.{bytes_counting, bytes_laws, inner_calm, inner_counting, inner_laws, inner_steady};
-ghost use Rattle.lite_read.specs.Laws.SteadyBytes.{bytes_steady};
+ghost use Rattle.lite_read.specs.Laws.Bytes.{bytes_counting, bytes_laws, inner_calm, inner_counting, inner_laws, inner_steady, bytes_steady};
 
 use lite_base::{Context, Counted, OkCounted, Poll, SteadyStream, Stream};
 use lite_io_base::{AsyncRead, CalmRead, CountedRead, ReadSpec, SteadyRead, WriteSpec};
@@ -67,7 +66,7 @@ impl<R: CountedRead> Counted for Bytes<R> {
 }
 
 impl<R: CountedRead> OkCounted for Bytes<R> {
-    ghost use Rattle.lite_base.specs.Laws.OkRanks.{ok_counting};
+    ghost use Rattle.lite_base.specs.Laws.Ranks.{ok_counting};
 
     type Ok = u8;
 

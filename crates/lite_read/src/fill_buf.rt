@@ -1,7 +1,6 @@
 ghost use Rattle.std.specs.Prelude.{◌≡◌, IsSome, IfSome, refl};
 ghost use Rattle.lite_read.specs.FillBuf.{FillsOnce};
-ghost use Rattle.lite_read.specs.Laws.CalmRead.{fill_calm};
-ghost use Rattle.lite_read.specs.Laws.Polled.{polled_laws};
+ghost use Rattle.lite_read.specs.Laws.Polled.{fill_calm, polled_laws};
 ghost use Rattle.lite_read.specs.Polled.{PolledByCalls};
 
 use lite_base::{CalmFuture, Context, Future, Poll};

@@ -6,9 +6,9 @@ ghost use Rattle.lite_read.specs.Laws.DeterministicPieces.{FlowAlike, flow_calm,
 ghost use Rattle.lite_read.specs.Laws.Marks.{SameText, line_one, text_one};
 ghost use Rattle.lite_read.specs.Laws.PollSteps.{takes_given};
 ghost use Rattle.lite_read.specs.Laws.Segments.{flow_counting_laws};
-ghost use Rattle.lite_read.specs.LineText.{IsText, without_return};
+ghost use Rattle.lite_read.specs.Texts.{IsText, without_return};
 ghost use Rattle.lite_read.specs.Lines.{GivesLines, LineLacksRoom, lines_over, line_fold};
-ghost use Rattle.lite_read.specs.PieceSteps.{TakesPieceIn};
+ghost use Rattle.lite_read.specs.PollSteps.{TakesPieceIn};
 
 use crate::find::find_line;
 use crate::text::LineBytes;

@@ -1,5 +1,4 @@
-ghost use Rattle.lite_read.specs.Laws.CalmRead.{read_calm};
-ghost use Rattle.lite_read.specs.Laws.Polled.{polled_laws};
+ghost use Rattle.lite_read.specs.Laws.Polled.{read_calm, polled_laws};
 ghost use Rattle.lite_read.specs.Polled.{PolledByCalls};
 ghost use Rattle.lite_read.specs.Read.{Reads};
 

@@ -1,11 +1,10 @@
 ghost use Rattle.std.specs.Prelude.{◌≤◌, ◌-◌, [], ◌∷◌, length};
 ghost use Rattle.lite_read.specs.Uses.{OneStep, Sameness};
-ghost use Rattle.lite_base.specs.Laws.Ends.{Terminates-count};
+ghost use Rattle.lite_base.specs.Laws.Ranks.{Terminates-count};
 ghost use Rattle.lite_read.specs.Deterministic.{SameByKind};
 ghost use Rattle.lite_read.specs.PollSteps.{ReadsMore};
 ghost use Rattle.lite_read.specs.ReadExact.{ReadsExactly};
-ghost use Rattle.lite_read.specs.Laws.ReadExact.{exact_laws, room_falls};
-ghost use Rattle.lite_read.specs.Laws.SteadyReadExact.{ExactAlike, exact_calm, exact_steady};
+ghost use Rattle.lite_read.specs.Laws.ReadExact.{exact_laws, room_falls, ExactAlike, exact_calm, exact_steady};
 
 use lite_base::{CalmFuture, Context, Future, Poll, PollSteps, SteadyFuture, drive};
 use lite_io_base::{AsyncRead, CalmRead, SteadyRead};

@@ -3,13 +3,12 @@ ghost use Rattle.lite_read.specs.Uses.{is_ascii, error_kind, list_all, OutOfMemo
 ghost use Rattle.lite_read.specs.Deterministic.{SameByKind};
 ghost use Rattle.lite_read.specs.Holding.{TextStays, room_for};
 ghost use Rattle.lite_read.specs.ReadLine.{LineHolds, LineLacksMemory, ReadsLine, ReadsLineByRoom, line_over, read_line_fold};
-ghost use Rattle.lite_read.specs.TextSteps.{AnswersTextByRoom, TakesTextIn};
+ghost use Rattle.lite_read.specs.PollSteps.{AnswersTextByRoom, TakesTextIn};
 ghost use Rattle.lite_read.specs.Texts.{FinishesText};
-ghost use Rattle.lite_read.specs.Laws.ByRoom.{room_calm};
+ghost use Rattle.lite_read.specs.Laws.Refusals.{room_calm};
 ghost use Rattle.lite_read.specs.Laws.Marks.{until_deterministic};
 ghost use Rattle.lite_read.specs.Laws.PollSteps.{takes_given};
-ghost use Rattle.lite_read.specs.Laws.SteadyTexts.{TextAlike, text_steady};
-ghost use Rattle.lite_read.specs.Laws.Texts.{line_room, text_room_laws};
+ghost use Rattle.lite_read.specs.Laws.Texts.{TextAlike, text_steady, line_room, text_room_laws};
 
 use crate::find::find_line;
 use crate::held::{finish, lends_text, take_in, take_text};

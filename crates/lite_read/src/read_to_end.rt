@@ -1,12 +1,10 @@
 ghost use Rattle.std.specs.Prelude.{◌≡◌, ◌≤◌, ◌<◌, ◌+◌, max, length, vec_capacity, ⊤, OnErr, OnOk};
 ghost use Rattle.lite_read.specs.Uses.{OneStep, Sameness};
-ghost use Rattle.lite_read.specs.Appending.{CanAppend, read_front};
+ghost use Rattle.lite_read.specs.ReadToEnd.{CanAppend, read_front, ReadsToEnd, ReadsToEndByRoom};
 ghost use Rattle.lite_read.specs.Deterministic.{SameByKind};
 ghost use Rattle.lite_read.specs.PollSteps.{AnswersByRoom, ReadsSome};
-ghost use Rattle.lite_read.specs.ReadToEnd.{ReadsToEnd, ReadsToEndByRoom};
-ghost use Rattle.lite_read.specs.Laws.ByRoom.{room_calm};
-ghost use Rattle.lite_read.specs.Laws.ReadToEnd.{some_falls, steps_on, to_end_room_laws};
-ghost use Rattle.lite_read.specs.Laws.SteadyReadToEnd.{ToEndAlike, to_end_steady};
+ghost use Rattle.lite_read.specs.Laws.Refusals.{room_calm};
+ghost use Rattle.lite_read.specs.Laws.ReadToEnd.{some_falls, steps_on, to_end_room_laws, ToEndAlike, to_end_steady};
 
 use crate::room::{FIRST_ROOM, add_zeros, next_room};
 use lite_base::{CalmFuture, Context, Future, Poll, PollSteps, SteadyFuture, drive};

@@ -2,15 +2,13 @@ ghost use Rattle.std.specs.Prelude.{⊤, ◌≡◌, ◌≤◌, ◌<◌, ◌+◌,
 ghost use Rattle.lite_read.specs.Uses.{OneStep, Sameness, Terminates-map, bytes};
 ghost use Rattle.lite_read.specs.Deterministic.{SameByKind};
 ghost use Rattle.lite_read.specs.Holding.{TextStays, room_for};
-ghost use Rattle.lite_read.specs.ReadToString.{ReadsStringByRoom, StringHolds, StringLacksMemory, all_over};
-ghost use Rattle.lite_read.specs.ReadToString.{ReadsToString, read_to_string_fold, text_front};
-ghost use Rattle.lite_read.specs.TextSteps.{AnswersTextByRoom, TakesTextIn};
+ghost use Rattle.lite_read.specs.ReadToString.{ReadsStringByRoom, StringHolds, StringLacksMemory, all_over, ReadsToString, read_to_string_fold, text_front};
+ghost use Rattle.lite_read.specs.PollSteps.{AnswersTextByRoom, TakesTextIn};
 ghost use Rattle.lite_read.specs.Texts.{FinishesText};
-ghost use Rattle.lite_read.specs.Laws.ByRoom.{room_calm};
+ghost use Rattle.lite_read.specs.Laws.Refusals.{room_calm};
 ghost use Rattle.lite_read.specs.Laws.PollSteps.{takes_given};
-ghost use Rattle.lite_read.specs.Laws.SteadyReadToEnd.{appends_deterministic};
-ghost use Rattle.lite_read.specs.Laws.SteadyTexts.{TextAlike, text_steady};
-ghost use Rattle.lite_read.specs.Laws.Texts.{string_room, text_room_laws};
+ghost use Rattle.lite_read.specs.Laws.ReadToEnd.{appends_deterministic};
+ghost use Rattle.lite_read.specs.Laws.Texts.{TextAlike, text_steady, string_room, text_room_laws};
 
 use crate::held::{finish, make_room};
 use crate::room::{FIRST_ROOM, next_room};

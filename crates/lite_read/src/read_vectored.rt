@@ -1,6 +1,5 @@
 ghost use Rattle.std.specs.Prelude.{IsSome, refl};
-ghost use Rattle.lite_read.specs.Laws.CalmRead.{vectored_calm};
-ghost use Rattle.lite_read.specs.Laws.Polled.{polled_laws};
+ghost use Rattle.lite_read.specs.Laws.Polled.{vectored_calm, polled_laws};
 ghost use Rattle.lite_read.specs.Polled.{PolledByCalls};
 ghost use Rattle.lite_read.specs.ReadVectored.{ReadsVectored};
 

@@ -1,7 +1,7 @@
 ghost use Rattle.std.specs.Prelude.{⊤, ◌≡◌, ◌≤◌, ◌<◌, ◌++◌, ◌+◌, Option, None, [], ◌∷◌, length, take, vec_capacity, IfErr, IfOk};
 ghost use Rattle.lite_read.specs.Uses.{error_kind, OutOfMemory, OneStep, Terminates-map, NoHint, bytes, Keeps, Registered, Sameness};
 ghost use Rattle.lite_read.specs.Deterministic.{SameOr};
-ghost use Rattle.lite_read.specs.PieceSteps.{TakesPieceIn};
+ghost use Rattle.lite_read.specs.PollSteps.{TakesPieceIn};
 ghost use Rattle.lite_read.specs.Pieces.{AtEnd};
 ghost use Rattle.lite_read.specs.Split.{IsVec, PieceLacksRoom, Splits, split_over, splitting};
 ghost use Rattle.lite_read.specs.Laws.Counting.{flow_counting, flow_ranks, pieces_out};

@@ -2,7 +2,7 @@
 ghost use Rattle.std.specs.Prelude.{◌≡◌, ◌≤◌, ◌<◌, ◌+◌, ◌++◌, [], true, length, vec_capacity, IfErr, IfOk, IsUtf8, OnErr, OnOk};
 ghost use Rattle.lite_read.specs.Uses.{is_ascii, error_kind, list_all, OutOfMemory};
 ghost use Rattle.lite_read.specs.Pieces.{AtEnd};
-ghost use Rattle.lite_read.specs.LineText.{IsText, without_return};
+ghost use Rattle.lite_read.specs.Texts.{IsText, without_return};
 
 use simdutf8::basic::from_utf8;
 use std::alloc::{AllocError, Global};

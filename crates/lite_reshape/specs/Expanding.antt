@@ -1,7 +1,7 @@
 -- Adapters that replace each item by a list of results. Such an adapter holds the value that is made of the current
 -- item.
 use Rattle.std.specs.Prelude.{◌≡◌, ◌⊎◌, List, [], ◌∷◌, ◌++◌, Option, Some, None}
-use Rattle.lite_reshape.specs.Uses.{Ready, Pending, Answer, end, Question, Relates}
+use Rattle.lite_reshape.specs.Uses.{Ready, Pending, Answer, end, Question, Relates, Lasting}
 
 -- `call p x v q`: the call with the item `x` makes `v`, and takes the closure from `p` to `q`. `gives v out left`: `v`
 -- yielded the results `out`, and `left` remains of it, or nothing if it is done.
@@ -32,3 +32,12 @@ module _ {F A V B : Type 0} (call : Question F A V) (gives : V → List (Answer 
   abbrev pub Expanding : Relates (F × Option V) A B
   Expanding (p, None) ins out t = Expands p ins out t.0 t.1
   Expanding (p, Some v) ins out t = StillHeld p v ins out t.0 t.1 ⊎ HeldDone v (Expands p ins) out t.0 t.1
+
+-- What an adapter that may hold a future or a stream registers when it returns `Pending`.
+
+-- What a poll that returns `Pending` registers: what the held value registers, or what the source does if nothing is
+-- held.
+abbrev pub HeldRegisters : {S V : Type 0} → (S → Lasting → Type 0) → (V → Lasting → Type 0) → S → Option V → Lasting
+    → Type 0
+HeldRegisters registers registers' s None fact = registers s fact
+HeldRegisters registers registers' s (Some v) fact = registers' v fact

@@ -1,17 +1,13 @@
 pub mod Agreeing
-pub mod Before
 pub mod Calming
 pub mod Chain
 pub mod Cloned
-pub mod Counting
 pub mod Expanding
 pub mod FlatMap
 pub mod Flatten
 pub mod Leaving
-pub mod Replacing
 pub mod SteadyChain
 pub mod SteadyExpanding
 pub mod SteadyFlatten
 pub mod StepBy
 pub mod Then
-pub mod Zeros

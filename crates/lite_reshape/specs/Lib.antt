@@ -5,7 +5,6 @@ pub mod Filter
 pub mod FilterMap
 pub mod FlatMap
 pub mod Flatten
-pub mod HeldRegisters
 pub mod Inner
 pub mod Laws
 pub mod Leaving

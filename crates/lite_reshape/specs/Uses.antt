@@ -7,26 +7,18 @@ pub use Rattle.lite_base.specs.Answers.{Answer, ComparableBy, Endless, Gives, Wa
 pub use Rattle.lite_base.specs.Calling.{Accepts, AgreeFrom, AgreeKeeping, Calls, Keeping, MakesAlways}
 pub use Rattle.lite_base.specs.Calm.{CalmLaws, NoPending, waits}
 pub use Rattle.lite_base.specs.Chain.{NextStep, Reaches}
-pub use Rattle.lite_base.specs.Ends.{Terminates}
-pub use Rattle.lite_base.specs.Falling.{ItemRun}
-pub use Rattle.lite_base.specs.Future.Handed.{handed}
+pub use Rattle.lite_base.specs.Ranks.{Terminates, ItemRun, Below, Lowers, Counting, Ranks, count_held, ranks_of}
+pub use Rattle.lite_base.specs.Future.Spent.{handed}
 pub use Rattle.lite_base.specs.Laws.Alike.{answer_items, both_items, comparable_as, comparable_nil, ends_same, same_answer}
-pub use Rattle.lite_base.specs.Laws.All.{all_any, all_split}
-pub use Rattle.lite_base.specs.Laws.Answers.{strip_join}
-pub use Rattle.lite_base.specs.Laws.Calling.{MatchesFrom, agree_from_matches}
+pub use Rattle.lite_base.specs.Laws.Answers.{all_any, all_split, strip_join, endless_join, IsItem, OfItem, items_each, not_empty}
+pub use Rattle.lite_base.specs.Laws.Calling.{MatchesFrom, agree_from_matches, makes_on}
 pub use Rattle.lite_base.specs.Laws.Calm.{calm_both, no_pending_join}
 pub use Rattle.lite_base.specs.Laws.Chain.{Reaches-back}
-pub use Rattle.lite_base.specs.Laws.Endless.{endless_join}
-pub use Rattle.lite_base.specs.Laws.Ends.{Terminates-count, Terminates-map}
-pub use Rattle.lite_base.specs.Laws.Falling.{AtMost-both, Below-after, Below-first, Lowers-at_most, Lowers-below}
-pub use Rattle.lite_base.specs.Laws.Hint.{same_hint}
-pub use Rattle.lite_base.specs.Laws.Items.{IsItem, OfItem, items_each}
-pub use Rattle.lite_base.specs.Laws.OkRanks.{ok_counting}
-pub use Rattle.lite_base.specs.Laws.Promises.{makes_on}
+pub use Rattle.lite_base.specs.Laws.Ranks.{AtMost-then_below, Lowers-after, one_less, own_lowers, zeros_least}
+pub use Rattle.lite_base.specs.Laws.Ranks.{Terminates-count, Terminates-map, AtMost-both, Below-after, Below-first}
+pub use Rattle.lite_base.specs.Laws.Ranks.{Lowers-at_most, Lowers-below, ok_counting}
+pub use Rattle.lite_base.specs.Laws.StreamLaws.{same_hint, runs_of}
 pub use Rattle.lite_base.specs.Laws.Segments.{answers_given, answers_taken}
-pub use Rattle.lite_base.specs.Laws.StreamLaws.{runs_of}
-pub use Rattle.lite_base.specs.Rank.{AtMost, Below, Lowers}
-pub use Rattle.lite_base.specs.Ranks.{Counting, Ranks, count_held, ranks_of}
 pub use Rattle.lite_base.specs.Registered.{Registered}
 pub use Rattle.lite_base.specs.Runs.{Hints, NoHint, Question, Runs}
 pub use Rattle.lite_base.specs.Segments.{Segment}
@@ -37,13 +29,11 @@ pub use Rattle.lite_stream.specs.EachItem.{AtEachItem, MayCallEach, items_in}
 pub use Rattle.lite_stream.specs.Laws.Agreeing.{AgreeingOver, through_alike, through_steady_over}
 pub use Rattle.lite_stream.specs.Laws.Calming.{Calming, through_calm}
 pub use Rattle.lite_stream.specs.Laws.EachItem.{each_along, each_asked, each_here}
-pub use Rattle.lite_stream.specs.Laws.Lower.{at_most_below, lowers_after}
 pub use Rattle.lite_stream.specs.Laws.Placed.{PlacedFrom, placed_from_same}
-pub use Rattle.lite_stream.specs.Laws.Through.{AlsoBefore, Entails, Following, Relating, laws_following, through_on, laws_unhinted, through_counting}
-pub use Rattle.lite_stream.specs.Laws.Through.{through_runs}
+pub use Rattle.lite_stream.specs.Laws.Through.{AlsoBefore, Entails, Following, Relating, laws_following, through_on}
+pub use Rattle.lite_stream.specs.Laws.Through.{laws_unhinted, through_counting, through_runs}
 pub use Rattle.lite_stream.specs.Map.{Maps}
-pub use Rattle.lite_stream.specs.Relates.{Relates}
-pub use Rattle.lite_stream.specs.Through.{AdapterParts, Adapts, Through, parts_of}
+pub use Rattle.lite_stream.specs.Through.{Relates, AdapterParts, Adapts, Through, parts_of}
 pub use Rattle.lite_stream.specs.declared.map.Map.{Map}
 pub use Rattle.std.proofs.Common.{ap, append-nil, append_assoc, arith, inl, inr, length-append, refl, subst, sym, ◌∙◌}
 pub use Rattle.std.proofs.lemmas.Fn.{called_at}

@@ -1,8 +1,7 @@
 ghost use Rattle.std.specs.Prelude.{None};
 ghost use Rattle.lite_reshape.specs.Uses.{Calls, NoHint, Maps, ok_counting, OptionBy, SameItem, AgreeFrom};
-ghost use Rattle.lite_reshape.specs.FlatMap.{CanFlatMap, CanStepMap, FlatMapSteps, FlatMaps, flat_map_parts};
-ghost use Rattle.lite_reshape.specs.FlatMap.{EachMade, flat_map_ranks};
-ghost use Rattle.lite_reshape.specs.HeldRegisters.{HeldRegisters};
+ghost use Rattle.lite_reshape.specs.FlatMap.{CanFlatMap, CanStepMap, FlatMapSteps, FlatMaps, flat_map_parts, EachMade, flat_map_ranks};
+ghost use Rattle.lite_reshape.specs.Expanding.{HeldRegisters};
 ghost use Rattle.lite_reshape.specs.Laws.FlatMap.{flat_map_calm, flat_map_counting, flat_map_laws, flat_map_steady, made_end};
 ghost use Rattle.lite_reshape.specs.Laws.Flatten.{flat_ends};
 

@@ -1,7 +1,7 @@
 ghost use Rattle.std.specs.Prelude.{None};
 ghost use Rattle.lite_reshape.specs.Uses.{runs_of, NoHint, laws_following, ok_counting, OptionBy, AlikeBy};
 ghost use Rattle.lite_reshape.specs.Flatten.{Flattens};
-ghost use Rattle.lite_reshape.specs.HeldRegisters.{HeldRegisters};
+ghost use Rattle.lite_reshape.specs.Expanding.{HeldRegisters};
 ghost use Rattle.lite_reshape.specs.Inner.{CanStepFlat, EachInner, FlatSteps, flatten_parts, flattening_ranks};
 ghost use Rattle.lite_reshape.specs.Laws.Calming.{flattening_calm};
 ghost use Rattle.lite_reshape.specs.Laws.Flatten.{flat_ends, flattening, flattening_counting, flattening_on};

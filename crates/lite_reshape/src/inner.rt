@@ -2,7 +2,7 @@
 ghost use Rattle.std.specs.Prelude.{◌≡◌, IfSome, None};
 ghost use Rattle.lite_reshape.specs.Uses.{Keeps, Registered};
 ghost use Rattle.lite_reshape.specs.Inner.{CanFlatten, FlatStep};
-ghost use Rattle.lite_reshape.specs.HeldRegisters.{HeldRegisters};
+ghost use Rattle.lite_reshape.specs.Expanding.{HeldRegisters};
 
 use lite_base::{Context, Counted, Poll, Stream};
 

@@ -1,10 +1,10 @@
 ghost use Rattle.std.specs.Prelude.{◌≡◌, None};
-ghost use Rattle.lite_reshape.specs.Uses.{NoHint, Terminates-count, laws_unhinted, ok_counting, ranks_of, through_counting, through_on, through_steady_over};
+ghost use Rattle.lite_reshape.specs.Uses.{NoHint, Terminates-count, laws_unhinted, ok_counting, ranks_of};
+ghost use Rattle.lite_reshape.specs.Uses.{through_counting, through_on, through_steady_over, one_less};
 ghost use Rattle.lite_reshape.specs.Uses.{through_calm};
 ghost use Rattle.lite_reshape.specs.Leaving.{Sifts};
 ghost use Rattle.lite_reshape.specs.Skip.{Skips, SkipsFirst, skip_parts};
 ghost use Rattle.lite_reshape.specs.Laws.Agreeing.{leaves_showing, skips_match};
-ghost use Rattle.lite_reshape.specs.Laws.Counting.{one_less};
 ghost use Rattle.lite_reshape.specs.Laws.Leaving.{leaves_calming, leaves_relating};
 
 use lite_base::{

@@ -1,7 +1,7 @@
 ghost use Rattle.std.specs.Prelude.{Option, None, ℕ, ◌≡◌, ◌∷◌, [], IfSome};
 ghost use Rattle.lite_reshape.specs.Uses.{Keeps, Registered, Calls, ok_counting, OptionBy, SameItem, AgreeFrom};
 ghost use Rattle.lite_reshape.specs.FlatMap.{EachMade};
-ghost use Rattle.lite_reshape.specs.HeldRegisters.{HeldRegisters};
+ghost use Rattle.lite_reshape.specs.Expanding.{HeldRegisters};
 ghost use Rattle.lite_reshape.specs.Laws.Expanding.{held_counting, held_ranks};
 ghost use Rattle.lite_reshape.specs.Laws.Then.{hands_one, then_calm, then_laws, then_steady};
 ghost use Rattle.lite_reshape.specs.Then.{CanThen, HandsOut, MakesEach, Thens, then_hint, then_parts};

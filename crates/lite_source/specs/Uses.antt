@@ -6,24 +6,17 @@ pub use Rattle.lite_base.specs.Answers.{Answer, Comparable, ComparableBy, Waitin
 pub use Rattle.lite_base.specs.Calling.{AgreeFrom, Calls, MakesAlways}
 pub use Rattle.lite_base.specs.Calm.{CalmLaws, NoPending}
 pub use Rattle.lite_base.specs.Future.Calls.{AlwaysObeys, CallAnswers, NeverPends, Poller}
-pub use Rattle.lite_base.specs.Future.Finishes.{Finishes}
-pub use Rattle.lite_base.specs.Future.Handed.{handed}
-pub use Rattle.lite_base.specs.Future.Spent.{Spends}
+pub use Rattle.lite_base.specs.Future.Spent.{Finishes, handed, Spends}
 pub use Rattle.lite_base.specs.FutureLaws.{FutureLaws, FutureRunLaws}
 pub use Rattle.lite_base.specs.Laws.Alike.{alike_agrees}
-pub use Rattle.lite_base.specs.Laws.All.{all_append}
-pub use Rattle.lite_base.specs.Laws.Calls.{folds_follow}
+pub use Rattle.lite_base.specs.Laws.Answers.{all_append}
+pub use Rattle.lite_base.specs.Laws.Calling.{folds_follow, makes_on}
 pub use Rattle.lite_base.specs.Laws.Calm.{calm_both, no_pending_join}
-pub use Rattle.lite_base.specs.Laws.Falling.{Below-one, Lowers-at_most, Lowers-below}
-pub use Rattle.lite_base.specs.Laws.Future.Handed.{handed_gives, handed_no_pending, handed_waits}
-pub use Rattle.lite_base.specs.Laws.Hint.{same_hint}
-pub use Rattle.lite_base.specs.Laws.OkRanks.{ok_counting}
-pub use Rattle.lite_base.specs.Laws.Promises.{makes_on}
-pub use Rattle.lite_base.specs.Laws.Ranks.{number_counting}
+pub use Rattle.lite_base.specs.Laws.Ranks.{Below-one, Lowers-at_most, Lowers-below, ok_counting, number_counting}
+pub use Rattle.lite_base.specs.Laws.Future.Spent.{handed_gives, handed_no_pending, handed_waits}
+pub use Rattle.lite_base.specs.Laws.StreamLaws.{same_hint, laws_of}
 pub use Rattle.lite_base.specs.Laws.Steady.{steady_always}
-pub use Rattle.lite_base.specs.Laws.StreamLaws.{laws_of}
-pub use Rattle.lite_base.specs.Rank.{Lowers}
-pub use Rattle.lite_base.specs.Ranks.{Counting, Ranks, number_ranks}
+pub use Rattle.lite_base.specs.Ranks.{Lowers, Counting, Ranks, number_ranks}
 pub use Rattle.lite_base.specs.Runs.{NoHint, Question, Runs}
 pub use Rattle.lite_base.specs.Steady.{FutureSteadyLawsBy, Steadiness, SteadinessBy, SteadyLaws, SteadyLawsBy}
 pub use Rattle.lite_base.specs.StreamLaws.{RunLaws, StreamLaws}

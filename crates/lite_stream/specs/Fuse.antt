@@ -1,9 +1,8 @@
 -- `fuse`: the source's results through its first end of stream, and then the end at every poll.
 use Rattle.std.specs.Prelude.{◌≡◌, List, [], ◌∷◌, ◌++◌, Bool, true, false}
 use Rattle.lite_stream.specs.Uses.{AllByRecursion, Answer, end, until_end, Runs}
-use Rattle.lite_stream.specs.Through.{AdapterParts, Through, parts_of}
+use Rattle.lite_stream.specs.Through.{AdapterParts, Through, parts_of, Relates}
 use Rattle.lite_stream.specs.declared.fuse.Fuse.{Fuse}
-use Rattle.lite_stream.specs.Relates.{Relates}
 
 -- Every result in the list is the end of the stream.
 abbrev pub AllEnds : {A : Type 0} → List (Answer A) → Type 0

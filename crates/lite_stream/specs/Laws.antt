@@ -4,8 +4,6 @@ pub mod Cutting
 pub mod EachItem
 pub mod Fuse
 pub mod Held
-pub mod Lower
-pub mod Matching
 pub mod Placed
 pub mod Pointwise
 pub mod Take

@@ -8,7 +8,6 @@ pub mod Laws
 pub mod Map
 pub mod MapWhile
 pub mod Pointwise
-pub mod Relates
 pub mod Scan
 pub mod Take
 pub mod TakeWhile

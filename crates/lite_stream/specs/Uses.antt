@@ -6,14 +6,12 @@ pub use Rattle.lite_base.specs.Calling.{Accepts, AgreeFrom, AgreeKeeping, AgreeO
 pub use Rattle.lite_base.specs.Calm.{waits}
 pub use Rattle.lite_base.specs.Laws.Alike.{ends_same}
 pub use Rattle.lite_base.specs.Laws.Calling.{MatchesFrom}
-pub use Rattle.lite_base.specs.Laws.Falling.{AtMost-both, Below-after, Lowers-below}
-pub use Rattle.lite_base.specs.Laws.Items.{IsItem, first_item, items_each}
-pub use Rattle.lite_base.specs.Laws.OkRanks.{ok_counting}
-pub use Rattle.lite_base.specs.Rank.{AtMost, Below, Lowers}
-pub use Rattle.lite_base.specs.Ranks.{ranks_of}
+pub use Rattle.lite_base.specs.Laws.Ranks.{Lowers-below, ok_counting}
+pub use Rattle.lite_base.specs.Laws.Answers.{IsItem, first_item, items_each}
+pub use Rattle.lite_base.specs.Ranks.{Lowers, ranks_of}
 pub use Rattle.lite_base.specs.Runs.{Hints, NoHint, Question, Runs}
 pub use Rattle.lite_base.specs.StreamLaws.{PollsOn, StreamLaws}
-pub use Rattle.std.proofs.Common.{ap, arith, inl, inr, refl, rules, subst, sym, ◌∙◌}
+pub use Rattle.std.proofs.Common.{ap, arith, inl, inr, refl, rules, ◌∙◌}
 pub use Rattle.std.proofs.lemmas.Fn.{called_at}
 pub use Rattle.std.specs.Fn.{CalledAt}
 pub use Rattle.std.specs.List.{AllByRecursion, FoldsTo}

@@ -1,9 +1,8 @@
 ghost use Rattle.std.specs.Prelude.{⊤, None};
 ghost use Rattle.lite_stream.specs.Uses.{ranks_of, NoHint, ok_counting};
 ghost use Rattle.lite_stream.specs.Copied.{CopiesAll, CopiesItem, Referred, copied_parts};
-ghost use Rattle.lite_stream.specs.Laws.Agreeing.{through_steady_over};
+ghost use Rattle.lite_stream.specs.Laws.Agreeing.{through_steady_over, copies_match};
 ghost use Rattle.lite_stream.specs.Laws.Calming.{through_calm};
-ghost use Rattle.lite_stream.specs.Laws.Matching.{copies_match};
 ghost use Rattle.lite_stream.specs.Laws.Pointwise.{replaces_agreeing, replaces_calming, replaces_relating};
 ghost use Rattle.lite_stream.specs.Laws.Through.{laws_unhinted, through_counting, through_on};
 

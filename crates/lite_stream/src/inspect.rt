@@ -2,9 +2,8 @@ ghost use Rattle.std.specs.Prelude.{⊤, None};
 ghost use Rattle.lite_stream.specs.Uses.{ranks_of, NoHint, CalledAt, ok_counting};
 ghost use Rattle.lite_stream.specs.EachItem.{MayShowEach};
 ghost use Rattle.lite_stream.specs.Inspect.{Inspects, ShowsItem, inspect_parts};
-ghost use Rattle.lite_stream.specs.Laws.Agreeing.{through_steady_over};
+ghost use Rattle.lite_stream.specs.Laws.Agreeing.{through_steady_over, shows_match};
 ghost use Rattle.lite_stream.specs.Laws.Calming.{through_calm};
-ghost use Rattle.lite_stream.specs.Laws.Matching.{shows_match};
 ghost use Rattle.lite_stream.specs.Laws.Pointwise.{asks_showing, exchanges_on, replaces_calming, replaces_relating, replaces_showing};
 ghost use Rattle.lite_stream.specs.Laws.Through.{laws_unhinted, through_counting};
 

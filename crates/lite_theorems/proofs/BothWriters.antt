@@ -1,18 +1,17 @@
 -- A writer that is handed some bytes and then flushed, and two that are alike.
 use Rattle.std.specs.Prelude.{IfErr, IfOk, IsOk, ◌≡◌, ℕ, List, [], ◌∷◌, ◌++◌, Result, Ok, Err, map}
-use Rattle.lite_theorems.specs.Uses.{◌∙◌, inl, inr, refl, sym, ap, subst, arith, append_assoc, append-nil, error_kind, FoldsTo, Error, Poll, Ready}
-use Rattle.lite_theorems.specs.Uses.{Pending, Gives, segment_front, to_value_last, Runs, MarkLaws, StandsFirst, WriteMark, bytes_taken, taken_both}
-use Rattle.lite_theorems.specs.Uses.{PolledByCalls}
-use Rattle.lite_io_base.specs.SteadyWrite.{NoError, SteadyWriteLaws}
+use Rattle.lite_theorems.specs.Uses.{◌∙◌, inl, inr, refl, sym, ap, subst, arith, append_assoc, append-nil, error_kind}
+use Rattle.lite_theorems.specs.Uses.{FoldsTo, Error, Poll, Ready, Pending, Gives, segment_front, to_value_last, Runs}
+use Rattle.lite_theorems.specs.Uses.{MarkLaws, StandsFirst, WriteMark, bytes_taken, taken_both, PolledByCalls}
+use Rattle.lite_io_base.specs.Steady.{NoError, SteadyWriteLaws}
 use Rattle.lite_write.specs.Flush.{Flushes}
-use Rattle.lite_write.specs.Hands.{Hands}
-use Rattle.lite_write.specs.WriteAll.{Ended, HandsMarks, HandsOver, WritesAll}
+use Rattle.lite_write.specs.WriteAll.{Hands, Ended, HandsMarks, HandsOver, WritesAll}
 use Rattle.lite_write.specs.declared.flush.FlushFuture.{FlushFuture}
 use Rattle.lite_write.specs.declared.write_all.WriteAllFuture.{WriteAllFuture}
 use denote.Ref.{MutBor, Bor}
 use Rattle.lite_theorems.proofs.Waited.{WaitedFor}
-use Rattle.lite_theorems.specs.BothWriters.{BothWritten, FailsAfter, FailsBy, FailsWith, FlushedOnce, FlushedUp, HandedUp, OnlyWrites, TakesFront}
-use Rattle.lite_theorems.specs.BothWriters.{WritesAndFlushes, WrittenUp}
+use Rattle.lite_theorems.specs.BothWriters.{BothWritten, FailsAfter, FailsBy, FailsWith, FlushedOnce, FlushedUp}
+use Rattle.lite_theorems.specs.BothWriters.{HandedUp, OnlyWrites, TakesFront, WritesAndFlushes, WrittenUp}
 
 abbrev WriteResult : Type 0
 WriteResult = Result (Unit {0}) Error

@@ -1,9 +1,9 @@
 -- What the answers of `lines` say of the lines that are told.
 use Rattle.std.specs.Prelude.{⊤, string_bytes, ◌≡◌, ◌≢◌, ◌==◌, ℕ, List, [], ◌∷◌, ◌++◌, Some, None, Result, Ok, Err, Bool, true, false}
-use Rattle.lite_theorems.specs.Uses.{◌∙◌, inl, inr, Option, Global, arith, refl, ap, sym, subst, append_assoc, error_kind, FoldsTo, Error}
-use Rattle.lite_theorems.specs.Uses.{OutOfMemory, String, Ready, Pending, Answer, segment_front, ReadMark, bytes, line_fold, Cut, PieceSegments}
-use Rattle.lite_theorems.specs.Uses.{without_return}
-use Rattle.lite_read.specs.LineText.{IsText}
+use Rattle.lite_theorems.specs.Uses.{◌∙◌, inl, inr, Option, Global, arith, refl, ap, sym, subst, append_assoc}
+use Rattle.lite_theorems.specs.Uses.{error_kind, FoldsTo, Error, OutOfMemory, String, Ready, Pending, Answer}
+use Rattle.lite_theorems.specs.Uses.{segment_front, ReadMark, bytes, line_fold, Cut, PieceSegments, without_return}
+use Rattle.lite_read.specs.Texts.{IsText}
 use Rattle.std.proofs.Common.{eqb-true}
 use Rattle.lite_theorems.specs.Lines.{Line, StandsFor, lines_told}
 

@@ -1,19 +1,18 @@
 -- What a reader tells while a call of it is waited for, pendings aside.
 use Rattle.std.specs.Prelude.{IfErr, IfOk, OnErr, vec_capacity, ◌≡◌, ◌≤◌, ℕ, List, [], ◌∷◌, ◌++◌, length, Result, Ok, Err}
-use Rattle.lite_theorems.specs.Uses.{◌∙◌, take, drop, inl, inr, ap, append-nil, append_assoc, arith, refl, subst, sym, take-append-drop, map-append}
-use Rattle.lite_theorems.specs.Uses.{FoldsTo, Error, MutBor, Poll, Ready, Pending, Gives, segment_front, to_value_last, Runs, ReadMark, bytes}
-use Rattle.lite_theorems.specs.Uses.{read_marks, MarkLaws, NoPendingRead, strip_marks, Cut, PolledByCalls, StandsFirst}
+use Rattle.lite_theorems.specs.Uses.{◌∙◌, take, drop, inl, inr, ap, append-nil, append_assoc, arith, refl, subst, sym}
+use Rattle.lite_theorems.specs.Uses.{take-append-drop, map-append, FoldsTo, Error, MutBor, Poll, Ready, Pending, Gives}
+use Rattle.lite_theorems.specs.Uses.{segment_front, to_value_last, Runs, ReadMark, bytes, read_marks, MarkLaws}
+use Rattle.lite_theorems.specs.Uses.{NoPendingRead, strip_marks, Cut, PolledByCalls, StandsFirst}
 use Rattle.lite_base.specs.Laws.Segments.{segment_before}
 use Rattle.lite_io_base.specs.Laws.Steady.{no_wait_moved, stripped_no_pending}
-use Rattle.lite_read.specs.Filling.{Filling, filling_of}
+use Rattle.lite_read.specs.ReadExact.{Filling, filling_of, Fulfils, ReadsExactly, fills}
 use Rattle.lite_read.specs.Laws.Deterministic.{past_pending, past_value}
 use Rattle.lite_read.specs.Laws.ReadExact.{filled_by}
 use Rattle.lite_read.specs.Pieces.{CutsPiece}
 use Rattle.lite_read.specs.Read.{Reads}
-use Rattle.lite_read.specs.ReadExact.{Fulfils, ReadsExactly, fills}
 use Rattle.lite_read.specs.ReadFold.{AnswerMarks, Gathers, ReadFold, ReadFolds}
-use Rattle.lite_read.specs.ReadUntil.{CountsPiece, ReadsUntilByRoom, UntilLacksRoom, until}
-use Rattle.lite_read.specs.UntilVector.{read_of}
+use Rattle.lite_read.specs.ReadUntil.{CountsPiece, ReadsUntilByRoom, UntilLacksRoom, until, read_of}
 use Rattle.lite_read.specs.declared.read.ReadFuture.{ReadFuture}
 use Rattle.lite_read.specs.declared.read_exact.ReadExactFuture.{ReadExactFuture}
 use Rattle.lite_read.specs.declared.read_until.ReadUntilFuture.{ReadUntilFuture}

@@ -1,14 +1,14 @@
 -- What comes of a copy, a chain and a buffered writer.
 use Rattle.std.specs.Prelude.{◌≡◌, ◌%◌, ◌^◌, ℕ, false, List, [], ◌∷◌, ◌++◌, Result, Ok, Err, IfOk, length}
 use Rattle.std.proofs.Common.{◌+◌}
-use Rattle.lite_theorems.specs.Uses.{AtEachOk, ◌∙◌, refl, ap, sym, subst, arith, append-nil, Error, Poll, Gives, Lent, Runs, Buffers, unwritten}
-use Rattle.lite_theorems.specs.Uses.{writer_inner, BufWriter, ChainsReaders, first_of, has_ended, second_of, Chain, ReadMark, MarkLaws, WriteMark}
-use Rattle.lite_theorems.specs.Uses.{bytes_taken, CopyRuns, told_both, taken_both, bytes_told, NothingCopied, source_of, CopyFuture, MutBor}
+use Rattle.lite_theorems.specs.Uses.{AtEachOk, ◌∙◌, refl, ap, sym, subst, arith, append-nil, Error, Poll, Gives, Lent}
+use Rattle.lite_theorems.specs.Uses.{Runs, Buffers, unwritten, writer_inner, BufWriter, ChainsReaders, first_of}
+use Rattle.lite_theorems.specs.Uses.{has_ended, second_of, Chain, ReadMark, MarkLaws, WriteMark, bytes_taken, CopyRuns}
+use Rattle.lite_theorems.specs.Uses.{told_both, taken_both, bytes_told, NothingCopied, source_of, CopyFuture, MutBor}
 use Rattle.lite_base.specs.Laws.Alike.{gives_strip}
 use Rattle.lite_buffered.specs.Laws.BufWriter.{segments_done}
-use Rattle.lite_write.specs.Copy.{CopyValue}
+use Rattle.lite_write.specs.Copy.{CopyValue, held_of, met_in}
 use Rattle.lite_write.specs.Laws.Copy.{ok_value}
-use Rattle.lite_write.specs.Parts.{held_of, met_in}
 use Rattle.lite_theorems.specs.Chained.{CopiesBoth, CopiesWhole, WritesWhole, ReadsRest, ReadsWhole}
 use Rattle.lite_theorems.specs.Laws.Chained.{tells_both}
 

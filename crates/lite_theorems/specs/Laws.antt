@@ -1,13 +1,7 @@
 pub mod Chained
 pub mod Collected
-pub mod Or
-pub mod Race
 pub mod Rows
 pub mod Anything
-pub mod Handing
 pub mod Readers
-pub mod Reading
 pub mod Streams
-pub mod Taken
 pub mod Told
-pub mod Writers

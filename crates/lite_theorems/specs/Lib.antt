@@ -3,12 +3,10 @@ pub mod BothReaders
 pub mod BothWriters
 pub mod Chained
 pub mod Futures
-pub mod Handing
 pub mod Interleaving
 pub mod Laws
 pub mod Lines
 pub mod Readers
-pub mod Reading
 pub mod Streams
 pub mod Told
 pub mod Uses

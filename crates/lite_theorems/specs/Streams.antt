@@ -3,7 +3,7 @@
 -- is `stream_counting` or `stream_ranking`.
 use Rattle.std.specs.Prelude.{◌≡◌, ◌<◌, ◌≤◌, ℕ, [], ◌∷◌, length, Some}
 use Rattle.lite_theorems.specs.Uses.{Pending, Answer, end, item, Lowers, Ranks}
-use Rattle.lite_base.specs.Rank.{Below}
+use Rattle.lite_base.specs.Ranks.{Below}
 use Rattle.lite_base.specs.Runs.{Hints}
 
 -- The size hint is this number, as the lower bound and as the upper bound.

@@ -1,7 +1,7 @@
 -- What a reader produced while a call was waited for, without the `Pending`s.
 use Rattle.std.specs.Prelude.{◌≡◌, ◌≢◌, ◌≤◌, ◌<◌, ◌+◌, ◌⊎◌, ℕ, List, [], ◌∷◌, ◌++◌, length, Result, Ok, Err}
 use Rattle.lite_theorems.specs.Uses.{error_kind, Error, OutOfMemory, Runs, ReadMark, bytes, strip_marks, StandsFirst}
-use Rattle.lite_read.specs.BytePieces.{through_first}
+use Rattle.lite_read.specs.Pieces.{through_first}
 use Rattle.std.specs.List.{AllByRecursion}
 use Rattle.std.specs.declared.io.ErrorKind.TheVariants.{UnexpectedEof}
 

@@ -2,7 +2,7 @@
 use Rattle.std.specs.Prelude.{◌≡◌, List, [], ◌∷◌, ◌++◌, refl, Some}
 use Rattle.lite_views.specs.Uses.{sym, subst, AllByRecursion, FoldsTo, Ready, Answer, item, Question, Runs, items_in}
 use Rattle.lite_stream.specs.EachItem.{AtEachItem}
-use Rattle.lite_views.specs.Fronts.{Front}
+use Rattle.lite_views.specs.Lists.{Front}
 
 last_all : {A : Type 0} (P : A → Type 0) (ins : List (Answer A)) (x : A) (rest : List A)
     → AllByRecursion P (items_in (ins ++ item x ∷ []) ++ rest) → P x

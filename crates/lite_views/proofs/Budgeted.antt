@@ -2,7 +2,7 @@
 use Rattle.std.specs.Prelude.{ℕ, List, [], ◌∷◌, Some, None}
 use Rattle.std.proofs.Common.{◌-◌}
 use Rattle.lite_views.specs.Uses.{inl, inr, Ready, Pending, Answer, Runs}
-use Rattle.lite_base.specs.Paces.{Paces, left_behind}
+use Rattle.lite_base.specs.Segments.{Paces, left_behind}
 use Rattle.lite_merge.specs.Budgeted.{Budgets, budget_parts}
 use Rattle.lite_merge.specs.declared.budgeted.Budgeted.{Budgeted}
 use Rattle.lite_views.proofs.Views.{Carries, listed_through}

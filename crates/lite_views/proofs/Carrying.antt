@@ -1,8 +1,10 @@
 -- What an adapter makes of items, for the relations that exchange items or leave some out.
-use Rattle.std.specs.Prelude.{◌≡◌, List, [], ◌∷◌, refl, Option, Some, None}
-use Rattle.lite_views.specs.Uses.{Ready, Pending, Answer, item, Question, Exchanges, leaves_steps, LeavesOut}
+use Rattle.std.specs.Prelude.{◌≡◌, List, [], ◌∷◌, refl, Option, Some, None, ℕ}
+use Rattle.lite_views.specs.Uses.{Ready, Pending, Answer, item, Question, Exchanges, leaves_steps, LeavesOut, suc, length, arith, cons_option}
 use Rattle.lite_views.proofs.Views.{Carries}
 use Rattle.lite_views.specs.Views.{Fits}
+use Rattle.std.proofs.Common.{◌≤◌}
+use Rattle.lite_views.specs.Lists.{cons_while}
 
 -- `made p xs` are the items that come out of xs from the state p on
 module _ {F A B : Type 0} (call : Question F A (Option B)) (Good : F → Type 0) (made : F → List A → List B)
@@ -45,3 +47,13 @@ module _ {F A B : Type 0} (call : Question F A (Option B)) (Good : F → Type 0)
       left_fits p xs g i o q e h =
           leaves_steps call Left one_rejected (λ p i o k. k) (λ p i o k xs g e. rw e (nothing p g)) one_kept p q i o
           (λ xs g e. tt) h xs g e
+
+-- No more items come out of an adapter than go in: what `map_while`, `scan` and `filter_map` share.
+
+pub while_fewer : {A : Type 0} (o : Option A) (xs : List A) (n : ℕ) → length xs ≤ n → length (cons_while o xs) ≤ suc n
+while_fewer None xs n h = omega arith
+while_fewer (Some x) xs n h = omega arith
+
+pub option_fewer : {A : Type 0} (o : Option A) (xs : List A) (n : ℕ) → length xs ≤ n → length (cons_option o xs) ≤ suc n
+option_fewer None xs n h = omega arith
+option_fewer (Some x) xs n h = omega arith

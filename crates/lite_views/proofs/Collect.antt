@@ -4,7 +4,7 @@ use Rattle.lite_views.specs.Uses.{fold_of, Refused}
 use Rattle.lite_gather.specs.Collect.{collects}
 use Rattle.lite_gather.specs.declared.collect.Collect.{Collect}
 use Rattle.lite_views.proofs.Consume.{MakesOf}
-use Rattle.lite_views.proofs.Gathering.{WhereSome, gathered, where_some}
+use Rattle.lite_views.proofs.Collecting.{WhereSome, gathered, where_some}
 
 pub collect_made : {C T : Type 0} (may_refuse : C → T → Type 0) (holds : C → List T → Type 0) (p : Collect C)
     (xs : List T) → IfSome p.collection (λ c. holds c []) → (v : Result C (Refused C T))

@@ -1,11 +1,40 @@
 -- The value of `try_collect`, by what the Ok items of the stream hold.
-use Rattle.std.specs.Prelude.{◌≡◌, List, [], ◌∷◌, ◌++◌, map, Option, Some, None, Result, Ok, Err, IfOk, IfSome}
-use Rattle.lite_views.specs.Uses.{TryCollect, sym, append_assoc, append-nil, Poll, Ready, Answer, Gives, item, Runs, Folds, Consumes, Decides, Fold, TakesIn}
-use Rattle.lite_views.specs.Uses.{fold_of, consumes_steps, Consume, tries_collect, TryCollectError}
+use Rattle.std.specs.Prelude.{List, ◌≡◌, [], ◌∷◌, ◌++◌, Option, Some, None, IfSome, map, Result, Ok, Err, IfOk}
+use Rattle.lite_views.specs.Trying.{OkSeen, AllTaken, OkFits, OkLists}
+use Rattle.lite_views.specs.Uses.{inl, inr, append_assoc, append-nil, Fold, TryCollect, sym, Poll, Ready, Answer, Gives}
+use Rattle.lite_views.specs.Uses.{item, Runs, Folds, Consumes, Decides, TakesIn, fold_of, consumes_steps, Consume}
+use Rattle.lite_views.specs.Uses.{tries_collect, TryCollectError}
+use Rattle.lite_views.proofs.Consume.{MakesOf}
 use Rattle.lite_views.specs.Views.{ValueHolds}
 use Rattle.lite_views.proofs.Views.{value_holds}
-use Rattle.lite_views.proofs.Gathering.{WhereSome, where_some}
-use Rattle.lite_views.specs.OkLists.{AllTaken, OkFits, OkLists}
+
+-- What the Ok items of a stream hold, up to its first error.
+
+pub ok_seen : {S T Y : Type 0} (s : S) (f : T → Y) (xs : List Y) → OkSeen s f xs
+unfolding OkSeen
+ok_seen s f xs = tt
+
+-- What the futures that gather items share: `collect`, `partition`, `unzip` and `try_collect`.
+
+-- A future that gathers: `Has p l` says that of the items l were taken in, `Good r l` what is true of the value r that
+-- is made of the items l.
+module _ {N T R : Type 0} (fold : Fold N T R) (Has : N → List T → Type 0) (Good : R → List T → Type 0)
+    (takes : (p q : N) (x : T) (l : List T) → fold.asks p x None q → Has p l → Has q (l ++ x ∷ []))
+    (decides : (p q : N) (x : T) (r : R) (l xs : List T) → fold.asks p x (Some r) q → Has p l → Good r (l ++ x ∷ xs))
+    (closes : (p q : N) (r : R) (l : List T) → fold.closes p r q → Has p l → Good r l) where
+  pub gathered : (p : N) (l xs : List T) (r : R) → Has p l → MakesOf fold p xs r → Good r (l ++ xs)
+  gathered p l [] r h (q, s) = rw append-nil (closes p q r l s h)
+  gathered p l (x ∷ xs) r h (inl (q, s, more)) =
+      rw (← append_assoc l (x ∷ []) xs) (gathered q (l ++ x ∷ []) xs r (takes p q x l s h) more)
+  gathered p l (x ∷ xs) r h (inr (q, s)) = decides p q x r l xs s h
+
+-- what is there, if it is, has the fact
+abbrev pub WhereSome : {C : Type 0} → Option C → (C → Type 0) → Type 0
+WhereSome {C} o P = (c : C) → o ≡ Some c → P c
+
+pub where_some : {C : Type 0} (P : C → Type 0) (o : Option C) → IfSome o P → WhereSome o P
+where_some P None h c e = cc
+where_some P (Some d) h c e = let same : d ≡ c = cc e in rw (← same) h
 
 module _ {C T E Y : Type 0} (may_refuse : C → T → Type 0) (holds : C → List T → Type 0) (f : T → Y) where
   -- the fold of `try_collect`

@@ -1,10 +1,10 @@
 -- What the futures that consume a stream share: their value, by the items of the stream, and what they leave of it.
 use Rattle.std.specs.Prelude.{◌≡◌, List, [], ◌∷◌, ◌++◌, refl, Option, Some, None}
 use Rattle.std.proofs.Common.{◌⊎◌}
-use Rattle.lite_views.specs.Uses.{inl, inr, sym, Poll, Ready, Answer, Gives, item, Question, Runs, Folds, Consumes, Decides, Fold, TakesIn, consumes_steps}
-use Rattle.lite_views.specs.Uses.{Consume, Hints, Lent, MutBor, StreamLaws, ap}
+use Rattle.lite_views.specs.Uses.{inl, inr, sym, Poll, Ready, Answer, Gives, item, Question, Runs, Folds, Consumes}
+use Rattle.lite_views.specs.Uses.{Decides, Fold, TakesIn, consumes_steps, Consume, Hints, Lent, MutBor, StreamLaws, ap}
 use Rattle.lite_views.specs.Futures.{RestIfFound}
-use Rattle.lite_views.specs.Waiting.{WhenLeft}
+use Rattle.lite_views.specs.Answering.{WhenLeft}
 use Rattle.lite_views.proofs.Futures.{when_left}
 use Rattle.lite_views.proofs.Views.{AnswersAs, answered, listed, value_holds}
 use Rattle.lite_views.specs.Views.{Fits, Lists, ValueHolds, ValueIs}

@@ -1,15 +1,15 @@
 -- `copy` from a reader of which it is known what bytes are to come, to a writer of which it is known what it keeps.
 use Rattle.std.specs.Prelude.{◌≡◌, ◌%◌, ℕ, List, [], ◌∷◌, ◌++◌, refl, ⊤, Result, Ok, Err, IfOk}
 use Rattle.std.proofs.Common.{◌+◌, ◌^◌}
-use Rattle.lite_views.specs.Uses.{◌∙◌, length, ap, sym, arith, append-nil, Error, Poll, Ready, Pending, Gives, Runs, Known, Knows, ReadsKnown}
-use Rattle.lite_views.specs.Uses.{knows_spends, Stored, Stores, stores_kept, ReadMark, WriteMark, bytes_taken}
+use Rattle.lite_views.specs.Uses.{◌∙◌, length, ap, sym, arith, append-nil, Error, Poll, Ready, Pending, Gives, Runs}
+use Rattle.lite_views.specs.Uses.{Known, Knows, ReadsKnown, knows_spends, Stored, Stores, stores_kept, ReadMark}
+use Rattle.lite_views.specs.Uses.{WriteMark, bytes_taken}
 use Rattle.lite_base.specs.Answers.{strip}
-use Rattle.lite_write.specs.Copy.{CopyRuns, CopyValue, Moves}
+use Rattle.lite_write.specs.Copy.{CopyRuns, CopyValue, Moves, NothingCopied, held_of, met_in, source_of}
 use Rattle.lite_write.specs.MarkLists.{BytesAlone, bytes_told}
-use Rattle.lite_write.specs.Parts.{NothingCopied, held_of, met_in, source_of}
 use Rattle.lite_write.specs.declared.copy.CopyFuture.{CopyFuture}
 use Rattle.lite_views.proofs.Futures.{when_left}
-use Rattle.lite_views.specs.Waiting.{WhenLeft}
+use Rattle.lite_views.specs.Answering.{WhenLeft}
 
 one_value : {A : Type 0} (out : List (Poll A)) (v : A) → Gives out v → strip out ≡ v ∷ []
 one_value [] v g = absurd g

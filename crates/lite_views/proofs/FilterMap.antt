@@ -6,8 +6,7 @@ use Rattle.lite_reshape.specs.FilterMap.{FilterMaps, filter_map_parts}
 use Rattle.lite_reshape.specs.declared.filter_map.FilterMap.{FilterMap}
 use Rattle.lite_views.specs.Views.{Lists, ListsAs}
 use Rattle.lite_views.proofs.Views.{AnswersAs, Carries, answered, listed_through}
-use Rattle.lite_views.proofs.Carrying.{left_fits}
-use Rattle.lite_views.proofs.Fewer.{option_fewer}
+use Rattle.lite_views.proofs.Carrying.{left_fits, option_fewer}
 
 -- a closure that acts as h from f on
 module _ {F A B : Type 0} (call : Question F A (Option B)) (f : F) (h : A → Option B) (acts : AnswersAs call f h) where

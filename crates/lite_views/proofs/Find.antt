@@ -4,7 +4,7 @@ use Rattle.lite_views.specs.Uses.{Find, Answer, Consume, Hints, MutBor, Question
 use Rattle.std.specs.List.{find}
 use Rattle.lite_views.specs.Futures.{FindRuns, RestIfFound, behind_match}
 use Rattle.lite_views.specs.Views.{Lists}
-use Rattle.lite_views.specs.Waiting.{WhenLeft}
+use Rattle.lite_views.specs.Answering.{WhenLeft}
 use Rattle.lite_views.proofs.Views.{AnswersAs}
 use Rattle.lite_views.proofs.Consume.{MakesOnly, asked_left, asked_made}
 

@@ -2,13 +2,13 @@
 -- to come; and `read_to_end`, whose lemma `read_to_string` shares.
 use Rattle.std.specs.Prelude.{◌≡◌, ℕ, List, [], ◌∷◌, ◌++◌, ⊤, Result, Ok, Err, IfOk}
 use Rattle.std.proofs.Common.{◌+◌, length-append}
-use Rattle.lite_views.specs.Uses.{length, ap, sym, subst, arith, append_assoc, append-nil, FoldsTo, Error, Poll, Ready, Pending, Gives, to_value_last}
-use Rattle.lite_views.specs.Uses.{Runs, ReadsKnown, Known, Knows, spends_bytes, spends_split, knows_spends, ReadMark, bytes, AnswerMarks, ReadFold}
-use Rattle.lite_views.specs.Uses.{appends}
-use Rattle.lite_base.specs.Laws.Calls.{folds_follow}
+use Rattle.lite_views.specs.Uses.{length, ap, sym, subst, arith, append_assoc, append-nil, FoldsTo, Error, Poll, Ready}
+use Rattle.lite_views.specs.Uses.{Pending, Gives, to_value_last, Runs, ReadsKnown, Known, Knows, spends_bytes}
+use Rattle.lite_views.specs.Uses.{spends_split, knows_spends, ReadMark, bytes, AnswerMarks, ReadFold, appends}
+use Rattle.lite_base.specs.Laws.Calling.{folds_follow}
 use Rattle.lite_read.specs.ReadFold.{Gathers, ReadFolds}
 use Rattle.lite_read.specs.ReadToEnd.{Appended}
-use Rattle.lite_views.specs.Waiting.{LeftAs, WhenLeft}
+use Rattle.lite_views.specs.Answering.{LeftAs, WhenLeft}
 use Rattle.lite_views.proofs.Waiting.{left_seen}
 
 -- P holds wherever f was waited for, and Q wherever there is a value

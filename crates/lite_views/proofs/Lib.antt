@@ -15,7 +15,6 @@ pub mod Count
 pub mod Empty
 pub mod Enumerate
 pub mod Equal
-pub mod Fewer
 pub mod Filter
 pub mod FilterMap
 pub mod Find
@@ -23,7 +22,6 @@ pub mod FindMap
 pub mod Fold
 pub mod Fuse
 pub mod Futures
-pub mod Gathering
 pub mod Holding
 pub mod Inspect
 pub mod Iter
@@ -33,7 +31,6 @@ pub mod MapWhile
 pub mod Merge
 pub mod Next
 pub mod Nth
-pub mod OkLists
 pub mod OneCall
 pub mod Once
 pub mod OnceFuture
@@ -48,7 +45,6 @@ pub mod Ready
 pub mod Repeat
 pub mod RepeatWith
 pub mod RepeatByte
-pub mod Repeating
 pub mod Scan
 pub mod Script
 pub mod Sink

@@ -7,8 +7,7 @@ use Rattle.lite_stream.specs.declared.map_while.MapWhile.{MapWhile}
 use Rattle.lite_views.specs.Views.{Lists, ListsAs}
 use Rattle.lite_views.proofs.Views.{AnswersAs, Carries, answered, listed_through}
 use Rattle.lite_views.specs.Lists.{map_while}
-use Rattle.lite_views.proofs.Carrying.{exchanged_fits}
-use Rattle.lite_views.proofs.Fewer.{while_fewer}
+use Rattle.lite_views.proofs.Carrying.{exchanged_fits, while_fewer}
 
 -- a closure that acts as h from f on
 module _ {F A B : Type 0} (call : Question F A (Option B)) (f : F) (h : A → Option B) (acts : AnswersAs call f h) where

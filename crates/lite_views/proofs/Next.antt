@@ -1,15 +1,15 @@
 -- The value of `next`, by the items of the stream, and what is left of the stream.
 use Rattle.std.specs.Prelude.{◌≡◌, ℕ, List, [], ◌∷◌, ◌++◌, refl, Option, Some, None, IfSome}
 use Rattle.std.proofs.Common.{◌≤◌}
-use Rattle.lite_views.specs.Uses.{Lent, MutBor, ◌∙◌, suc, length, inl, inr, ap, arith, slice_get, Poll, Ready, Answer, Gives, item, Runs, Folds}
-use Rattle.lite_views.specs.Uses.{Consume, Pending, Hints, StreamLaws, Waiting, consumes_steps, drop, end, items_in, replicate, until_end, zero}
+use Rattle.lite_views.specs.Uses.{Lent, MutBor, ◌∙◌, suc, length, inl, inr, ap, arith, slice_get, Poll, Ready, Answer}
+use Rattle.lite_views.specs.Uses.{Gives, item, Runs, Folds, Consume, Pending, Hints, StreamLaws, Waiting}
+use Rattle.lite_views.specs.Uses.{consumes_steps, drop, end, items_in, replicate, until_end, zero}
 use Rattle.lite_consume.specs.Next.{nexts}
 use Rattle.lite_consume.specs.declared.next.Next.{Next}
 use Rattle.lite_views.proofs.Futures.{when_left}
 use Rattle.lite_views.proofs.Views.{lent_lists, listed, seen, value_holds}
-use Rattle.lite_views.specs.Answering.{AtOnce, NeverReady}
+use Rattle.lite_views.specs.Answering.{AtOnce, NeverReady, WhenLeft}
 use Rattle.lite_views.specs.Views.{EachIs, Fits, FoundBy, GoesOn, Lists, RestIs, ValueHolds, ValueIs}
-use Rattle.lite_views.specs.Waiting.{WhenLeft}
 use Rattle.lite_views.proofs.Consume.{MakesOnly, LeavesOf, settles, leaves, only_made}
 
 next_made : {M A : Type 0} (p : M) (xs : List A) → MakesOnly (nexts {M = M}) p xs (slice_get xs 0)

@@ -1,18 +1,14 @@
 -- The value of `nth`, by the items of the stream, and what is left of the stream.
-use Rattle.std.specs.Prelude.{◌≡◌, ℕ, List, [], ◌∷◌}
-use Rattle.lite_views.specs.Uses.{Lent, MutBor, Nth, suc, inl, inr, arith, slice_get, Answer, Runs, fold_of, nths, Consume}
+use Rattle.std.specs.Prelude.{◌≡◌, ℕ, List, [], ◌∷◌, ◌++◌, refl, Option, Some, None, IfSome}
+use Rattle.lite_views.specs.Uses.{Lent, MutBor, Nth, suc, inl, inr, arith, slice_get, Answer, Runs, fold_of, nths}
+use Rattle.lite_views.specs.Uses.{Consume, Gives, Hints, Poll, StreamLaws, ap, drop, zero}
 use Rattle.lite_views.specs.Futures.{NthRuns}
-use Rattle.lite_views.proofs.Views.{lent_lists}
-use Rattle.lite_views.specs.Views.{Lists, ValueIs}
-use Rattle.lite_views.proofs.Consume.{MakesOnly, only_made}
-use Rattle.std.specs.Prelude.{◌++◌, refl, Option, Some, None, IfSome}
+use Rattle.lite_views.proofs.Views.{lent_lists, listed}
+use Rattle.lite_views.specs.Views.{Lists, ValueIs, Fits, RestIs}
+use Rattle.lite_views.proofs.Consume.{MakesOnly, only_made, LeavesOf, leaves, settles}
 use Rattle.std.proofs.Common.{◌+◌}
-use Rattle.lite_views.specs.Uses.{Gives, Hints, Poll, StreamLaws, ap, drop, zero}
 use Rattle.lite_views.proofs.Futures.{when_left}
-use Rattle.lite_views.proofs.Views.{listed}
-use Rattle.lite_views.specs.Views.{Fits, RestIs}
-use Rattle.lite_views.specs.Waiting.{WhenLeft}
-use Rattle.lite_views.proofs.Consume.{LeavesOf, leaves, settles}
+use Rattle.lite_views.specs.Answering.{WhenLeft}
 
 nth_made : {N A : Type 0} (n_of : N → ℕ) (p : N) (xs : List A)
     → MakesOnly (fold_of n_of nths) p xs (slice_get xs (n_of p))

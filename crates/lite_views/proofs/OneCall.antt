@@ -1,8 +1,9 @@
 -- `read`, `write`, `flush` and `close`, which are polled by calls: what the whole wait did to the reader or the writer.
 use Rattle.std.specs.Prelude.{◌≡◌, ◌≤◌, ◌⊎◌, ℕ, zero, suc, List, [], ◌∷◌, ◌++◌, refl, drop, length, take, Result, Ok, Err, IfOk, ⊤}
-use Rattle.lite_views.specs.Uses.{Error, Gives, Known, Knows, MutBor, Poll, ReadMark, Ready, Pending, Runs, Stored, Stores, ReadsKnown, WriteMark}
-use Rattle.lite_views.specs.Uses.{bytes_taken, replicate, knows_spends, spends_bytes, stores_kept, taken_both, ap, append-nil, arith, inl, inr, sym}
-use Rattle.lite_views.specs.Uses.{◌∙◌, drop-append_seam, take-append_seam}
+use Rattle.lite_views.specs.Uses.{Error, Gives, Known, Knows, MutBor, Poll, ReadMark, Ready, Pending, Runs, Stored}
+use Rattle.lite_views.specs.Uses.{Stores, ReadsKnown, WriteMark, bytes_taken, replicate, knows_spends, spends_bytes}
+use Rattle.lite_views.specs.Uses.{stores_kept, taken_both, ap, append-nil, arith, inl, inr, sym, ◌∙◌, drop-append_seam}
+use Rattle.lite_views.specs.Uses.{take-append_seam}
 use Rattle.lite_io_base.specs.Marks.{moved_marks, read_marks}
 use Rattle.lite_io_base.specs.Runs.{MarkLaws}
 use Rattle.lite_io_base.specs.Stored.{Arrives}
@@ -19,7 +20,7 @@ use Rattle.lite_write.specs.declared.write.WriteFuture.{WriteFuture}
 use lib.Seq.{take-nil}
 use Rattle.std.proofs.lemmas.List.{length-take-le}
 use Rattle.lite_views.specs.OneCall.{ArrivesAll, ReadsFront, WritesFront}
-use Rattle.lite_views.specs.Waiting.{WhenLeft}
+use Rattle.lite_views.specs.Answering.{WhenLeft}
 use Rattle.lite_views.proofs.Futures.{when_left}
 
 -- A future that is polled by calls on a part of it. A pending call leaves the mark `wait`. Each call keeps what `Same`

@@ -6,7 +6,7 @@ use Rattle.lite_gather.specs.declared.partition.Partition.{Partition}
 use Rattle.std.proofs.Math.Bool.{not-not}
 use Rattle.lite_views.proofs.Views.{AnswersAs}
 use Rattle.lite_views.proofs.Consume.{MakesOf}
-use Rattle.lite_views.proofs.Gathering.{WhereSome, gathered, where_some}
+use Rattle.lite_views.proofs.Collecting.{WhereSome, gathered, where_some}
 
 -- of the one collection or of the other
 module _ {B F T : Type 0} (may_refuse : B → T → Type 0) (holds : B → List T → Type 0)

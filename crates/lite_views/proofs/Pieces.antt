@@ -1,13 +1,13 @@
 -- The pieces of a reader of which it is known what bytes are to come: what `split` and `lines` share.
-use Rattle.lite_views.proofs.OkLists.{ok_seen}
+use Rattle.lite_views.proofs.Collecting.{ok_seen}
 use Rattle.std.specs.Prelude.{◌≡◌, ℕ, List, [], ◌∷◌, ◌++◌, refl, ⊤, Option, Some, None, Result, Ok, Err}
 use Rattle.std.proofs.Common.{◌<◌}
-use Rattle.lite_views.specs.Uses.{◌∙◌, length, ap, subst, arith, FoldsTo, Error, Ready, Pending, Answer, Runs, ReadsKnown, Known, Knows, spends_bytes}
-use Rattle.lite_views.specs.Uses.{spends_split, knows_spends, ReadMark, bytes, Cut, CutsPiece, AnswerMarks, ReadFold}
-use Rattle.lite_read.specs.BytePieces.{last_piece, pieces_from}
-use Rattle.lite_read.specs.Pieces.{Itemised, pieces}
+use Rattle.lite_views.specs.Uses.{◌∙◌, length, ap, subst, arith, FoldsTo, Error, Ready, Pending, Answer, Runs}
+use Rattle.lite_views.specs.Uses.{ReadsKnown, Known, Knows, spends_bytes, spends_split, knows_spends, ReadMark, bytes}
+use Rattle.lite_views.specs.Uses.{Cut, CutsPiece, AnswerMarks, ReadFold}
+use Rattle.lite_read.specs.Pieces.{last_piece, pieces_from, Itemised, pieces}
 use Rattle.lite_read.specs.Segments.{Flows, PieceSegments, StreamOver}
-use Rattle.lite_views.specs.OkLists.{OkFits, OkLists, OkListsAs}
+use Rattle.lite_views.specs.Trying.{OkFits, OkLists, OkListsAs}
 use Rattle.lite_views.proofs.Equal.{equal, not_equal}
 
 -- The pieces of a reader: `at` ends one, and h is made of it; f is what an item holds.

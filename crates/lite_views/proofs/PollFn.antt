@@ -4,7 +4,7 @@ use Rattle.lite_views.specs.Uses.{Answer, CallAnswers, Called, Context, FoldsTo,
 use Rattle.lite_source.specs.declared.poll_fn.PollFn.{PollFn}
 use Rattle.lite_views.specs.Views.{GoesOn, Seen}
 use Rattle.lite_views.proofs.Views.{seen}
-use Rattle.lite_views.proofs.Repeating.{stepped_on}
+use Rattle.lite_views.proofs.Repeat.{stepped_on}
 
 pub polled_on : {F A : Type 0} (g : Poller F (Option A)) (x : PollFn F) (y : A)
     → ((cx left : MutBor Context) (a : Answer A) (q : F) → Called g x.f (cx, tt) (a, (left, tt)) q

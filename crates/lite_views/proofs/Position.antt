@@ -1,15 +1,14 @@
 -- The value of `position`, by the items of the stream.
 use Rattle.std.specs.Prelude.{◌≡◌, ℕ, List, [], ◌∷◌, refl, Bool, true, false, cond, nat_lt, Option, Some, None, option_map}
 use Rattle.std.proofs.Common.{◌<◌, ◌^◌, ◌+◌}
-use Rattle.lite_views.specs.Uses.{◌∙◌, suc, length, inl, inr, ap, sym, arith, Question, fold_of, Answer, Consume, Folds, Hints, Lent, MutBor, Runs}
-use Rattle.lite_views.specs.Uses.{StreamLaws}
+use Rattle.lite_views.specs.Uses.{◌∙◌, suc, length, inl, inr, ap, sym, arith, Question, fold_of, Answer, Consume, Folds, Hints, Lent, MutBor, Runs, StreamLaws}
 use Rattle.lite_consume.specs.Position.{positions}
 use Rattle.lite_consume.specs.declared.position.Position.{Position}
 use Rattle.std.proofs.Math.Dec.{leb-suc-suc, leb-zero}
 use Rattle.std.specs.List.{position, position_or_len}
 use Rattle.lite_views.specs.Futures.{RestIfFound, behind_match}
 use Rattle.lite_views.specs.Views.{Lists}
-use Rattle.lite_views.specs.Waiting.{WhenLeft}
+use Rattle.lite_views.specs.Answering.{WhenLeft}
 use Rattle.lite_views.proofs.Views.{AnswersAs, answered}
 use Rattle.lite_views.proofs.Consume.{MakesOnly, asked_left}
 

@@ -1,14 +1,12 @@
 -- `read_exact` of a reader of which it is known what bytes are to come.
 use Rattle.std.specs.Prelude.{◌≡◌, ◌≤◌, ◌+◌, ℕ, zero, suc, List, [], ◌∷◌, refl, replicate, Result, Ok, Err, IfOk}
-use Rattle.lite_views.specs.Uses.{take_all, take-append_seam, drop-append_seam, ◌∙◌, length, take, drop, ap, sym, arith, Error, ReadsKnown, ReadMark}
-use Rattle.lite_views.specs.Uses.{Runs}
-use Rattle.lite_read.specs.Filling.{Filling, filling_of}
+use Rattle.lite_views.specs.Uses.{take_all, take-append_seam, drop-append_seam, ◌∙◌, length, take, drop, ap, sym, arith, Error, ReadsKnown, ReadMark, Runs}
+use Rattle.lite_read.specs.ReadExact.{Filling, filling_of, Fulfils, ReadsExactly, fills}
 use Rattle.lite_read.specs.Laws.ReadExact.{filled_by}
-use Rattle.lite_read.specs.ReadExact.{Fulfils, ReadsExactly, fills}
 use Rattle.lite_read.specs.declared.read_exact.ReadExactFuture.{ReadExactFuture}
 use Rattle.std.proofs.lemmas.List.{length-take, take-replicate}
-use Rattle.lite_views.specs.Waiting.{WhenLeft}
-use Rattle.lite_views.specs.YieldsOn.{EachByte, YieldsOn}
+use Rattle.lite_views.specs.Answering.{WhenLeft}
+use Rattle.lite_views.specs.OneCall.{EachByte, YieldsOn}
 use Rattle.lite_views.proofs.Futures.{TakenUp, taken_up, when_left}
 
 module _ (p : Filling) (bs ys : List ℕ) where

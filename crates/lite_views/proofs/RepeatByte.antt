@@ -3,7 +3,7 @@ use Rattle.std.specs.Prelude.{◌≡◌, ℕ, List, [], ◌∷◌}
 use Rattle.lite_views.specs.Uses.{ReadMark}
 use Rattle.lite_buffered.specs.Repeat.{RepeatsByte, byte_of}
 use Rattle.lite_buffered.specs.declared.repeat.Repeat.{Repeat as RepeatReader}
-use Rattle.lite_views.specs.YieldsOn.{EachByte, YieldsOn}
+use Rattle.lite_views.specs.OneCall.{EachByte, YieldsOn}
 
 pub repeat_on : (x : RepeatReader) (b : ℕ) → byte_of x ≡ b → YieldsOn RepeatsByte x b
 unfolding YieldsOn

@@ -5,7 +5,7 @@ use Rattle.lite_source.specs.RepeatWith.{Call, RepeatsWith}
 use Rattle.lite_source.specs.declared.repeat_with.RepeatWith.{RepeatWith}
 use Rattle.lite_views.specs.Views.{GoesOn, Seen}
 use Rattle.lite_views.proofs.Views.{seen}
-use Rattle.lite_views.proofs.Repeating.{stepped_on}
+use Rattle.lite_views.proofs.Repeat.{stepped_on}
 
 pub called_on : {F A : Type 0} (g : Mut F (Unit {0}) A) (x : RepeatWith F) (y : A)
     → ((v : A) (q : F) → Called g x.f tt v q → (q ≡ x.f) × (v ≡ y))

@@ -4,8 +4,7 @@ use Rattle.std.proofs.Common.{◌≤◌}
 use Rattle.lite_views.specs.Uses.{length, subst, arith, Exchanges}
 use Rattle.lite_views.proofs.Views.{Carries}
 use Rattle.lite_views.specs.Lists.{scan}
-use Rattle.lite_views.proofs.Carrying.{exchanged_fits}
-use Rattle.lite_views.proofs.Fewer.{while_fewer}
+use Rattle.lite_views.proofs.Carrying.{exchanged_fits, while_fewer}
 
 pub scanned_fits : {F V A B : Type 0} (call : F × V → A → Option B → F × V → Type 0) (h : V → A → V × Option B) (f : F)
     (v : V) → ((s : V) (x : A) (o : Option B) (g : F) (t : V) → call (f, s) x o (g, t)

@@ -1,7 +1,7 @@
 -- The items of `script`; `once` shares these lemmas.
 use Rattle.std.specs.Prelude.{List, [], ◌∷◌, refl, Some}
 use Rattle.lite_views.specs.Uses.{ap, Ready, Pending, Answer, until_end, GivesScript, items_in}
-use Rattle.lite_views.specs.Fronts.{Front}
+use Rattle.lite_views.specs.Lists.{Front}
 use Rattle.lite_views.specs.Views.{Fits, Fronts, ListsAs}
 use Rattle.lite_views.proofs.Views.{listed}
 

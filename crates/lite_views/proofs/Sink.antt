@@ -3,7 +3,7 @@ use Rattle.std.specs.Prelude.{List, [], ◌∷◌}
 use Rattle.lite_views.specs.Uses.{WriteMark}
 use Rattle.lite_write.specs.Sink.{Sinks}
 use Rattle.lite_write.specs.declared.sink.Sink.{Sink}
-use Rattle.lite_views.specs.Accepts.{AcceptsAll, AllAccepted}
+use Rattle.lite_views.specs.OneCall.{AcceptsAll, AllAccepted}
 
 pub sink_accepts : (x : Sink) → AcceptsAll Sinks x
 unfolding AcceptsAll

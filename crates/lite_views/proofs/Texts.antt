@@ -1,10 +1,9 @@
 -- What `read_line` and `read_to_string` share, of a reader of which it is known what bytes are to come; and the latter.
 use Rattle.std.specs.Prelude.{◌≡◌, ℕ, List, [], ◌∷◌, ◌++◌, refl, ⊤, Result, Ok, Err, IfOk}
-use Rattle.lite_views.specs.Uses.{ReadMark, Runs, Known, Knows, ◌∙◌, length, inl, inr, ap, sym, arith, FoldsTo, Error, ReadFold, appends, Reading}
-use Rattle.lite_views.specs.Uses.{in_text}
+use Rattle.lite_views.specs.Uses.{ReadMark, Runs, Known, Knows, ◌∙◌, length, inl, inr, ap, sym, arith, FoldsTo, Error, ReadFold, appends, Reading, in_text}
 use Rattle.lite_read.specs.Holding.{TextOver, TextStays}
 use Rattle.lite_read.specs.Texts.{AppendsText, ReadsText, ValueOf, reading}
-use Rattle.lite_views.specs.Waiting.{WhenLeft}
+use Rattle.lite_views.specs.Answering.{WhenLeft}
 use Rattle.lite_views.proofs.Futures.{TakenUp, all_appended, gathered_left}
 
 module _ (fold : ReadFold (List ℕ) (Result ℕ Error)) where

@@ -4,7 +4,7 @@ use Rattle.lite_views.specs.Uses.{TryCollect, map-append, sym, ok_prefix, fold_o
 use Rattle.lite_gather.specs.TryCollect.{TryCollected}
 use Rattle.lite_views.specs.Trying.{first_error, TriesCollect}
 use Rattle.lite_views.proofs.Consume.{MakesOf}
-use Rattle.lite_views.proofs.Gathering.{WhereSome, gathered, where_some}
+use Rattle.lite_views.proofs.Collecting.{WhereSome, gathered, where_some}
 
 values_of : {T : Type 0} (E : Type 0) (ys : List T) → ok_prefix {E = E} (map Ok ys) ≡ ys
 values_of E [] = refl

@@ -1,18 +1,14 @@
 -- The value of `try_next`, by the items of the stream, and what is left of the stream.
-use Rattle.std.specs.Prelude.{List, [], ◌∷◌, Result, Ok, Err}
-use Rattle.std.specs.Prelude.{◌≡◌, ◌++◌, refl, Option, Some, None, Result, Ok, Err, IfSome, MatchResult}
+use Rattle.std.specs.Prelude.{List, [], ◌∷◌, Result, Ok, Err, ◌≡◌, ◌++◌, refl, Option, Some, None, IfSome, MatchResult}
 use Rattle.lite_views.specs.Uses.{Lent, MutBor, inl, inr, slice_get, Answer, Runs, Folds, Consume, Gives, Hints, Poll, StreamLaws, ap, drop}
 use Rattle.lite_consume.specs.TryNext.{tries_next}
 use Rattle.lite_consume.specs.declared.try_next.TryNext.{TryNext}
 use Rattle.std.specs.Option.{option_transpose}
-use Rattle.lite_views.proofs.Views.{lent_lists}
-use Rattle.lite_views.proofs.Views.{listed}
-use Rattle.lite_views.specs.Views.{Lists, ValueIs}
-use Rattle.lite_views.specs.Views.{Fits, RestIs}
-use Rattle.lite_views.proofs.Consume.{MakesOnly, only_made}
-use Rattle.lite_views.proofs.Consume.{LeavesOf, leaves, settles}
+use Rattle.lite_views.proofs.Views.{lent_lists, listed}
+use Rattle.lite_views.specs.Views.{Lists, ValueIs, Fits, RestIs}
+use Rattle.lite_views.proofs.Consume.{MakesOnly, only_made, LeavesOf, leaves, settles}
 use Rattle.lite_views.proofs.Futures.{when_left}
-use Rattle.lite_views.specs.Waiting.{WhenLeft}
+use Rattle.lite_views.specs.Answering.{WhenLeft}
 
 try_next_made : {M T E : Type 0} (p : M) (xs : List (Result T E))
     → MakesOnly (tries_next {M = M}) p xs (option_transpose (slice_get xs 0))

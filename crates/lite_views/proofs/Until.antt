@@ -1,8 +1,8 @@
 -- `read_until` and `read_line` of a reader of which it is known what bytes are to come. They share one lemma.
 use Rattle.std.specs.Prelude.{◌≡◌, ℕ, List, [], ◌∷◌, ◌++◌, refl, ⊤, Result, Ok, Err, IfOk}
-use Rattle.lite_views.specs.Uses.{◌∙◌, length, take, drop, ap, sym, append_assoc, append-nil, FoldsTo, Error, ReadsKnown, ReadMark, Cut, CutsPiece}
-use Rattle.lite_views.specs.Uses.{Reading, in_text}
-use Rattle.lite_read.specs.BytePieces.{behind, through_first}
+use Rattle.lite_views.specs.Uses.{◌∙◌, length, take, drop, ap, sym, append_assoc, append-nil, FoldsTo, Error}
+use Rattle.lite_views.specs.Uses.{ReadsKnown, ReadMark, Cut, CutsPiece, Reading, in_text}
+use Rattle.lite_read.specs.Pieces.{behind, through_first}
 use Rattle.lite_read.specs.ReadUntil.{CountsPiece, until}
 use Rattle.std.proofs.Common.{take-append-drop}
 use Rattle.std.proofs.Math.Seq.{drop-length, take-length}

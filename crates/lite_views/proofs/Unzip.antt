@@ -5,7 +5,7 @@ use Rattle.lite_gather.specs.Unzip.{unzips}
 use Rattle.lite_gather.specs.declared.refused.UnzipRefused.{UnzipRefused}
 use Rattle.lite_gather.specs.declared.unzip.Unzip.{Unzip}
 use Rattle.lite_views.proofs.Consume.{MakesOf}
-use Rattle.lite_views.proofs.Gathering.{WhereSome, gathered, where_some}
+use Rattle.lite_views.proofs.Collecting.{WhereSome, gathered, where_some}
 
 pub unzip_made : {C D A B : Type 0} (first_refuses : C → A → Type 0) (second_refuses : D → B → Type 0)
     (first : C → List A → Type 0) (second : D → List B → Type 0) (p : Unzip C D) (xs : List (A × B))

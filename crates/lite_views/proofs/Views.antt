@@ -1,8 +1,7 @@
 -- The list of the items of a stream, and the value of a future.
 use Rattle.std.specs.Prelude.{◌≡◌, List, Ok, Err, refl}
 use Rattle.lite_views.specs.Uses.{sym, MutBor, Poll, Answer, Finishes, Lent, Question, Runs}
-use Rattle.lite_stream.specs.Relates.{Relates}
-use Rattle.lite_stream.specs.Through.{AdapterParts, Adapts}
+use Rattle.lite_stream.specs.Through.{Relates, AdapterParts, Adapts}
 use Rattle.lite_views.specs.Views.{Fits, Lists, ListsAs, Seen, ValueHolds, Waited}
 
 pub seen : {X Y : Type 0} (x : X) (y : Y) → Seen x y

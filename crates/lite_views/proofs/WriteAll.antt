@@ -1,14 +1,13 @@
 -- `write_all` to a writer of which it is known what it keeps.
 use Rattle.std.specs.Prelude.{◌≡◌, ℕ, List, [], ◌∷◌, ◌++◌, map, refl, Result, Ok, Err, IfOk, IsOk}
-use Rattle.lite_views.specs.Uses.{◌∙◌, ap, sym, append_assoc, FoldsTo, Error, Poll, Ready, Pending, Gives, to_value_last, Runs, Stored, Stores}
-use Rattle.lite_views.specs.Uses.{stores_kept, WriteMark, bytes_taken, taken_both}
+use Rattle.lite_views.specs.Uses.{◌∙◌, ap, sym, append_assoc, FoldsTo, Error, Poll, Ready, Pending, Gives}
+use Rattle.lite_views.specs.Uses.{to_value_last, Runs, Stored, Stores, stores_kept, WriteMark, bytes_taken, taken_both}
 use Rattle.lite_base.specs.Laws.Segments.{segment_front}
-use Rattle.lite_write.specs.Hands.{Hands}
-use Rattle.lite_write.specs.WriteAll.{Ended, HandsMarks, HandsOver, WritesAll}
+use Rattle.lite_write.specs.WriteAll.{Hands, Ended, HandsMarks, HandsOver, WritesAll}
 use Rattle.lite_write.specs.declared.write_all.WriteAllFuture.{WriteAllFuture}
 use Rattle.lite_views.proofs.Futures.{when_left}
-use Rattle.lite_views.specs.Accepts.{AcceptsAll, AllAccepted}
-use Rattle.lite_views.specs.Waiting.{WhenLeft}
+use Rattle.lite_views.specs.OneCall.{AcceptsAll, AllAccepted}
+use Rattle.lite_views.specs.Answering.{WhenLeft}
 
 abbrev writes_of : List (List ℕ) → List WriteMark
 writes_of = map WriteMark.wrote

@@ -1,6 +1,6 @@
 -- When a future returns its value, and which value that is if two futures are waited for together.
-use Rattle.std.specs.Prelude.{◌≡◌, ◌⊎◌, List, ◌∷◌, Result, Ok}
-use Rattle.lite_views.specs.Uses.{AllocError, Called, Context, MutBor, Poll, Poller, Ready, Runs, Waiting}
+use Rattle.std.specs.Prelude.{◌≡◌, ◌⊎◌, List, ◌∷◌, Result, Ok, ⊤, IfOk, IfErr}
+use Rattle.lite_views.specs.Uses.{AllocError, Called, Context, MutBor, Poll, Poller, Ready, Runs, Waiting, Gives}
 use Rattle.lite_views.specs.Views.{HasValue, ValueHolds, ValueIs}
 
 -- The first poll of the future `f` returns the value `v`. Of a stream, `v` is `Some` of an item, or `None` at an end.
@@ -34,3 +34,19 @@ PickedValue {A = A} run_first f run_second g run x =
     × ((v : A) → HasValue run_first f v → HasValue run_second g v → HasValueAs run x v)
     × ((v w : A) → HasValue run_first f v → HasValue run_second g w
     → ValueHolds AllocError run x (λ u. (u ≡ v) ⊎ (u ≡ w)))
+
+-- What became of a future that a wait borrowed.
+
+-- The future `f` was waited for and is now `g`: it was polled until its value if `r` is `Ok`, and not at all if `r` is
+-- an error.
+unfoldable pub LeftAs : {F A E : Type 0} → Runs (Poll A) F → F → Result A E → F → Type 0
+LeftAs {F} {A} run f r g = IfOk r (λ v. (ins : List (Poll A)) × Gives ins v × run f ins g) × IfErr r (λ e. g ≡ f)
+
+-- Always true. It marks `f`, `r` and `g` for the search for proofs.
+unfoldable pub LeftSeen : {F R : Type 0} → F → R → F → Type 0
+LeftSeen f r g = ⊤
+
+-- Whenever a wait borrowed the future `f` and left it as `g`, `P` holds of `g`. If the wait returned a value, `Q` holds
+-- of `g` and that value. `E` is the type of the wait's error.
+abbrev pub WhenLeft : {F A : Type 0} (E : Type 0) → Runs (Poll A) F → F → (F → Type 0) → (F → A → Type 0) → Type 0
+WhenLeft {F} {A} E run f P Q = (r : Result A E) (g : F) → LeftAs run f r g → LeftSeen f r g × P g × IfOk r (Q g)

@@ -1,9 +1,9 @@
 -- The runs of the futures that the facade names. A clause over them needs no bounds on the types of their states.
 use Rattle.std.specs.Prelude.{ℕ, Bool, List, [], ◌∷◌, Option, Result, IfSome, cond}
 use Rattle.lite_views.specs.Views.{ListsAs}
-use Rattle.lite_views.specs.Uses.{Mut, MutBor, Poll, Answer, Lent, Question, Runs, Folds, fold_of, counts, finds, folds, lasts, nths, try_fold_steps}
-use Rattle.lite_views.specs.Uses.{Consume, Find, Last, Nth, TryFold, TryZip, TryZips}
-use Rattle.lite_consume.specs.Calls.{CallsBoth}
+use Rattle.lite_views.specs.Uses.{Mut, MutBor, Poll, Answer, Lent, Question, Runs, Folds, fold_of, counts, finds, folds}
+use Rattle.lite_views.specs.Uses.{lasts, nths, try_fold_steps, Consume, Find, Last, Nth, TryFold, TryZip, TryZips}
+use Rattle.lite_consume.specs.Fold.{CallsBoth}
 use Rattle.lite_base.specs.Future.Zip.{FutureZips}
 use Rattle.lite_base.specs.declared.future.zip.Zip.{Zip}
 use Rattle.lite_consume.specs.declared.count.Count.{Count}

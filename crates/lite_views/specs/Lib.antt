@@ -1,17 +1,12 @@
-pub mod Accepts
 pub mod Acting
 pub mod Answering
 pub mod Each
-pub mod Fronts
 pub mod Futures
 pub mod Iterators
 pub mod Laws
 pub mod Lists
-pub mod OkLists
 pub mod OneCall
 pub mod Trying
 pub mod Unfold
 pub mod Views
-pub mod Waiting
-pub mod YieldsOn
 pub mod Uses

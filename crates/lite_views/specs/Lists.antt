@@ -1,5 +1,5 @@
 -- Functions of lists that std does not have.
-use Rattle.std.specs.Prelude.{◌==◌, ◌%◌, ℕ, List, [], ◌∷◌, Option, Some, None, map}
+use Rattle.std.specs.Prelude.{◌==◌, ◌%◌, ℕ, List, [], ◌∷◌, Option, Some, None, map, ◌≡◌, ◌++◌}
 use Rattle.lite_views.specs.Uses.{enumerate_from, filter}
 
 -- The item in front of the list, or the empty list if there is no item.
@@ -20,3 +20,9 @@ step_from step n xs = map (λ p. p.1) (filter (λ p. p.0 % step == 0) (enumerate
 abbrev pub scan : {V X Y : Type 0} → (V → X → V × Option Y) → V → List X → List Y
 scan h s [] = []
 scan h s (x ∷ xs) = cons_while (h s x).1 (scan h (h s x).0 xs)
+
+-- Prefixes of lists.
+
+-- `xs` is a prefix of `ys`.
+abbrev pub Front : {A : Type 0} → List A → List A → Type 0
+Front {A} xs ys = (rest : List A) × (ys ≡ xs ++ rest)

@@ -5,14 +5,11 @@ pub use Rattle.futures.specs.declared.task.context.Context.{Context}
 pub use Rattle.lite_base.specs.Answers.{Answer, Endless, Gives, Waiting, end, item, items, until_end}
 pub use Rattle.lite_base.specs.Calling.{Accepts, Always}
 pub use Rattle.lite_base.specs.Future.Calls.{CallAnswers, Poller}
-pub use Rattle.lite_base.specs.Future.Finishes.{Finishes}
-pub use Rattle.lite_base.specs.Future.Handed.{handed}
+pub use Rattle.lite_base.specs.Future.Spent.{Finishes, handed}
 pub use Rattle.lite_base.specs.Future.Race.{is_first}
 pub use Rattle.lite_base.specs.Future.TryZip.{TryZips}
-pub use Rattle.lite_base.specs.Laws.Rows.{rows_by}
-pub use Rattle.lite_base.specs.Laws.Segments.{to_value_last}
-pub use Rattle.lite_base.specs.Lent.{Lent}
-pub use Rattle.lite_base.specs.Runs.{Hints, Question, Runs}
+pub use Rattle.lite_base.specs.Laws.Segments.{rows_by, to_value_last}
+pub use Rattle.lite_base.specs.Runs.{Lent, Hints, Question, Runs}
 pub use Rattle.lite_base.specs.StreamLaws.{StreamLaws}
 pub use Rattle.lite_base.specs.declared.future.try_zip.TryZip.{TryZip}
 pub use Rattle.lite_consume.specs.Consume.{Folds}
@@ -36,7 +33,7 @@ pub use Rattle.lite_gather.specs.declared.try_collect.TryCollect.{TryCollect}
 pub use Rattle.lite_io_base.specs.Known.{Known, Knows, ReadsKnown}
 pub use Rattle.lite_io_base.specs.Laws.Known.{knows_spends, spends_bytes, spends_split}
 pub use Rattle.lite_io_base.specs.Laws.Stored.{stores_kept}
-pub use Rattle.lite_io_base.specs.Laws.WriteMarks.{taken_both}
+pub use Rattle.lite_io_base.specs.Laws.Marks.{taken_both}
 pub use Rattle.lite_io_base.specs.Marks.{ReadMark, bytes}
 pub use Rattle.lite_io_base.specs.Stored.{Stored, Stores}
 pub use Rattle.lite_io_base.specs.WriteMarks.{WriteMark, bytes_taken}

@@ -2,7 +2,7 @@
 -- search for proofs goes by it.
 use Rattle.std.specs.Prelude.{◌≡◌, ⊤, List, [], ◌∷◌, Some, None, Result, IfOk}
 use Rattle.lite_views.specs.Uses.{AllocError, Poll, Ready, Pending, Answer, Finishes, Runs, items_in}
-use Rattle.lite_views.specs.Fronts.{Front}
+use Rattle.lite_views.specs.Lists.{Front}
 
 -- The items before the first end of the stream are a prefix of the list, and all of it if the stream ends. `Pending`s
 -- do not count.

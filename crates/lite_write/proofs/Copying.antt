@@ -1,17 +1,17 @@
 -- The steps of `copy`.
 use Rattle.std.specs.Prelude.{◌≡◌, ◌<◌, ◌+◌, ◌%◌, ◌^◌, ℕ, List, [], ◌∷◌, ◌++◌, Result, Ok, Err, length}
-use Rattle.lite_write.specs.Uses.{◌∙◌, refl, ap, sym, subst, arith, append-nil, error_kind, Error, WriteZero, Poll, Ready, Pending, ThroughBuffer}
-use Rattle.lite_write.specs.Uses.{bytes_ahead, reader_capacity, ReadMark, bytes, MarkLaws, WriteMark, bytes_taken, write_marks, offered_marks, UpToValue}
-use Rattle.lite_write.specs.Uses.{strip, waits, OneStep, Runs}
+use Rattle.lite_write.specs.Uses.{◌∙◌, refl, ap, sym, subst, arith, append-nil, error_kind, Error, WriteZero, Poll}
+use Rattle.lite_write.specs.Uses.{Ready, Pending, ThroughBuffer, bytes_ahead, reader_capacity, ReadMark, bytes}
+use Rattle.lite_write.specs.Uses.{MarkLaws, WriteMark, bytes_taken, write_marks, offered_marks, UpToValue, strip, waits}
+use Rattle.lite_write.specs.Uses.{OneStep, Runs}
 use Rattle.std.proofs.lemmas.List.{map-append}
 use Rattle.lite_base.specs.Laws.Answers.{up_to_one}
 use Rattle.lite_buffered.specs.Laws.BufReader.{passes_some, through_laws}
 use Rattle.lite_buffered.specs.declared.buf_reader.BufReader.{BufReader}
 use Rattle.lite_io_base.specs.Marks.{filled_marks}
 use Rattle.std.proofs.Common.{None, Option, Some}
-use Rattle.lite_write.specs.Copy.{CopyValue, Moves, CopiesSome}
+use Rattle.lite_write.specs.Copy.{CopyValue, Moves, CopiesSome, held_of, met_in, source_of}
 use Rattle.lite_write.specs.MarkLists.{BytesAlone, WritesUpTo, ReadsUpTo, bytes_told, waits_taken, waits_told}
-use Rattle.lite_write.specs.Parts.{held_of, met_in, source_of}
 use Rattle.lite_write.specs.Laws.Copy.{counted_none, moves_both}
 use Rattle.lite_write.specs.declared.copy.CopyFuture.{CopyFuture}
 use Rattle.lite_write.specs.declared.copy.Phase.{Phase}

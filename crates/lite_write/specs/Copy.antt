@@ -1,13 +1,34 @@
 -- The `copy` future: the bytes of a reader before its first end of file are written to a writer, which is then flushed.
-use Rattle.std.specs.Prelude.{◌≡◌, ◌<◌, ◌+◌, ◌%◌, ◌^◌, ⊤, ℕ, List, [], ◌∷◌, ◌++◌, length, Result, Ok, Err}
-use Rattle.lite_write.specs.Uses.{error_kind, Error, WriteZero, Poll, UpToValue, strip, waits, Runs, ReadMark, WriteMark, bytes_taken, ThroughBuffer}
-use Rattle.lite_write.specs.Uses.{bytes}
-use Rattle.futures.specs.Task.{Lasting}
-use Rattle.lite_write.specs.MarkLists.{WritesUpTo, ReadsUpTo, bytes_told, waits_taken, waits_told}
-use Rattle.lite_write.specs.Parts.{held_of, met_in, source_of}
+use Rattle.std.specs.Prelude.{◌≡◌, ℕ, List, [], ◌∷◌, ◌<◌, ◌+◌, ◌%◌, ◌^◌, ⊤, ◌++◌, length, Result, Ok, Err}
+use Rattle.lite_write.specs.Uses.{bytes_ahead, reader_inner, ReadMark, error_kind, Error, WriteZero, Poll, UpToValue}
+use Rattle.lite_write.specs.Uses.{strip, waits, Runs, WriteMark, bytes_taken, ThroughBuffer, bytes}
 use Rattle.lite_write.specs.declared.copy.CopyFuture.{CopyFuture}
 use Rattle.lite_write.specs.declared.copy.Phase.{Phase}
 use Rattle.lite_write.specs.declared.copy.Phase.TheVariants.{Copying, Flushing}
+use Rattle.futures.specs.Task.{Lasting}
+use Rattle.lite_write.specs.MarkLists.{WritesUpTo, ReadsUpTo, bytes_told, waits_taken, waits_told}
+
+-- The parts of a `copy` future.
+
+-- The end of file that the reader has produced, if it has: once the copy only flushes.
+abbrev pub met_in : Phase → List ReadMark
+met_in Copying = []
+met_in Flushing = ReadMark.end ∷ []
+
+module _ {R W : Type 0} where
+  -- The reader that is copied from, below the buffer.
+  abbrev pub source_of : CopyFuture R W → R
+  source_of x = reader_inner x.reader
+
+  -- The bytes held: those read and not yet written.
+  abbrev pub held_of : CopyFuture R W → List ℕ
+  held_of x = bytes_ahead x.reader
+
+  -- No byte has been copied or is held, and end of file has not been met.
+  pub record NothingCopied (x : CopyFuture R W) : Type 0 where
+    pub held : held_of x ≡ []
+    pub met : met_in x.phase ≡ []
+    pub none : x.amount ≡ 0
 
 -- The value of a `copy`, if it has one (`given`). It is `Ok` of `total`, the number of bytes written, if the reader's
 -- end was met, every byte was written, and the last mark is a flush. Otherwise it is the error of the reader, the error

@@ -1,13 +1,9 @@
 pub mod Close
 pub mod Copy
 pub mod Flush
-pub mod Hands
 pub mod Laws
 pub mod MarkLists
-pub mod Parts
-pub mod PollSteps
 pub mod Sink
-pub mod SteadyWriteAll
 pub mod Write
 pub mod WriteAll
 pub mod WriteVectored

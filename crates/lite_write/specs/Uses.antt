@@ -17,7 +17,7 @@ pub use Rattle.lite_buffered.specs.BufReader.{ThroughBuffer, bytes_ahead, reader
 pub use Rattle.lite_io_base.specs.Laws.Runs.{offered_marks}
 pub use Rattle.lite_io_base.specs.Marks.{ReadMark, bytes}
 pub use Rattle.lite_io_base.specs.Runs.{MarkLaws}
-pub use Rattle.lite_io_base.specs.SteadyWrite.{CalmWriteLaws, NoPendingWrite}
+pub use Rattle.lite_io_base.specs.Steady.{CalmWriteLaws, NoPendingWrite}
 pub use Rattle.lite_io_base.specs.WriteMarks.{WriteMark, bytes_taken, done_marks, write_marks}
 pub use Rattle.lite_read.specs.Deterministic.{SameByKind}
 pub use Rattle.lite_read.specs.Laws.PollSteps.{idle_join}

@@ -1,9 +1,8 @@
 ghost use Rattle.std.specs.Prelude.{⊤};
 ghost use Rattle.lite_write.specs.Uses.{polled_laws, PolledByCalls};
 ghost use Rattle.lite_write.specs.Close.{Closes};
-ghost use Rattle.lite_write.specs.SteadyWriteAll.{NoneFails, WithoutFailure};
-ghost use Rattle.lite_write.specs.Laws.CalmWrite.{close_calm};
-ghost use Rattle.lite_write.specs.Laws.SteadyDone.{close_steady};
+ghost use Rattle.lite_write.specs.WriteAll.{NoneFails, WithoutFailure};
+ghost use Rattle.lite_write.specs.Laws.CalmWrite.{close_calm, close_steady};
 
 use lite_base::{CalmFuture, Context, Future, Poll, SteadyFuture};
 use lite_io_base::{AsyncWrite, CalmWrite};

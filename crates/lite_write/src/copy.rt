@@ -1,6 +1,6 @@
 ghost use Rattle.std.specs.Prelude.{◌≡◌, ◌<◌, ◌↔◌, ◌^◌, [], ◌∷◌, length, IfOk, IfSome, IsTrue};
 ghost use Rattle.lite_write.specs.Uses.{IfReady, Keeps, bytes_ahead, reader_capacity, reader_inner, Registered, SameByKind, Sameness};
-ghost use Rattle.lite_base.specs.Laws.Ends.{Terminates-map};
+ghost use Rattle.lite_base.specs.Laws.Ranks.{Terminates-map};
 ghost use Rattle.lite_buffered.specs.Laws.BufReader.{through_counting};
 ghost use Rattle.lite_io_base.specs.Laws.Counting.{counting_ends};
 ghost use Rattle.lite_io_base.specs.Marks.{fill_marks};
@@ -104,8 +104,6 @@ impl<R: AsyncRead, W: AsyncWrite> CopyFuture<R, W> {
 }
 
 impl<R: CountedRead, W: AsyncWrite> PollSteps for CopyFuture<R, W> {
-    ghost use Rattle.lite_write.specs.Uses.{OneStep};
-    ghost use Rattle.lite_write.specs.Copy.{CopiesSome, CopyRegisters, Moves};
     ghost use Rattle.lite_write.specs.Laws.Copy.{some_given};
 
     type Output = io::Result<u64>;
@@ -159,8 +157,8 @@ impl<R: CountedRead, W: AsyncWrite> Future for CopyFuture<R, W> {
 // If each write takes some bytes and none fails.
 impl<R: CountedRead + SteadyRead, W: AsyncWrite> SteadyFuture for CopyFuture<R, W> {
     ghost use Rattle.lite_write.specs.Copy.{CopyRuns};
-    ghost use Rattle.lite_write.specs.SteadyWriteAll.{NoneFails, WithoutFailure};
-    ghost use Rattle.lite_write.specs.Laws.SteadyCopy.{CopyAlike, copy_steady};
+    ghost use Rattle.lite_write.specs.WriteAll.{NoneFails, WithoutFailure};
+    ghost use Rattle.lite_write.specs.Laws.Copy.{CopyAlike, copy_steady};
 
     ghost ample = { CopyRuns R.ample (WithoutFailure W.writes) };
 
@@ -174,8 +172,8 @@ impl<R: CountedRead + SteadyRead, W: AsyncWrite> SteadyFuture for CopyFuture<R, 
 }
 
 impl<R: CountedRead + CalmRead, W: CalmWrite> CalmFuture for CopyFuture<R, W> {
-    ghost use Rattle.lite_write.specs.Parts.{source_of};
-    ghost use Rattle.lite_write.specs.Laws.SteadyCopy.{copy_calm};
+    ghost use Rattle.lite_write.specs.Copy.{source_of};
+    ghost use Rattle.lite_write.specs.Laws.Copy.{copy_calm};
 
     ghost is_calm = { λ x. R.is_calm (source_of x) × W.is_calm x.writer };
 

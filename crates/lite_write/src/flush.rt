@@ -1,9 +1,8 @@
 ghost use Rattle.std.specs.Prelude.{⊤};
 ghost use Rattle.lite_write.specs.Uses.{polled_laws, PolledByCalls};
 ghost use Rattle.lite_write.specs.Flush.{Flushes};
-ghost use Rattle.lite_write.specs.SteadyWriteAll.{NoneFails, WithoutFailure};
-ghost use Rattle.lite_write.specs.Laws.CalmWrite.{flush_calm};
-ghost use Rattle.lite_write.specs.Laws.SteadyDone.{flush_steady};
+ghost use Rattle.lite_write.specs.WriteAll.{NoneFails, WithoutFailure};
+ghost use Rattle.lite_write.specs.Laws.CalmWrite.{flush_calm, flush_steady};
 
 use lite_base::{CalmFuture, Context, Future, Poll, SteadyFuture};
 use lite_io_base::{AsyncWrite, CalmWrite};

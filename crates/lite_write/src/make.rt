@@ -1,7 +1,7 @@
 //! The functions that make the futures, and the writer that drops its bytes.
 ghost use Rattle.std.specs.Prelude.{◌≡◌, IfErr, IfOk};
 ghost use Rattle.lite_write.specs.Uses.{reader_capacity};
-ghost use Rattle.lite_write.specs.Parts.{NothingCopied, source_of};
+ghost use Rattle.lite_write.specs.Copy.{NothingCopied, source_of};
 
 use crate::close::CloseFuture;
 use crate::copy::{CopyFuture, Phase};

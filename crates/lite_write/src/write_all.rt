@@ -1,11 +1,8 @@
 ghost use Rattle.std.specs.Prelude.{[], ◌∷◌, length, ⊤};
 ghost use Rattle.lite_write.specs.Uses.{OneStep};
-ghost use Rattle.lite_base.specs.Laws.Ends.{Terminates-count};
-ghost use Rattle.lite_write.specs.Laws.SteadyWriteAll.{all_calm, all_steady};
-ghost use Rattle.lite_write.specs.Laws.WriteAll.{all_laws, left_falls};
-ghost use Rattle.lite_write.specs.PollSteps.{WritesSome};
-ghost use Rattle.lite_write.specs.SteadyWriteAll.{NoneFails, WithoutFailure};
-ghost use Rattle.lite_write.specs.WriteAll.{WritesAll};
+ghost use Rattle.lite_base.specs.Laws.Ranks.{Terminates-count};
+ghost use Rattle.lite_write.specs.Laws.WriteAll.{all_calm, all_steady, all_laws, left_falls};
+ghost use Rattle.lite_write.specs.WriteAll.{WritesSome, NoneFails, WithoutFailure, WritesAll};
 
 use lite_base::{CalmFuture, Context, Future, Poll, PollSteps, SteadyFuture, drive};
 use lite_io_base::{AsyncWrite, CalmWrite};

@@ -1,14 +1,13 @@
 -- Two values of futures that are alike, where neither is a refusal.
-use Rattle.std.proofs.Common.{◌≡◌, ◌∙◌, List, [], ◌∷◌, Result, Ok, Err, sym}
+use Rattle.std.proofs.Common.{◌≡◌, ◌∙◌, List, [], ◌∷◌, Result, Ok, Err, sym, Global}
 use Rattle.std.specs.List.{AllZip}
-use Rattle.std.proofs.Common.{Global}
 use Rattle.std.specs.Prelude.{⊤, IfOk}
 use Rattle.std.specs.declared.io.Error.{Error}
 use Rattle.std.specs.declared.string.String.{String}
 use Rattle.futures.specs.declared.task.Poll.{Poll}
 use Rattle.lite_base.specs.Alike.{SameItem, SameList, Sameness}
 use Rattle.lite_base.specs.Answers.{Answer}
-use Rattle.lite_base.specs.Future.Finishes.{Finishes}
+use Rattle.lite_base.specs.Future.Spent.{Finishes}
 use Rattle.lite_base.specs.Runs.{Runs}
 use Rattle.lite_gather.specs.Agreeing.{HoldsSame, HoldsSameBoth, SameCollected, TrySameCollected}
 use Rattle.lite_gather.specs.declared.refused.TryCollectError.{TryCollectError}
@@ -16,15 +15,14 @@ use Rattle.lite_gather.specs.declared.refused.TryCollectError.TheVariants.{Sourc
 use Rattle.lite_io_base.specs.Marks.{ReadMark}
 use Rattle.lite_base.specs.Steady.{TakesNone}
 use Rattle.lite_laws.specs.Both.{OneValue}
-use Rattle.lite_read.proofs.Ample.{lines_ample}
+use Rattle.lite_read.proofs.Refusals.{lines_ample}
 use Rattle.lite_read.specs.Lines.{GivesLines}
 use Rattle.lite_read.specs.NoneRefused.{NoneRefused, NotRefused}
 use Rattle.lite_read.specs.declared.lines.Lines.{Lines}
 use Rattle.lite_stream.specs.Laws.Cutting.{cuts_each}
 use Rattle.lite_stream.specs.Take.{Takes, is_none_left, left_after}
-use Rattle.lite_stream.specs.Through.{Through}
+use Rattle.lite_stream.specs.Through.{Through, Relates}
 use Rattle.lite_stream.specs.declared.take.Take.{Take}
-use Rattle.lite_stream.specs.Relates.{Relates}
 
 -- what came out of an adapter comes out by any run that gave what came in
 pub through_from : {S F A B : Type 0} {run other : Runs (Answer A) S}

@@ -1,6 +1,5 @@
 -- The lengths of lines among which no error is a refusal of memory are lengths of lines for which memory was found.
-use Rattle.std.proofs.Common.{◌≡◌, ◌∙◌, ℕ, List, Option, Some, None, Result, Ok, Err, Bool, false, Global, ap, subst}
-use Rattle.std.proofs.Common.{sym}
+use Rattle.std.proofs.Common.{◌≡◌, ◌∙◌, ℕ, List, Option, Some, None, Result, Ok, Err, Bool, false, Global, ap, subst, sym}
 use Rattle.std.specs.Prelude.{⊤}
 use Rattle.std.specs.IoError.{error_kind}
 use Rattle.std.specs.declared.io.Error.{Error}
@@ -11,7 +10,7 @@ use Rattle.lite_base.specs.Calling.{Accepts, Always}
 use Rattle.lite_base.specs.Runs.{Question, Runs}
 use Rattle.lite_io_base.specs.Marks.{ReadMark}
 use Rattle.lite_base.specs.Steady.{TakesNone}
-use Rattle.lite_read.proofs.Ample.{lines_ample}
+use Rattle.lite_read.proofs.Refusals.{lines_ample}
 use Rattle.lite_read.specs.Lines.{GivesLines}
 use Rattle.lite_read.specs.NoneRefused.{NoneRefused, NotRefused}
 use Rattle.lite_read.specs.declared.lines.Lines.{Lines}

@@ -9,7 +9,7 @@ use Rattle.std.specs.declared.vec.Vec.{Vec}
 use Rattle.futures.specs.declared.task.Poll.{Poll}
 use Rattle.futures.specs.declared.task.Poll.TheVariants.{Ready, Pending}
 use Rattle.lite_base.specs.Answers.{Answer, item}
-use Rattle.lite_base.specs.Future.Finishes.{Finishes}
+use Rattle.lite_base.specs.Future.Spent.{Finishes}
 use Rattle.lite_base.specs.Runs.{Runs}
 use Rattle.lite_consume.specs.Consume.{Folds}
 use Rattle.lite_consume.specs.Consuming.{fold_of}
@@ -18,8 +18,7 @@ use Rattle.lite_consume.specs.Laws.Consuming.{consumes_by}
 use Rattle.lite_consume.specs.declared.consume.Consume.{Consume}
 use Rattle.lite_gather.specs.Collect.{collects}
 use Rattle.lite_gather.specs.Gathering.{NeverRefuses}
-use Rattle.lite_gather.proofs.Ample.{FitsGathered, FitsTried, collect_each, collect_within, try_collect_each}
-use Rattle.lite_gather.proofs.Ample.{try_collect_within}
+use Rattle.lite_gather.proofs.Ample.{FitsGathered, FitsTried, collect_each, collect_within, try_collect_each, try_collect_within}
 use Rattle.lite_gather.specs.TryCollect.{tries_collect}
 use Rattle.lite_gather.specs.TryCollect as try_values
 use Rattle.lite_gather.specs.declared.collect.Collect.{Collect}

@@ -3,7 +3,7 @@ use Rattle.std.specs.Prelude.{◌≡◌, ℕ, ◌+◌, ◌%◌, ◌^◌, List, [
 use Rattle.futures.specs.declared.task.Poll.{Poll}
 use Rattle.futures.specs.declared.task.Poll.TheVariants.{Ready, Pending}
 use Rattle.lite_base.specs.Answers.{Answer, end, item, items}
-use Rattle.lite_base.specs.OkRanks.{all_ok}
+use Rattle.lite_base.specs.Ranks.{all_ok}
 use Rattle.lite_base.specs.Runs.{Runs}
 use Rattle.nests_polled.specs.declared.try_count.TryCount.{TryCount}
 

@@ -1,7 +1,7 @@
 //! A loop over `Ok` items, as a caller's own poll makes it.
 ghost use Rattle.std.specs.Prelude.{◌≡◌, []};
 ghost use Rattle.futures.specs.Task.{Keeps};
-ghost use Rattle.lite_base.specs.Laws.Ends.{Terminates-map};
+ghost use Rattle.lite_base.specs.Laws.Ranks.{Terminates-map};
 ghost use Rattle.nests_polled.specs.TryCount.{CountsUntil, TrySteps};
 
 use lite_base::{Context, OkCounted, Poll, PollSteps, Stream, drive};

@@ -3,7 +3,7 @@
 ghost use Rattle.std.specs.Prelude.{Some, false, true, ◌≡◌};
 ghost use Rattle.lite_base.specs.Alike.{Alike};
 ghost use Rattle.lite_base.specs.Future.Calls.{NeverPends, Polled, CallRegisters};
-ghost use Rattle.lite_base.specs.Woken.{HoldsWoken};
+ghost use Rattle.lite_base.specs.Registered.{HoldsWoken};
 ghost use Rattle.lite_base.specs.declared.future.either.Either.TheVariants.{Left, Right};
 ghost use Rattle.lite_base.specs.declared.future.side.Side.TheVariants.{Asked};
 ghost use Rattle.properties_met.specs.Registering.{TellsAll};

@@ -4,7 +4,7 @@ ghost use Rattle.std.specs.Prelude.{None, Some, false, ◌≡◌};
 ghost use Rattle.lite_base.specs.Alike.{SameItem};
 ghost use Rattle.lite_base.specs.Calling.{AgreeFrom, Calls, MakesAlways};
 ghost use Rattle.lite_base.specs.Steady.{TakesNone};
-ghost use Rattle.lite_base.specs.Woken.{HoldsWoken};
+ghost use Rattle.lite_base.specs.Registered.{HoldsWoken};
 ghost use Rattle.lite_merge.specs.declared.stop_after_future.Stopping.TheVariants.{Holding, TakenOut};
 ghost use Rattle.lite_reshape.specs.Cloned.{EqualClones, NoCloneRefused};
 ghost use Rattle.lite_reshape.specs.Inner.{EachInner};

@@ -2,7 +2,7 @@
 //! A call of a reader of bytes that are there is never pending.
 ghost use Rattle.std.specs.Prelude.{◌≡◌, ◌∷◌, [], Some, false, None, true};
 ghost use Rattle.lite_base.specs.Steady.{TakesNone};
-ghost use Rattle.lite_base.specs.Woken.{HoldsWoken};
+ghost use Rattle.lite_base.specs.Registered.{HoldsWoken};
 ghost use Rattle.lite_bridge.specs.Known.{NoFault};
 ghost use Rattle.lite_buffered.specs.Budgeted.{budgeted_inner, noted_of};
 ghost use Rattle.lite_buffered.specs.BufReader.{bytes_ahead, reader_capacity, reader_inner};

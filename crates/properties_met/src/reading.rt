@@ -2,7 +2,7 @@
 ghost use Rattle.std.specs.Prelude.{◌≡◌, [], Some, false, true, length};
 ghost use Rattle.lite_base.specs.Steady.{TakesNone};
 ghost use Rattle.lite_read.specs.NoneRefused.{NoneRefused};
-ghost use Rattle.lite_write.specs.Parts.{NothingCopied, source_of};
+ghost use Rattle.lite_write.specs.Copy.{NothingCopied, source_of};
 ghost use Rattle.properties_met.specs.Registering.{TellsAll};
 ghost use Rattle.properties_met.specs.Unrefused.{AmpleWhere, NoValueRefused};
 

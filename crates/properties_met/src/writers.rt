@@ -4,8 +4,8 @@ ghost use Rattle.std.specs.Prelude.{◌≡◌, [], Some, ◌<◌, length};
 ghost use Rattle.lite_buffered.specs.Budgeted.{budgeted_inner};
 ghost use Rattle.lite_buffered.specs.BufReader.{reader_inner as read_from, reader_inner};
 ghost use Rattle.lite_buffered.specs.BufWriter.{buffered, writer_inner, unwritten};
-ghost use Rattle.lite_write.specs.Parts.{held_of, source_of};
-ghost use Rattle.lite_write.specs.SteadyWriteAll.{NoneFails};
+ghost use Rattle.lite_write.specs.Copy.{held_of, source_of};
+ghost use Rattle.lite_write.specs.WriteAll.{NoneFails};
 ghost use Rattle.lite_write.specs.declared.copy.Phase.TheVariants.{Copying, Flushing};
 ghost use Rattle.properties_met.specs.Registering.{TellsAll};
 

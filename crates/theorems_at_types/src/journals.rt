@@ -3,7 +3,7 @@ ghost use Rattle.std.specs.Prelude.{◌≡◌, List, ℕ};
 ghost use Rattle.lite_bridge.specs.Cursor.{CursorReads, CursorWrites};
 ghost use Rattle.lite_io_base.specs.Parts.{PartsInOrder};
 ghost use Rattle.lite_io_base.specs.Runs.{Idle};
-ghost use Rattle.lite_io_base.specs.Told.{ReadsScript};
+ghost use Rattle.lite_io_base.specs.Known.{ReadsScript};
 ghost use Rattle.lite_halves.specs.Entry.{parts_in};
 
 use futures_lite::io::{BytesLike, Cursor, Journal};

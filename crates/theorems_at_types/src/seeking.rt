@@ -1,9 +1,8 @@
 //! Fresh buffered readers over bytes: what they answer to reads and seeks, and that their rank counts on after a seek.
 ghost use Rattle.std.specs.Prelude.{◌<◌, IfOk};
 ghost use Rattle.lite_bridge.specs.Logical.{AnswersAsCursor};
-ghost use Rattle.lite_buffered.specs.BufReader.{ahead_ranks};
-ghost use Rattle.lite_buffered.specs.SeeksThrough.{SeeksThrough};
-ghost use Rattle.lite_io_base.specs.SeekKeeps.{SeekKeeps};
+ghost use Rattle.lite_buffered.specs.BufReader.{ahead_ranks, SeeksThrough};
+ghost use Rattle.lite_io_base.specs.Runs.{SeekKeeps};
 
 use futures_lite::AsyncSeek;
 use futures_lite::io::{BufReader, BytesLike, CountedRead, Cursor};

@@ -4,12 +4,10 @@ ghost use Rattle.std.specs.Bool.{Decides};
 ghost use Rattle.std.specs.List.{Contains};
 ghost use Rattle.std.specs.declared.io.ErrorKind.TheVariants.{OutOfMemory};
 ghost use Rattle.futures.specs.declared.task.Poll.TheVariants.{Ready};
-ghost use Rattle.lite_io_base.specs.Kinds.{by_kind as kind_of};
-ghost use Rattle.lite_io_base.specs.Marks.{ReadMark};
+ghost use Rattle.lite_io_base.specs.Marks.{by_kind as kind_of, ReadMark};
 ghost use Rattle.lite_io_base.specs.WriteMarks.{WriteMark};
 ghost use Rattle.lite_io_base.specs.WriteMarks.WriteMark.{closed, flushed};
-ghost use Rattle.test_support.specs.Calls.{LeavesMarks, ReadTold, ReadsRoom, Refused, SaysRefused, WriteTold};
-ghost use Rattle.test_support.specs.Calls.{finish_marks};
+ghost use Rattle.test_support.specs.Calls.{LeavesMarks, ReadTold, ReadsRoom, Refused, SaysRefused, WriteTold, finish_marks};
 
 use futures::task::{Doorbell, Solo};
 use lite_base::Poll;

@@ -2,7 +2,7 @@
 use Rattle.std.specs.Prelude.{◌≡◌, List, [], ◌∷◌, Bool}
 use Rattle.lite_base.specs.Uses.{Poll, Ready, Pending}
 use Rattle.lite_base.specs.Answers.{UpToValue}
-use Rattle.lite_base.specs.Rows.{Rows}
+use Rattle.lite_base.specs.Segments.{Rows}
 use Rattle.lite_base.specs.Runs.{Runs}
 
 -- One row of the lists `i` and `j`. If `i` begins with a value, that is the row's result `c`, and `j` stays as it is.

@@ -3,7 +3,7 @@ use Rattle.std.specs.Prelude.{◌≡◌, ⊤, List, [], ◌++◌}
 use Rattle.lite_base.specs.Uses.{AllByRecursion, Poll, Ready}
 use Rattle.lite_base.specs.Alike.{SameItem, Sameness}
 use Rattle.lite_base.specs.Answers.{Waiting}
-use Rattle.lite_base.specs.Future.Finishes.{Finishes}
+use Rattle.lite_base.specs.Future.Spent.{Finishes}
 use Rattle.lite_base.specs.declared.future.side.Side.{Side}
 use Rattle.lite_base.specs.declared.future.side.Side.TheVariants.{Asked, Gave, Taken}
 use Rattle.lite_base.specs.Runs.{Runs}

@@ -1,10 +1,9 @@
 -- Laws of futures that are alike, and of items that are the same.
 use Rattle.std.specs.Prelude.{◌≡◌, ◌≤◌, List, [], ◌∷◌, length, Option, Some, None, refl, ⊤, ◌⊎◌}
 use Rattle.lite_base.specs.Uses.{inl, inr, ap, subst, sym, arith, Poll, Ready, Pending}
-use Rattle.lite_base.specs.Alike.{AlikeBy, Either, MadeOf, OptionBy, Optional, Pairwise, SameAnswer, SameHeld, SameItem}
-use Rattle.lite_base.specs.Alike.{Sameness}
+use Rattle.lite_base.specs.Alike.{AlikeBy, Either, MadeOf, OptionBy, Optional, Pairwise, SameAnswer, SameHeld, SameItem, Sameness}
 use Rattle.lite_base.specs.Answers.{ComparableBy, Gives, UpToValue, strip}
-use Rattle.lite_base.specs.Future.Finishes.{Finishes}
+use Rattle.lite_base.specs.Future.Spent.{Finishes}
 use Rattle.lite_base.specs.Runs.{Runs}
 
 module _ {A : Type 0} where

@@ -1,11 +1,11 @@
 -- Laws of closures that agree.
-use Rattle.std.specs.Prelude.{⊤, Bool, true, false, ◌≡◌, List, [], ◌∷◌, Option, Some, None, refl}
-use Rattle.lite_base.specs.Uses.{◌∙◌, subst, sym}
+use Rattle.std.specs.Prelude.{⊤, Bool, true, false, ◌≡◌, List, [], ◌∷◌, Option, Some, None, refl, ◌++◌}
+use Rattle.lite_base.specs.Uses.{◌∙◌, subst, sym, FoldsTo, Mut, Called}
 use Rattle.lite_base.specs.Alike.{OptionBy, SameAnswer, SameItem, Sameness}
 use Rattle.lite_base.specs.Answers.{ComparableBy}
 use Rattle.lite_base.specs.Laws.Alike.{comparable_as, ends_same, same_answer}
 use Rattle.lite_base.specs.Calling.{Accepts, Agree, AgreeBy, AgreeFrom, AgreeKeeping, AgreeOver, Always, Answered}
-use Rattle.lite_base.specs.Calling.{Answering, Keeping, Kin, KinAnswers}
+use Rattle.lite_base.specs.Calling.{Answering, Keeping, Kin, KinAnswers, MakesAlways}
 use Rattle.lite_base.specs.Runs.{Question}
 
 -- Two closures of which `agree` holds return values that are the same for items that are alike, and `agree` holds of
@@ -143,3 +143,23 @@ module _ {F A B : Type 0} where
       → MatchesFrom (SameItem like) (SameItem (Answering like call)) call (AgreeOver like call)
   answering_matches Sameness.equal call = agree_from_matches _ _ call
   answering_matches (Sameness.by like) call = kin_matches like call
+
+-- Laws of calls that are made one after the other.
+
+pub folds_follow : {P A : Type 0} (R : P → A → P → Type 0) (x y z : P) (l m : List A) → FoldsTo R x l y
+    → FoldsTo R y m z → FoldsTo R x (l ++ m) z
+folds_follow R x y z [] m h k = subst (λ t. FoldsTo R t m z) (sym h) k
+folds_follow R x y z (a ∷ l) m h k = (h.0, h.1, folds_follow R h.0 y z l m h.2 k)
+
+-- What each call of a closure promises.
+
+-- What the function makes has the fact, and the function makes such values after that too.
+pub makes_on : {F X V : Type 0} (g : Mut F X V) (Fact : V → Type 0) (f : F) (x : X) (v : V) (h : F)
+    → MakesAlways g Fact f → Called g f x v h
+    → Fact v × MakesAlways g Fact h
+makes_on g Fact f x v h always called = (
+  always.at [] f h x v refl called,
+  record {
+    at = λ xs p q y w folds then_called. always.at (x ∷ xs) p q y w (h, (v, called), folds) then_called;
+  },
+)

@@ -2,8 +2,7 @@
 use Rattle.std.specs.Prelude.{◌≡◌, ◌≤◌, ◌+◌, List, [], ◌∷◌, ◌++◌, refl}
 use Rattle.lite_base.specs.Uses.{arith, Poll, Ready, Pending, MutBor}
 use Rattle.lite_base.specs.Calm.{CalmLaws, CalmRuns, NoPending, waits}
-use Rattle.lite_base.specs.Runs.{Runs}
-use Rattle.lite_base.specs.Lent.{Lent}
+use Rattle.lite_base.specs.Runs.{Runs, Lent}
 
 -- A value whose runs are runs of a part is calm if the part is.
 pub calm_part : {A S X : Type 0} {NoWait : List A → Type 0} {run : Runs A S} {outer : Runs A X} {is_calm : S → Type 0}

@@ -2,10 +2,8 @@ pub mod Agree
 pub mod PollLimited
 pub mod Calls
 pub mod Either
-pub mod Finishes
 pub mod Fuse
 pub mod Side
-pub mod Handed
 pub mod Or
 pub mod Pending
 pub mod Picks

@@ -7,8 +7,7 @@ use Rattle.lite_base.specs.Laws.FutureLaws.{future_laws_of, future_runs_of}
 use Rattle.lite_base.specs.Ranks.{Counting, Ranks, ranks_of}
 use Rattle.lite_base.specs.StreamLaws.{RunLaws, StreamLaws}
 use Rattle.lite_base.specs.Laws.StreamLaws.{laws_of, runs_of}
-use Rattle.lite_base.specs.Runs.{Hints, Runs}
-use Rattle.lite_base.specs.Lent.{Lent}
+use Rattle.lite_base.specs.Runs.{Hints, Runs, Lent}
 
 -- Runs of what two references point to follow one another.
 lent_stays : {S A : Type 0} (run : Runs A S) → ((x y : S) → run x [] y → y ≡ x) → (x y : MutBor S) → Lent run x [] y

@@ -1,11 +1,15 @@
 -- Laws of lists that are cut into segments.
-use Rattle.std.specs.Prelude.{◌≡◌, List, [], ◌∷◌, ◌++◌, map, refl}
-use Rattle.lite_base.specs.Uses.{◌∙◌, ap, append-nil, append_assoc, subst, sym, map-append, AllByRecursion, FoldsTo, Poll, Ready}
-use Rattle.lite_base.specs.Answers.{Waiting}
+use Rattle.std.specs.Prelude.{◌≡◌, List, [], ◌∷◌, ◌++◌, map, refl, ◌%◌, ℕ, Bool, true, false, ◌≤◌, ◌+◌, ◌-◌, Some, None, length}
+use Rattle.lite_base.specs.Uses.{◌∙◌, ap, append-nil, append_assoc, subst, sym, map-append, AllByRecursion, FoldsTo, Poll, Ready, inl, inr, arith, Pending}
+use Rattle.lite_base.specs.Answers.{Waiting, Answer, before_end, items, strip}
 use Rattle.lite_base.specs.Laws.Answers.{up_to_one, waiting_up_to}
-use Rattle.lite_base.specs.Laws.Calls.{folds_follow}
+use Rattle.lite_base.specs.Laws.Calling.{folds_follow}
 use Rattle.lite_base.specs.Runs.{Question}
-use Rattle.lite_base.specs.Segments.{OneAnswer, Segment, Segments, SegmentsToValue}
+use Rattle.lite_base.specs.Segments.{OneAnswer, Segment, Segments, SegmentsToValue, Rows, Paces, left_behind}
+use Rattle.std.proofs.Common.{eq-eqb}
+use Rattle.std.proofs.lemmas.Bool.{ne_eqb}
+use Rattle.lite_base.specs.Future.Race.{is_first}
+use Rattle.lite_base.specs.Ranks.{Lowers}
 
 module _ {M I O : Type 0} (one : Question M (List I) O) where
   -- Segments follow one another.
@@ -140,3 +144,91 @@ module _ {M A I O : Type 0} (shows : A → I) (takes : M → A → M → Type 0)
         subst (λ k. P p k (b ∷ l)) (sym cut)
         (all_taken p s.between s.taken _ b l s.folds
         (given s.between h.2 a h.1 b l s.given.2 (answers_by h.2 q h.1 l none h.5)))
+
+-- Laws of two lists that are read row by row.
+
+module _ {A : Type 0} (row : (i j : List A) (c : A) (i' j' : List A) → Type 0) where
+  -- By induction on the rows, in which either list may be read first.
+  module _ (P : List A → List A → List A → Type 0) (none : P [] [] [])
+      (first : (i j : List A) (c : A) (i' j' l : List A) → row i j c i' j' → P i' j' l → P i j (c ∷ l))
+      (second : (i j : List A) (c : A) (i' j' l : List A) → row j i c j' i' → P i' j' l → P i j (c ∷ l)) where
+    pub rows_by : (o : List Bool) (i j l : List A) → Rows row o i j l → P i j l
+    rows_by [] i j l r = rw (r.0, r.1, r.2) none
+    rows_by (b ∷ o) i j [] r = absurd r
+    rows_by (true ∷ o) i j (c ∷ l) r = first i j c r.0 r.1 l r.2 (rows_by o r.0 r.1 l r.3)
+    rows_by (false ∷ o) i j (c ∷ l) r = second i j c r.0 r.1 l r.2 (rows_by o r.0 r.1 l r.3)
+
+  -- Rows follow one another, if a row stays a row with more results at the ends of its lists.
+  pub rows_follow : ((i j : List A) (c : A) (i' j' k h : List A) → row i j c i' j'
+      → row (i ++ k) (j ++ h) c (i' ++ k) (j' ++ h))
+      → (o p : List Bool) (i j k h l m : List A) → Rows row o i j l → Rows row p k h m
+      → Rows row (o ++ p) (i ++ k) (j ++ h) (l ++ m)
+  rows_follow more [] p i j k h l m r q = rw (r.0, r.1, r.2) q
+  rows_follow more (b ∷ o) p i j k h [] m r q = absurd r
+  rows_follow more (true ∷ o) p i j k h (c ∷ l) m r q =
+      (r.0 ++ k, r.1 ++ h, more i j c r.0 r.1 k h r.2, rows_follow more o p r.0 r.1 k h l m r.3 q)
+  rows_follow more (false ∷ o) p i j k h (c ∷ l) m r q =
+      (r.0 ++ k, r.1 ++ h, more j i c r.1 r.0 h k r.2, rows_follow more o p r.0 r.1 k h l m r.3 q)
+
+  pub rows_empty : (o : List Bool) (i j : List A) → Rows row o i j [] → (i ≡ []) × (j ≡ [])
+  rows_empty [] i j r = (r.0, r.1)
+  rows_empty (b ∷ o) i j r = absurd r
+
+  -- One row, in the order that a word of the generator names.
+  pub drawn_first : (word : ℕ) {i j : List A} {c : A} → word % 2 ≡ 1 → row i j c [] []
+      → Rows row (map is_first (word ∷ [])) i j (c ∷ [])
+  drawn_first word odd r = rw (eq-eqb (word % 2) 1 odd) ([], [], r, (refl, refl, refl))
+
+  pub drawn_second : (word : ℕ) {i j : List A} {c : A} → (word % 2 ≡ 1 → ⊥) → row j i c [] []
+      → Rows row (map is_first (word ∷ [])) i j (c ∷ [])
+  drawn_second word even r = rw (ne_eqb (word % 2) 1 even) ([], [], r, (refl, refl, refl))
+
+-- Laws of results with pauses.
+
+module _ {X : Type 0} (pause : X) (after : ℕ → X → ℕ → ℕ) where
+  pub paces_follow : (p q r : ℕ × ℕ) (i j o m : List X) → Paces pause after p i o q → Paces pause after q j m r
+      → Paces pause after p (i ++ j) (o ++ m) r
+  paces_follow p q r i j [] m h k = rw h.0 (subst (λ v. Paces pause after v j m r) h.1 k)
+  paces_follow p q r i j (b ∷ o) m (inl h) k = inl (h.0, h.1, paces_follow (p.0, p.0) q r i j o m h.2 k)
+  paces_follow p q r i j (b ∷ o) m (inr h) k =
+      inr (
+        h.0,
+        h.1 ++ j,
+        ap (λ l. l ++ j) h.2,
+        paces_follow (p.0, after p.0 b p.1) q r h.1 j o m h.3 k,
+      )
+
+module _ {A : Type 0} where
+  pub paced_bounded : (p q : ℕ × ℕ) (i o : List (Answer A)) → Paces Pending left_behind p i o q
+      → before_end o ≤ before_end i
+  paced_bounded p q i (b ∷ o) (inl h) = rw h.1 (paced_bounded (p.0, p.0) q i o h.2)
+  paced_bounded p q i (Pending ∷ o) (inr h) = rw h.2 (paced_bounded (p.0, p.0) q h.1 o h.3)
+  paced_bounded p q i (Ready (Some x) ∷ o) (inr h) =
+      let e = paced_bounded (p.0, p.1 - 1) q h.1 o h.3 in rw h.2 (omega arith)
+  paced_bounded p q i o h = omega arith
+
+  pub paced_lowers : (p q : ℕ × ℕ) (i o : List (Answer A)) (xs ys : List ℕ) → Paces Pending left_behind p i o q
+      → Lowers i xs ys → Lowers o xs ys
+  paced_lowers p q i [] xs ys h k = subst (λ l. Lowers l xs ys) h.0 k
+  paced_lowers p q i (b ∷ o) xs ys (inl h) k = rw h.1 (paced_lowers (p.0, p.0) q i o xs ys h.2 k)
+  paced_lowers p q i (Pending ∷ o) xs ys (inr h) k =
+      paced_lowers (p.0, p.0) q h.1 o xs ys h.3 (subst (λ l. Lowers l xs ys) h.2 k)
+  paced_lowers p q i (Ready None ∷ o) xs ys (inr h) k =
+      paced_lowers p q h.1 o xs ys h.3 (subst (λ l. Lowers l xs ys) h.2 k)
+  paced_lowers p q i (Ready (Some x) ∷ o) xs ys (inr h) k = subst (λ l. Lowers l xs ys) h.2 k
+
+  -- Items among the results came from the source, and each uses one of the budget.
+  pub paced_items : (p q : ℕ × ℕ) (i : List (Answer A)) (l : List A) → Paces Pending left_behind p i (items l) q
+      → (i ≡ items l) × (q.1 + length l ≡ p.1)
+  paced_items p q i [] h = (h.0, rw h.1 (omega arith))
+  paced_items p q i (x ∷ l) (inl h) = absurd (cc h.1)
+  paced_items p q i (x ∷ l) (inr h) =
+      let e = paced_items (p.0, p.1 - 1) q h.1 l h.3 in (rw (h.2, e.0), omega (arith, e.1, h.0))
+
+  -- Except for the pauses, the results are those of the source.
+  pub paced_strip : (p q : ℕ × ℕ) (i o : List (Answer A)) → Paces Pending left_behind p i o q → strip o ≡ strip i
+  paced_strip p q i [] h = rw h.0
+  paced_strip p q i (b ∷ o) (inl h) = rw h.1 (paced_strip (p.0, p.0) q i o h.2)
+  paced_strip p q i (Pending ∷ o) (inr h) = rw h.2 (paced_strip (p.0, p.0) q h.1 o h.3)
+  paced_strip p q i (Ready x ∷ o) (inr h) =
+      rw h.2 (ap (λ l. x ∷ l) (paced_strip (p.0, left_behind p.0 (Ready x) p.1) q h.1 o h.3))

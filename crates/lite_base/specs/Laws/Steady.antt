@@ -5,13 +5,11 @@ use Rattle.lite_base.specs.Alike.{Sameness}
 use Rattle.lite_base.specs.Answers.{Answer}
 use Rattle.lite_base.specs.FutureLaws.{FutureLaws}
 use Rattle.lite_base.specs.Laws.FutureLaws.{future_runs_of}
-use Rattle.lite_base.specs.Lent.{Lent}
+use Rattle.lite_base.specs.Runs.{Lent, Hints, Runs}
 use Rattle.lite_base.specs.Laws.Lent.{lent_future_runs, lent_runs}
 use Rattle.lite_base.specs.StreamLaws.{StreamLaws}
 use Rattle.lite_base.specs.Laws.StreamLaws.{runs_of}
-use Rattle.lite_base.specs.Runs.{Hints, Runs}
-use Rattle.lite_base.specs.Steady.{FutureSteadyLaws, FutureSteadyLawsBy, Steadiness, SteadinessBy, SteadyLaws}
-use Rattle.lite_base.specs.Steady.{SteadyLawsBy, TakesNone}
+use Rattle.lite_base.specs.Steady.{FutureSteadyLaws, FutureSteadyLawsBy, Steadiness, SteadinessBy, SteadyLaws, SteadyLawsBy, TakesNone}
 
 lent_steadiness : {S A : Type 0} {same : A → A → Type 0} {ample : Runs (Poll A) S} {alike : S → S → Type 0}
     → SteadinessBy same ample alike → SteadinessBy same (Lent ample) (λ (x y : MutBor S). alike x.now y.now)

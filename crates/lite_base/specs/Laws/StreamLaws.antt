@@ -1,8 +1,9 @@
 -- Laws of a stream's runs and hints.
-use Rattle.std.specs.Prelude.{◌≤◌, ℕ, List, Option, IfSome}
+use Rattle.std.specs.Prelude.{◌≤◌, ℕ, List, Option, IfSome, ◌≡◌}
 use Rattle.lite_base.specs.Answers.{Answer, before_end}
 use Rattle.lite_base.specs.Runs.{Hints, Runs}
 use Rattle.lite_base.specs.StreamLaws.{PollsOn, RunLaws, StreamLaws}
+use Rattle.lite_base.specs.Uses.{subst, sym}
 
 pub runs_of : {S A : Type 0} {run : Runs (Answer A) S} {can_poll : S → Type 0} {hints : Hints S} → StreamLaws can_poll run hints → RunLaws run
 runs_of laws = record { rests = laws.rests; stays = laws.stays; follows = laws.follows }
@@ -17,3 +18,10 @@ pub laws_of : {S A : Type 0} {can_poll : S → Type 0} {run : Runs (Answer A) S}
     → HintsHold run hints → PollsOn can_poll run → StreamLaws can_poll run hints
 laws_of runs bounded on =
     record { rests = runs.rests; stays = runs.stays; follows = runs.follows; bounded = bounded; polls_on = on }
+
+-- What a size hint bounds.
+
+-- A hint that is equal to a known one has the bound of the known one.
+pub same_hint : {A : Type 0} (hint known : ℕ × Option ℕ) (l : List (Answer A)) → hint ≡ known
+    → IfSome known.1 (λ most. before_end l ≤ most) → IfSome hint.1 (λ most. before_end l ≤ most)
+same_hint hint known l e h = subst (λ (k : ℕ × Option ℕ). IfSome k.1 (λ most. before_end l ≤ most)) (sym e) h

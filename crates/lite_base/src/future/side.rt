@@ -1,7 +1,7 @@
 ghost use Rattle.std.specs.Prelude.{◌≡◌, ◌∷◌, [], Err, IfErr, IfOk, Ok, Result};
 ghost use Rattle.lite_base.specs.Uses.{Holds, Keeps, Lasting, Poll};
 ghost use Rattle.lite_base.specs.Future.Side.{CanAsk, IsAskedAnd, Stands};
-ghost use Rattle.lite_base.specs.Future.Taking.{TakesBoth};
+ghost use Rattle.lite_base.specs.Future.Together.{TakesBoth};
 ghost use Rattle.lite_base.specs.declared.future.side.Side.TheVariants.{Asked};
 
 use super::Future;

@@ -1,7 +1,7 @@
 ghost use Rattle.std.specs.Prelude.{⊤, ◌≡◌, true};
 ghost use Rattle.lite_base.specs.Future.YieldNow.{YieldsOnce};
 ghost use Rattle.lite_base.specs.Laws.Future.YieldNow.{yields_calm, yields_laws, yields_steady};
-ghost use Rattle.lite_base.specs.Woken.{HoldsWoken};
+ghost use Rattle.lite_base.specs.Registered.{HoldsWoken};
 
 use super::{CalmFuture, Future, SteadyFuture};
 use crate::{Context, Poll};

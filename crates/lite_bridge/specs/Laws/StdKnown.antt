@@ -1,17 +1,16 @@
 -- Laws of std readers and writers.
 use Rattle.std.specs.Prelude.{◌≡◌, ◌<◌, ℕ, zero, suc, List, [], ◌∷◌, ◌++◌, length, take, Option, None, Some, Result, Ok, Err, ⊤}
-use Rattle.lite_bridge.specs.Uses.{◌∙◌, append-nil, ap, arith, refl, subst, sym, ReadsAtMost, Keeps, ReadConsumes, WriteAppends, SeekMoves, StaysAt}
-use Rattle.lite_bridge.specs.Uses.{Error, SeekFrom, End, Poll, Pending, Ready, by_kind, ReadMark, bytes, read_marks, MarkLaws, told_marks_agree}
-use Rattle.lite_bridge.specs.Uses.{CalmReadLaws, NoPendingRead, SteadyReadLaws, strip_marks, CalmWriteLaws, SteadyWriteLaws, WriteMark, bytes_taken}
-use Rattle.lite_bridge.specs.Uses.{done_marks, write_marks, ReadsScript, Comparable, Runs}
+use Rattle.lite_bridge.specs.Uses.{◌∙◌, append-nil, ap, arith, refl, subst, sym, ReadsAtMost, Keeps, ReadConsumes}
+use Rattle.lite_bridge.specs.Uses.{WriteAppends, SeekMoves, StaysAt, Error, SeekFrom, End, Poll, Pending, Ready}
+use Rattle.lite_bridge.specs.Uses.{by_kind, ReadMark, bytes, read_marks, MarkLaws, told_marks_agree, CalmReadLaws}
+use Rattle.lite_bridge.specs.Uses.{NoPendingRead, SteadyReadLaws, strip_marks, CalmWriteLaws, SteadyWriteLaws}
+use Rattle.lite_bridge.specs.Uses.{WriteMark, bytes_taken, done_marks, write_marks, ReadsScript, Comparable, Runs}
 use Rattle.lite_base.specs.Calm.{CalmRuns}
-use Rattle.lite_io_base.specs.Laws.Grows.{growing_laws, grows_all, grows_no_pending}
-use Rattle.lite_io_base.specs.Laws.Steady.{no_wait_both, no_wait_moved}
-use Rattle.lite_io_base.specs.Laws.SteadyWrite.{never_waits_both}
+use Rattle.lite_io_base.specs.Laws.Stored.{growing_laws, grows_all, grows_no_pending}
+use Rattle.lite_io_base.specs.Laws.Steady.{no_wait_both, no_wait_moved, never_waits_both}
 use Rattle.lite_io_base.specs.Marks.{moved_marks}
 use Rattle.std.specs.Io.Seek.{IsSeekTarget}
-use Rattle.lite_bridge.specs.Known.{GainsKnown, MovesKnown, NoFault, SameKnown, SpendsBytes, SpendsKnown}
-use Rattle.lite_bridge.specs.Known.{SpendsWell, WhereKnown, known_bytes}
+use Rattle.lite_bridge.specs.Known.{GainsKnown, MovesKnown, NoFault, SameKnown, SpendsBytes, SpendsKnown, SpendsWell, WhereKnown, known_bytes}
 
 spends_follows : (x y z : List ℕ) (l m : List ReadMark) → SpendsBytes x l y → SpendsBytes y m z
     → SpendsBytes x (l ++ m) z

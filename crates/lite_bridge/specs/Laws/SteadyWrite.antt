@@ -1,12 +1,11 @@
 -- Cursors over equal bytes, at one position, leave equal bytes, and none is ever pending.
 use Rattle.std.specs.Prelude.{◌≡◌, ◌+◌, ℕ, List, [], ◌∷◌, length, ⊤}
-use Rattle.lite_bridge.specs.Uses.{◌∙◌, ap, sym, arith, add-zero, length-append, Global, CalmWriteLaws, NoPendingWrite, SteadyWriteLaws, WriteMark, bytes_taken}
-use Rattle.lite_bridge.specs.Uses.{Vec, MutBor}
+use Rattle.lite_bridge.specs.Uses.{◌∙◌, ap, sym, arith, add-zero, length-append, Global, CalmWriteLaws, NoPendingWrite}
+use Rattle.lite_bridge.specs.Uses.{SteadyWriteLaws, WriteMark, bytes_taken, Vec, MutBor}
 use Rattle.lite_bridge.specs.declared.cursor.Cursor.{Cursor}
 use Rattle.lite_bridge.specs.Cursor.{CursorWrites}
 use Rattle.lite_bridge.specs.Laws.Put.{puts_more}
-use Rattle.lite_bridge.specs.Overwrites.{CursorWritesLent}
-use Rattle.lite_bridge.specs.Put.{Puts, PutsVec, PutsVecLent, VecStays, VecStaysLent}
+use Rattle.lite_bridge.specs.Put.{CursorWritesLent, Puts, PutsVec, PutsVecLent, VecStays, VecStaysLent}
 
 -- Two cursors have equal bytes and one position.
 abbrev pub SamePlace : {T : Type 0} → (T → List ℕ) → Cursor T → Cursor T → Type 0

@@ -1,11 +1,11 @@
 -- Laws of a reader with a budget.
 use Rattle.std.specs.Prelude.{◌≡◌, ◌+◌, ◌-◌, ℕ, zero, suc, List, [], ◌∷◌, ◌++◌, Option, Some, None, length, take}
-use Rattle.lite_buffered.specs.Uses.{◌∙◌, inl, inr, refl, ap, subst, sym, arith, Comparable, Runs, ReadCounting, Falls, Known, ReadsKnown, calm_part}
-use Rattle.lite_buffered.specs.Uses.{steady_write_part, AllGiven, ReadMark, bytes, MarkLaws, Shows, SteadyReadLaws, strip_marks, CalmWriteLaws}
-use Rattle.lite_buffered.specs.Uses.{SteadyWriteLaws, WriteMark}
-use Rattle.lite_base.specs.Laws.Paces.{paces_follow}
-use Rattle.lite_buffered.specs.Budgeted.{BudgetsMarks, PacesMarks, WritesWithin, budgeted_lent, budgeted_ranks}
-use Rattle.lite_buffered.specs.Budgeted.{left_behind_mark, left_noted, lent_noted}
+use Rattle.lite_buffered.specs.Uses.{◌∙◌, inl, inr, refl, ap, subst, sym, arith, Comparable, Runs, ReadCounting, Falls}
+use Rattle.lite_buffered.specs.Uses.{Known, ReadsKnown, calm_part, steady_write_part, AllGiven, ReadMark, bytes}
+use Rattle.lite_buffered.specs.Uses.{MarkLaws, Shows, SteadyReadLaws, strip_marks, CalmWriteLaws, SteadyWriteLaws}
+use Rattle.lite_buffered.specs.Uses.{WriteMark}
+use Rattle.lite_base.specs.Laws.Segments.{paces_follow}
+use Rattle.lite_buffered.specs.Budgeted.{BudgetsMarks, PacesMarks, WritesWithin, budgeted_lent, budgeted_ranks, left_behind_mark, left_noted, lent_noted}
 use Rattle.lite_buffered.specs.declared.budgeted.Budgeted.{Budgeted}
 
 -- The bytes that may be shown of the inner reader's are the first to be passed on.

@@ -2,7 +2,7 @@
 use Rattle.std.specs.Prelude.{◌≡◌, ℕ, List, [], ◌∷◌, ◌++◌}
 use Rattle.lite_buffered.specs.Uses.{◌∙◌, inl, inr, refl, sym, ap, append_assoc, append-nil, MarkLaws, WriteMark, bytes_taken, Runs}
 use Rattle.lite_base.specs.Laws.Segments.{segments_join}
-use Rattle.lite_io_base.specs.Laws.WriteMarks.{taken_both}
+use Rattle.lite_io_base.specs.Laws.Marks.{taken_both}
 use Rattle.lite_io_base.specs.Stored.{Arrives, Stored}
 use Rattle.lite_io_base.specs.WriteMarks.{bytes_in}
 use Rattle.lite_buffered.specs.BufWriter.{Balanced, Buffers, TakesHeld, WriterAnswers, WriterSegment, WriterSegments, unwritten}

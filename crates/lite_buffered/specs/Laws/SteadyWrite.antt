@@ -1,12 +1,14 @@
 -- A `BufWriter` is steady over a steady writer, and calm over a calm one.
 use Rattle.std.specs.Prelude.{◌≡◌, ℕ, List, [], ◌∷◌, ◌++◌}
-use Rattle.lite_buffered.specs.Uses.{◌∙◌, inl, inr, refl, sym, ap, subst, append_assoc, append-nil, CalmWriteLaws, SteadyWriteLaws, WriteMark}
-use Rattle.lite_buffered.specs.Uses.{bytes_taken, Runs}
-use Rattle.lite_io_base.specs.Laws.SteadyWrite.{never_waits_parts}
-use Rattle.lite_io_base.specs.SteadyWrite.{EndsFlushed, NoError, NoPendingWrite}
+use Rattle.lite_buffered.specs.Uses.{◌∙◌, inl, inr, refl, sym, ap, subst, append_assoc, append-nil, CalmWriteLaws}
+use Rattle.lite_buffered.specs.Uses.{SteadyWriteLaws, WriteMark, bytes_taken, Runs, calm_part, steady_write_part}
+use Rattle.lite_io_base.specs.Laws.Steady.{never_waits_parts}
+use Rattle.lite_io_base.specs.Steady.{EndsFlushed, NoError, NoPendingWrite}
 use Rattle.lite_buffered.specs.declared.buf_writer.BufWriter.{BufWriter}
 use Rattle.lite_buffered.specs.Laws.BufWriter.{segments_done}
 use Rattle.lite_buffered.specs.BufWriter.{Buffers, TakesHeld, WriterAnswers, WriterSegment, WriterSegments, unwritten}
+use Rattle.lite_buffered.specs.BufReader.{Past}
+use Rattle.lite_buffered.specs.declared.buf_reader.BufReader.{BufReader}
 
 no_error_both : (l m : List WriteMark) → NoError l → NoError m → NoError (l ++ m)
 no_error_both [] m a b = b
@@ -115,3 +117,14 @@ module _ {W : Type 0} {writes : Runs WriteMark W} where
             (c.no_pending x.inner y.inner h.taken k h.ran) h.segments;
         calm_on = λ x y l k h. c.calm_on x.inner y.inner h.taken k h.ran;
       }
+
+-- A `BufReader` is as steady and as calm a writer as its inner value.
+
+module _ {R : Type 0} {writes : Runs WriteMark R} where
+  pub past_steady : {alike : R → R → Type 0} {below : R → List ℕ} → SteadyWriteLaws writes alike below
+      → SteadyWriteLaws (Past writes) (λ (x y : BufReader R). alike x.inner y.inner) (λ x. below x.inner)
+  past_steady = steady_write_part (λ x. x.inner) (λ x y l h. h.0)
+
+  pub past_calm : {is_calm : R → Type 0} → CalmWriteLaws writes is_calm
+      → CalmWriteLaws (Past writes) (λ (x : BufReader R). is_calm x.inner)
+  past_calm = calm_part (λ x. x.inner) (λ x y l h. h.0)

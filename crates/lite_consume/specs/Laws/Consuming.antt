@@ -1,8 +1,8 @@
 -- Laws of futures that consume a stream.
 use Rattle.std.specs.Prelude.{◌≡◌, Option, Some, None, List, [], ◌∷◌, refl}
 use Rattle.std.proofs.Common.{◌++◌}
-use Rattle.lite_consume.specs.Uses.{Poll, Ready, Pending, Answer, Gives, item, answers_given, answers_taken, Runs, OneAnswer, Segment, FoldsTo, Hints}
-use Rattle.lite_consume.specs.Uses.{StreamLaws, items_in}
+use Rattle.lite_consume.specs.Uses.{Poll, Ready, Pending, Answer, Gives, item, answers_given, answers_taken, Runs}
+use Rattle.lite_consume.specs.Uses.{OneAnswer, Segment, FoldsTo, Hints, StreamLaws, items_in}
 use Rattle.lite_base.specs.Answers.{UpToValue, Waiting}
 use Rattle.lite_base.specs.Calm.{CalmLaws, NoPending}
 use Rattle.lite_base.specs.FutureLaws.{FutureLaws, FutureRunLaws, WaitsOn}
@@ -13,9 +13,8 @@ use Rattle.lite_base.specs.Laws.StreamLaws.{runs_of}
 use Rattle.lite_base.specs.StreamLaws.{RunLaws}
 use Rattle.lite_stream.specs.Laws.EachItem.{each_along}
 use Rattle.std.specs.List.{AllByRecursion}
-use Rattle.lite_consume.specs.PollSteps.{Returns}
+use Rattle.lite_consume.specs.Consume.{Returns, CanFold, Folds}
 use Rattle.lite_consume.specs.Agreeing.{WithinWhere}
-use Rattle.lite_consume.specs.Consume.{CanFold, Folds}
 use Rattle.lite_consume.specs.Consuming.{Consumes, Decides, Fold, TakesIn, fold_of}
 
 -- By induction on the stream's results: items are consumed, `Pending`s are passed on, and at last comes the value.

@@ -1,11 +1,12 @@
 -- Which states of each fold agree: closures that agree, and numbers and items that are the same.
 use Rattle.std.specs.Prelude.{⊤, Result, Ok, Err, IsErr, IsSome, Bool, true, false, ◌≡◌, Option, Some, None, refl}
-use Rattle.lite_consume.specs.Uses.{inl, inr, subst, arith, OptionBy, Optional, SameAnswer, SameHeld, SameItem, Sameness, Agree, AgreeFrom}
-use Rattle.lite_consume.specs.Uses.{AgreeKeeping, Keeping, Kin, KinAnswers, both_items, Question}
+use Rattle.lite_consume.specs.Uses.{inl, inr, subst, arith, OptionBy, Optional, SameAnswer, SameHeld, SameItem}
+use Rattle.lite_consume.specs.Uses.{Sameness, Agree, AgreeFrom, AgreeKeeping, Keeping, Kin, KinAnswers, both_items}
+use Rattle.lite_consume.specs.Uses.{Question}
 use Rattle.lite_base.specs.Laws.Alike.{ends_same, held_same, optional_same, same_answer, same_held}
 use Rattle.lite_base.specs.Laws.Calling.{agree_from_matches, keeping_from, keeping_matches, kin_matches}
 use Rattle.std.proofs.Common.{ap, sym, ◌∙◌}
-use Rattle.lite_consume.specs.Agreeing.{FoldSteadyLaws, SameDecision}
+use Rattle.lite_consume.specs.Agreeing.{FoldSteadyLaws, SameDecision, AgreeBeside, AgreeDeciding, AgreeOrKin, Giving, KinGive}
 use Rattle.lite_consume.specs.All.{all_fold}
 use Rattle.lite_consume.specs.Any.{any_fold}
 use Rattle.lite_consume.specs.Consuming.{Fold}
@@ -14,7 +15,6 @@ use Rattle.lite_consume.specs.Find.{finds}
 use Rattle.lite_consume.specs.FindMap.{finds_map}
 use Rattle.lite_consume.specs.Fold.{folds}
 use Rattle.lite_consume.specs.ForEach.{calls_each}
-use Rattle.lite_consume.specs.Kin.{AgreeBeside, AgreeDeciding, AgreeOrKin, Giving, KinGive}
 use Rattle.lite_consume.specs.Last.{lasts}
 use Rattle.lite_consume.specs.Laws.Agreeing.{within_itself}
 use Rattle.lite_consume.specs.Next.{nexts}

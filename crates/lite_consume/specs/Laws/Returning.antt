@@ -1,14 +1,12 @@
 -- Why a poll that consumes items returns.
-use Rattle.std.specs.Prelude.{◌≡◌, ℕ, ◌+◌, [], ⊤, Result, Ok, Err}
+use Rattle.std.specs.Prelude.{◌≡◌, ℕ, ◌+◌, [], ⊤, Result, Ok, Err, None}
 use Rattle.std.proofs.Common.{◌<◌}
 use Rattle.lite_consume.specs.Uses.{arith, MutBor, Answer, Terminates-map, Lent, Runs}
-use Rattle.lite_base.specs.Laws.Ends.{Terminates-count}
-use Rattle.lite_base.specs.Laws.OkRanks.{ok_counting_ends}
-use Rattle.lite_base.specs.Laws.Ranks.{counting_ends}
-use Rattle.lite_base.specs.OkRanks.{OkCounting, OkRun}
-use Rattle.lite_base.specs.Ranks.{Counting, Ranks}
+use Rattle.lite_base.specs.Laws.Ranks.{Terminates-count, ok_counting_ends, counting_ends}
+use Rattle.lite_base.specs.Ranks.{OkCounting, OkRun, Counting, Ranks}
 use Rattle.lite_consume.specs.Consuming.{Fold, TakesIn, fold_of}
-use Rattle.lite_consume.specs.PollSteps.{Returns, TakesItem}
+use Rattle.lite_consume.specs.Consume.{Returns, TakesItem}
+use Rattle.lite_consume.specs.TryNext.{TryNextItem}
 
 -- A count that goes down.
 pub one_less : {n m : ℕ} → n ≡ m + 1 → m < n
@@ -67,3 +65,9 @@ lent_returns run fold r =
           (r.ends s.now p.now k);
       opens = λ p q x k h. r.opens p.now q.now x k h;
     }
+
+-- A law of `try_next`.
+
+-- No item is consumed.
+pub none_given : {M T E : Type 0} (p q : M) (x : Result T E) → TryNextItem x None → ⊥
+none_given p q x h = h

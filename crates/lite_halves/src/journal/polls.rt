@@ -1,13 +1,11 @@
 //! The journal as a reader and a writer.
 ghost use Rattle.std.specs.Prelude.{◌≡◌, ◌≤◌, ◌<◌, ◌+◌, ◌^◌, ◌++◌, ◌∷◌, [], length, vec_capacity, IfNone, IfOk, IfSome};
-ghost use Rattle.lite_halves.specs.Uses.{io_slices_bytes, OutOfMemory, IfReady, Keeps, ReadMark, read_marks, Part, ReadsInto, room_in, WriteMark, done_marks};
-ghost use Rattle.lite_halves.specs.Uses.{write_marks, closed, flushed, Registered};
+ghost use Rattle.lite_halves.specs.Uses.{io_slices_bytes, OutOfMemory, IfReady, Keeps, ReadMark, read_marks, Part};
+ghost use Rattle.lite_halves.specs.Uses.{ReadsInto, room_in, WriteMark, done_marks, write_marks, closed, flushed};
+ghost use Rattle.lite_halves.specs.Uses.{Registered};
 ghost use Rattle.lite_halves.specs.Entry.{Request, close_note, flush_note, read_note, write_note};
-ghost use Rattle.lite_halves.specs.Journal.{Adds, AddsOrStays, AddsRead, AddsWrite, AsksMemory, JournalReads};
-ghost use Rattle.lite_halves.specs.Journal.{JournalWrites, EntryRoom};
-ghost use Rattle.lite_halves.specs.Steady.{ReadsAmply};
-ghost use Rattle.lite_halves.specs.Laws.Journal.{journals_laws};
-ghost use Rattle.lite_halves.specs.Laws.Steady.{journal_calm, journal_calm_write, journal_steady, journal_steady_write};
+ghost use Rattle.lite_halves.specs.Journal.{Adds, AddsOrStays, AddsRead, AddsWrite, AsksMemory, JournalReads, JournalWrites, EntryRoom, ReadsAmply};
+ghost use Rattle.lite_halves.specs.Laws.Journal.{journals_laws, journal_calm, journal_calm_write, journal_steady, journal_steady_write};
 
 use super::Journal;
 use crate::answers::{done_answer, or_refused, read_answer, write_answer};

@@ -1,5 +1,5 @@
 //! The four counters of a split.
-ghost use Rattle.lite_halves.specs.CounterNames.{Names};
+ghost use Rattle.lite_halves.specs.Made.{Names};
 
 use std::marker::{Brand, Model, PhantomData};
 use std::sync::ledger::{Blank, Ledger};
@@ -50,7 +50,7 @@ pub struct NewCounters {
 
 impl Model for NewCounters {
     ghost use Rattle.std.specs.Prelude.{◌≡◌};
-    ghost use Rattle.lite_halves.specs.CounterNames.{Names};
+    ghost use Rattle.lite_halves.specs.Made.{Names};
 
     ghost Value = { Names };
 

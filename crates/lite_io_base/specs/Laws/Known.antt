@@ -1,9 +1,14 @@
 -- Laws of the bytes that are known to come.
-use Rattle.std.specs.Prelude.{◌≡◌, ℕ, List, [], ◌∷◌, ◌++◌, refl, ⊤}
-use Rattle.lite_io_base.specs.Uses.{◌∙◌, ap, sym, MutBor, Lent, Runs}
-use Rattle.lite_io_base.specs.Known.{Known, ReadsKnown, Knows}
-use Rattle.lite_io_base.specs.Marks.{ReadMark, bytes}
-use Rattle.lite_io_base.specs.Told.{ReadsScript}
+use Rattle.std.specs.Prelude.{◌≡◌, ℕ, List, [], ◌∷◌, ◌++◌, refl, ⊤, zero, suc, min, take, drop, length}
+use Rattle.lite_io_base.specs.Uses.{◌∙◌, ap, sym, MutBor, Lent, Runs, subst, inl, arith, append-nil, take-append-drop, Comparable}
+use Rattle.lite_io_base.specs.Known.{Known, ReadsKnown, Knows, ReadsScript}
+use Rattle.lite_io_base.specs.Marks.{ReadMark, bytes, given_count, moved_marks}
+use Rattle.lite_base.specs.Laws.Ranks.{Below-one}
+use Rattle.std.proofs.lemmas.List.{map-append}
+use Rattle.lite_io_base.specs.Counting.{Falls}
+use Rattle.lite_io_base.specs.Laws.Counting.{falls_at_most, falls_of_below}
+use Rattle.lite_io_base.specs.Laws.Marks.{length-bytes}
+use Rattle.lite_io_base.specs.Runs.{MarkLaws}
 
 -- Each run from a value whose bytes are known consumes these bytes from the front.
 pub knows_spends : {S : Type 0} (reads : Runs ReadMark S) (known : Known S) (x y : S) (l : List ReadMark)
@@ -65,3 +70,62 @@ lent_known {S} k = record {
   left = λ x. k.left x.now;
   tells = λ x y l know h. k.tells x.now y.now l know h.0;
 }
+
+-- Laws of readers whose marks are fixed in advance.
+
+pub told_follows : (x y z l m : List ReadMark) → ReadsScript x l y → ReadsScript y m z → ReadsScript x (l ++ m) z
+told_follows x y z [] m h k = rw (← h) k
+told_follows [] y z (a ∷ l) m h k = (h.0, told_follows [] y z l m h.1 k)
+told_follows (b ∷ x) y z (a ∷ l) m h k = (h.0, told_follows x y z l m h.1 k)
+
+-- A value whose marks are fixed in advance meets the laws of runs.
+pub told_laws : {S : Type 0} (marks : S → List ReadMark) → MarkLaws (λ x l y. ReadsScript (marks x) l (marks y))
+told_laws marks = record { rests = λ x. refl; follows = λ x y z. told_follows _ _ _ }
+
+-- Any first part of the marks is a run.
+pub told_front : (x y : List ReadMark) → ReadsScript (x ++ y) x y
+told_front [] y = refl
+told_front (a ∷ x) y = (refl, told_front x y)
+
+-- The first part of the marks is what comes first.
+pub told_shows : (x y z l : List ReadMark) → ReadsScript (x ++ y) l z → Comparable x l
+told_shows (a ∷ x) y z (b ∷ l) h = (cc h.0, told_shows x y z l h.1)
+told_shows _ y z _ h = tt
+
+-- The number of marks left is a rank.
+pub told_falls : (x y l : List ReadMark) → ReadsScript x l y → Falls (given_count l) (length y ∷ []) (length x ∷ [])
+told_falls x y [] h = inl (rw h)
+told_falls [] y (ReadMark.end ∷ l) h = told_falls [] y l h.1
+told_falls (t ∷ x) y (a ∷ l) h =
+    falls_of_below (given_count (a ∷ l)) _ _ (Below-one (falls_at_most (given_count l) _ _ (told_falls x y l h.1)) (omega arith))
+told_falls [] y _ h = cc
+
+-- The bytes left are what comes first.
+pub bytes_shows : (x y : List ℕ) (l : List ReadMark) → ReadsScript (bytes x) l (bytes y) → Comparable (bytes x) l
+bytes_shows x y l h = told_shows _ [] (bytes y) l (rw append-nil h)
+
+-- The first `n` bytes can be consumed.
+pub bytes_taken : (n : ℕ) (xs : List ℕ) → ReadsScript (bytes xs) (bytes (take n xs)) (bytes (drop n xs))
+bytes_taken n xs =
+    subst (λ t. ReadsScript (bytes t) (bytes (take n xs)) (bytes (drop n xs))) (take-append-drop n xs)
+    (rw map-append (told_front _ _))
+
+-- One read of as many bytes as fit into the room.
+pub bytes_read : (n : ℕ) (xs room : List ℕ) → n ≡ min (length xs) (length room)
+    → ReadsScript (bytes xs) (moved_marks room (take n xs)) (bytes (drop n xs))
+bytes_read n [] (r ∷ room) is = let none : n ≡ 0 = omega arith in rw none (refl, refl)
+bytes_read zero (x ∷ xs) (r ∷ room) is = absurd (omega arith)
+bytes_read (suc n) (x ∷ xs) (r ∷ room) is = bytes_taken (suc n) (x ∷ xs)
+bytes_read n _ [] is = let none : n ≡ 0 = omega arith in rw none
+
+-- The number of bytes left is a rank.
+pub bytes_lower : (xs ys : List ℕ) (l : List ReadMark) → ReadsScript (bytes xs) l (bytes ys)
+    → Falls (given_count l) (length ys ∷ []) (length xs ∷ [])
+bytes_lower xs ys l h = rw (← length-bytes, ← length-bytes) (told_falls _ _ l h)
+
+-- A read of the first bytes to come, which moves none only if it has no room.
+pub told_moved : (x rest : List ReadMark) (room xs : List ℕ) → x ≡ bytes xs ++ rest → (length xs ≡ 0 → length room ≡ 0)
+    → ReadsScript x (moved_marks room xs) rest
+told_moved x rest room (b ∷ xs) is none = rw is (told_front (bytes (b ∷ xs)) rest)
+told_moved x rest [] [] is none = sym is
+told_moved x rest (r ∷ room) [] is none = absurd (omega (arith, none refl))

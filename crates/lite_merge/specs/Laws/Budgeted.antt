@@ -1,7 +1,7 @@
 -- Laws about a stream with a budget.
 use Rattle.std.specs.Prelude.{◌∷◌, ⊤}
 use Rattle.lite_merge.specs.Uses.{inl, refl, arith, Pending, Sameness, Answer, Paces, left_behind, Counting, Runs, SteadyLawsBy, Relating}
-use Rattle.lite_base.specs.Laws.Paces.{paced_bounded, paced_items, paced_lowers, paced_strip, paces_follow}
+use Rattle.lite_base.specs.Laws.Segments.{paced_bounded, paced_items, paced_lowers, paced_strip, paces_follow}
 use Rattle.lite_stream.specs.Laws.Agreeing.{through_alike}
 use Rattle.lite_stream.specs.Laws.Through.{through_runs}
 use Rattle.lite_merge.specs.Budgeted.{Budgets, budget_parts, budget_ranks}

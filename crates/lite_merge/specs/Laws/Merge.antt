@@ -1,11 +1,12 @@
 -- Laws about two streams that are merged row by row.
 use Rattle.std.specs.Prelude.{◌≡◌, ℕ, ◌+◌, List, [], ◌∷◌, ◌++◌, length, map, Bool, true, Some, None}
-use Rattle.lite_merge.specs.Uses.{◌∙◌, inl, refl, ap, sym, arith, length-append, Ready, Pending, Answer, item, items, CalmLaws, NoPending}
-use Rattle.lite_merge.specs.Uses.{Lowers-at_most, no_pending_join, AtMost, Lowers, Counting, Ranks, StreamLaws, Hints, NoHint, Runs, Fuses}
-use Rattle.lite_merge.specs.Uses.{through_calm, through_on, through_counting, Fuse}
-use Rattle.lite_base.specs.Laws.Falling.{AtMost-both, AtMost-length, Below-after, Below-first}
-use Rattle.lite_base.specs.Laws.Rows.{rows_by, rows_follow}
-use Rattle.lite_base.specs.Rank.{Below}
+use Rattle.lite_merge.specs.Uses.{◌∙◌, inl, refl, ap, sym, arith, length-append, Ready, Pending, Answer, item, items}
+use Rattle.lite_merge.specs.Uses.{CalmLaws, NoPending, Lowers-at_most, no_pending_join, AtMost, Lowers, Counting, Ranks}
+use Rattle.lite_merge.specs.Uses.{StreamLaws, Hints, NoHint, Runs, Fuses, through_calm, through_on, through_counting}
+use Rattle.lite_merge.specs.Uses.{Fuse}
+use Rattle.lite_base.specs.Laws.Ranks.{AtMost-both, AtMost-length, Below-after, Below-first}
+use Rattle.lite_base.specs.Laws.Segments.{rows_by, rows_follow}
+use Rattle.lite_base.specs.Ranks.{Below}
 use Rattle.lite_stream.specs.Fuse.{fuse_parts}
 use Rattle.lite_stream.specs.Laws.Fuse.{fuses_calming, fuses_relating}
 use Rattle.lite_stream.specs.Laws.Through.{laws_unhinted}

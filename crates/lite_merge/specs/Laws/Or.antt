@@ -1,9 +1,8 @@
 -- Laws about `or`.
 use Rattle.std.specs.Prelude.{[], None}
 use Rattle.lite_merge.specs.Uses.{refl, map-append, Answer, CalmLaws, calm_both, same_hint, Counting, Ranks, StreamLaws, Hints, NoHint, Runs}
-use Rattle.lite_base.specs.Laws.Rows.{rows_empty}
-use Rattle.lite_merge.specs.Laws.Merge.{first_falls, fused_laws, merges_calm, merges_follow, merges_keep, merges_lower}
-use Rattle.lite_merge.specs.Laws.Merge.{merges_sized}
+use Rattle.lite_base.specs.Laws.Segments.{rows_empty}
+use Rattle.lite_merge.specs.Laws.Merge.{first_falls, fused_laws, merges_calm, merges_follow, merges_keep, merges_lower, merges_sized}
 use Rattle.lite_merge.specs.Merge.{MergeRow}
 use Rattle.lite_merge.specs.Or.{Ors, or_ranks}
 use Rattle.lite_merge.specs.declared.or.Or.{Or}

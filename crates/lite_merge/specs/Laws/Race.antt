@@ -1,8 +1,8 @@
 -- Laws about `race`.
 use Rattle.std.specs.Prelude.{◌≡◌, List, [], ◌∷◌, ◌++◌, None}
-use Rattle.lite_merge.specs.Uses.{refl, inl, map-append, Stream, Answer, items, CalmLaws, NoPending, calm_both, same_hint, Lowers, Counting, PollsOn}
-use Rattle.lite_merge.specs.Uses.{Ranks, StreamLaws, Hints, NoHint, Runs}
-use Rattle.lite_base.specs.Laws.Calls.{folds_follow}
+use Rattle.lite_merge.specs.Uses.{refl, inl, map-append, Stream, Answer, items, CalmLaws, NoPending, calm_both}
+use Rattle.lite_merge.specs.Uses.{same_hint, Lowers, Counting, PollsOn, Ranks, StreamLaws, Hints, NoHint, Runs}
+use Rattle.lite_base.specs.Laws.Calling.{folds_follow}
 use Rattle.rand_core.specs.Stream.{next_u32}
 use Rattle.std.proofs.Common.{append-nil}
 use Rattle.lite_merge.specs.Laws.Merge.{merges_calm, merges_follow, merges_keep, merges_lower, merges_sized}

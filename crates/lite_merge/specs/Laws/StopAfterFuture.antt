@@ -1,12 +1,12 @@
 -- Laws about `stop_after_future`.
 use Rattle.std.specs.Prelude.{IfSome, ◌≡◌, ℕ, List, [], ◌∷◌, ◌++◌, length, Option, Some, None}
 use Rattle.std.proofs.Common.{◌≤◌}
-use Rattle.lite_merge.specs.Uses.{◌∙◌, length-append, refl, ap, sym, arith, append_assoc, Poll, Pending, Answer, before_end, end, items, same_hint}
-use Rattle.lite_merge.specs.Uses.{PollsOn, StreamLaws, endless_join, Hints, Runs, AllEnds, Relating, laws_capped}
+use Rattle.lite_merge.specs.Uses.{◌∙◌, length-append, refl, ap, sym, arith, append_assoc, Poll, Pending, Answer}
+use Rattle.lite_merge.specs.Uses.{before_end, end, items, same_hint, PollsOn, StreamLaws, endless_join, Hints, Runs}
+use Rattle.lite_merge.specs.Uses.{AllEnds, Relating, laws_capped}
 use Rattle.lite_base.specs.FutureLaws.{FutureLaws}
-use Rattle.lite_base.specs.Laws.All.{all_append}
-use Rattle.lite_base.specs.Laws.Answers.{waiting_waiting}
-use Rattle.lite_base.specs.Laws.Future.Finishes.{finishes_later}
+use Rattle.lite_base.specs.Laws.Answers.{all_append, waiting_waiting}
+use Rattle.lite_base.specs.Laws.Future.Spent.{finishes_later}
 use Rattle.lite_base.specs.Laws.FutureLaws.{future_runs_of}
 use Rattle.lite_stream.specs.Laws.Calming.{Calming}
 use Rattle.std.proofs.lemmas.List.{append-nil}

@@ -1,6 +1,6 @@
 -- Laws of the test writer `Takes`: what it has taken does not depend on when it was pending.
 use Rattle.std.proofs.Common.{◌≡◌, List, [], ◌∷◌, ◌++◌, inl, inr, append-nil, append_assoc}
-use Rattle.lite_io_base.specs.SteadyWrite.{CalmWriteLaws, SteadyWriteLaws}
+use Rattle.lite_io_base.specs.Steady.{CalmWriteLaws, SteadyWriteLaws}
 use Rattle.lite_io_base.specs.WriteMarks.{WriteMark, bytes_taken}
 use Rattle.lite_mock.specs.Takes.{AllObey, Orders}
 use Rattle.lite_mock.specs.SteadyTakes.{BothOrders, NoPendingOrder}

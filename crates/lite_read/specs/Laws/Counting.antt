@@ -1,9 +1,10 @@
 -- How a stream over a reader lowers a rank, as `split` and `lines` do.
 use Rattle.std.specs.Prelude.{◌≡◌, ◌<◌, ◌+◌, ℕ, List, [], ◌∷◌, ◌++◌, length, Option, Some, None, Result, Ok}
-use Rattle.lite_read.specs.Uses.{◌∙◌, zero, suc, ap, sym, arith, length-append, FoldsTo, Error, Ready, Pending, Answer, items, Below, Lowers, Ranks}
-use Rattle.lite_read.specs.Uses.{Runs, ReadCounting, Falls, ReadMark, bytes, given_count, MarkLaws}
-use Rattle.lite_base.specs.OkRanks.{OkCounting, all_ok}
-use Rattle.lite_io_base.specs.Laws.Falls.{falls_held}
+use Rattle.lite_read.specs.Uses.{◌∙◌, zero, suc, ap, sym, arith, length-append, FoldsTo, Error, Ready, Pending, Answer}
+use Rattle.lite_read.specs.Uses.{items, Below, Lowers, Ranks, Runs, ReadCounting, Falls, ReadMark, bytes, given_count}
+use Rattle.lite_read.specs.Uses.{MarkLaws}
+use Rattle.lite_base.specs.Ranks.{OkCounting, all_ok}
+use Rattle.lite_io_base.specs.Laws.Counting.{falls_held}
 use Rattle.lite_io_base.specs.Laws.Marks.{given_count-append, given_count-bytes}
 use Rattle.lite_read.specs.Pieces.{Cut, CutsPiece, Itemised, pieces}
 use Rattle.lite_read.specs.Laws.Segments.{flow_keeps}

@@ -8,10 +8,9 @@ use Rattle.lite_read.specs.Deterministic.{IsDeterministic, SameByKind}
 use Rattle.lite_read.specs.Laws.ReadUntil.{until_runs}
 use Rattle.lite_read.specs.Laws.DeterministicPieces.{BecomesOne, MakesOne, pieces_deterministic}
 use Rattle.lite_read.specs.Pieces.{Cut}
-use Rattle.lite_read.specs.UntilVector.{read_of}
-use Rattle.lite_read.specs.ReadUntil.{CountsPiece, ReadsUntil, ReadsUntilByRoom, until}
+use Rattle.lite_read.specs.ReadUntil.{read_of, CountsPiece, ReadsUntil, ReadsUntilByRoom, until}
 use Rattle.lite_read.specs.Split.{IsVec}
-use Rattle.lite_read.specs.LineText.{IsText, without_return}
+use Rattle.lite_read.specs.Texts.{IsText, without_return}
 use Rattle.lite_read.specs.declared.read_until.ReadUntilFuture.{ReadUntilFuture}
 
 -- Two vectors have equal bytes.

@@ -1,10 +1,17 @@
 -- Laws of futures each poll of which is one call.
-use Rattle.std.specs.Prelude.{◌≤◌, List, [], ◌∷◌, ◌++◌, length}
-use Rattle.lite_read.specs.Uses.{refl, arith, Poll, Ready, Pending, Waiting, strip, CalmLaws, NoPending, FutureLaws, FutureRunLaws, future_laws_of}
-use Rattle.lite_read.specs.Uses.{Runs}
+use Rattle.std.specs.Prelude.{◌≤◌, List, [], ◌∷◌, ◌++◌, length, ℕ, Result, IfSome, Option, Ok, Err}
+use Rattle.lite_read.specs.Uses.{refl, arith, Poll, Ready, Pending, Waiting, strip, CalmLaws, NoPending, FutureLaws}
+use Rattle.lite_read.specs.Uses.{FutureRunLaws, future_laws_of, Runs, subst, sym, Bor, MutBor, Error, ReadMark}
+use Rattle.lite_read.specs.Uses.{fill_marks, CalmReadLaws}
 use Rattle.lite_base.specs.Calm.{CalmRuns}
 use Rattle.lite_base.specs.FutureLaws.{WaitsOn}
 use Rattle.lite_read.specs.Polled.{PolledByCalls}
+use Rattle.lite_read.specs.FillBuf.{FillsOnce, held_after}
+use Rattle.lite_read.specs.Read.{Reads}
+use Rattle.lite_read.specs.ReadVectored.{ReadsVectored}
+use Rattle.lite_read.specs.declared.fill_buf.FillBuf.{FillBuf}
+use Rattle.lite_read.specs.declared.read.ReadFuture.{ReadFuture}
+use Rattle.lite_read.specs.declared.read_vectored.ReadVectoredFuture.{ReadVectoredFuture}
 
 module _ {F A : Type 0} (call : F → Poll A → F → Type 0) where
   polled_follows : (x y z : F) (l m : List (Poll A)) → Waiting l → PolledByCalls call x l y → PolledByCalls call y m z
@@ -62,3 +69,37 @@ module _ {F A : Type 0} (call : F → Poll A → F → Type 0) where
   calls_calm part came waits c =
       polled_calm (λ x y k h. let w = came x y Pending h in waits x y h (c.no_pending _ _ w.0 k w.1))
       (λ x y r k h. let w = came x y _ h in c.calm_on _ _ w.0 k w.1)
+
+-- The futures of one read or one fill, `read`, `read_vectored` and `fill_buf`, are never pending over a calm reader.
+
+-- The reader that a `fill_buf` future holds, if it holds one, is calm.
+abbrev HeldCalm : {R : Type 0} → (R → Type 0) → Option (MutBor R) → Type 0
+HeldCalm is_calm held = IfSome held (λ r. is_calm r.now)
+
+held_calm : {R : Type 0} (is_calm : R → Type 0) (r : Result (Bor (List ℕ)) Error) (m : MutBor R) → is_calm m.now
+    → HeldCalm is_calm (held_after (Ready r) m)
+held_calm is_calm (Ok s) m k = tt
+held_calm is_calm (Err e) m k = k
+
+module _ {R : Type 0} {reads : Runs ReadMark R} {is_calm : R → Type 0}
+    (c : CalmReadLaws reads is_calm) where
+  pub read_calm : CalmLaws (PolledByCalls (Reads reads)) (λ (x : ReadFuture R). is_calm x.reader.now)
+  read_calm = calls_calm (Reads reads) (λ x. x.reader.now) (λ x y r h. (_, h.came)) (λ x y h n. n) c
+
+  pub vectored_calm :
+      CalmLaws (PolledByCalls (ReadsVectored reads)) (λ (x : ReadVectoredFuture R). is_calm x.reader.now)
+  vectored_calm =
+      calls_calm (ReadsVectored reads) (λ x. x.reader.now) (λ x y r h. (_, h.came.2)) (λ x y h n. n) c
+
+  pub fill_calm : {buffer_of : R → List ℕ}
+      → CalmLaws (PolledByCalls (FillsOnce reads buffer_of)) (λ (x : FillBuf R). HeldCalm is_calm x.reader)
+  fill_calm {buffer_of} =
+      polled_calm (FillsOnce reads buffer_of)
+      (λ x y k h.
+      c.no_pending h.reader.now h.filled (fill_marks {A = Bor (List ℕ)} Pending (buffer_of h.filled))
+      (rw h.held at k) h.came)
+      (λ x y r k h.
+      let calm =
+      c.calm_on h.reader.now h.filled (fill_marks (Ready r) (buffer_of h.filled))
+      (subst (HeldCalm is_calm) h.held k) h.came in
+      subst (HeldCalm is_calm) (sym h.after) (held_calm is_calm r (record h.reader { now = h.filled }) calm))

@@ -1,18 +1,19 @@
 -- Laws of `read_to_end`.
-use Rattle.std.specs.Prelude.{⊤, ◌≤◌, ◌+◌, ◌-◌, ℕ, List, [], ◌∷◌, ◌++◌, length, Result}
-use Rattle.lite_read.specs.Uses.{◌∙◌, refl, ap, sym, arith, length-append, append-nil, append_assoc, length-take-le, FoldsTo, Error, Poll}
-use Rattle.lite_read.specs.Uses.{Terminates-map, FutureLaws, FutureRunLaws, Ranks, Runs, ReadCounting, GivenRun, ReadMark, MarkLaws, future_laws_of}
-use Rattle.lite_read.specs.Uses.{lent_still}
-use Rattle.lite_base.specs.Ends.{Terminates}
-use Rattle.lite_read.specs.Laws.Gathers.{KeepLaws, gathers_before, gathers_runs}
-use Rattle.lite_read.specs.Appending.{CanAppend, ToEndStays, VectorGrows}
-use Rattle.lite_read.specs.Laws.ByRoom.{RoomLaws, room_runs}
-use Rattle.lite_read.specs.Laws.Refusals.{appends_weaker, gathers_weaker}
+use Rattle.std.specs.Prelude.{⊤, ◌≤◌, ◌+◌, ◌-◌, ℕ, List, [], ◌∷◌, ◌++◌, length, Result, ◌≡◌, Ok, Err}
+use Rattle.lite_read.specs.Uses.{◌∙◌, refl, ap, sym, arith, length-append, append-nil, append_assoc, length-take-le}
+use Rattle.lite_read.specs.Uses.{FoldsTo, Error, Poll, Terminates-map, FutureLaws, FutureRunLaws, Ranks, Runs}
+use Rattle.lite_read.specs.Uses.{ReadCounting, GivenRun, ReadMark, MarkLaws, future_laws_of, lent_still, Sameness}
+use Rattle.lite_read.specs.Uses.{FutureSteadyLawsBy, SteadyReadLaws}
+use Rattle.lite_base.specs.Ranks.{Terminates}
+use Rattle.lite_read.specs.Laws.Gathers.{KeepLaws, gathers_before, gathers_runs, gathers_alike}
+use Rattle.lite_read.specs.ReadToEnd.{CanAppend, ToEndStays, VectorGrows, ReadsToEnd, ReadsToEndByRoom, ToEndLacksRoom, appends, Appended}
+use Rattle.lite_read.specs.Laws.Refusals.{RoomLaws, room_runs, appends_weaker, gathers_weaker}
 use Rattle.lite_read.specs.ReadFold.{ReadFold}
 use Rattle.lite_read.specs.Laws.PollSteps.{takes_given}
-use Rattle.lite_read.specs.ReadToEnd.{ReadsToEnd, ReadsToEndByRoom, ToEndLacksRoom, appends}
 use Rattle.lite_read.specs.PollSteps.{AnswersUntrimmed, ReadsSome}
 use Rattle.lite_read.specs.declared.read_to_end.ReadToEndFuture.{ReadToEndFuture}
+use Rattle.lite_read.specs.Laws.Deterministic.{GivenBy, TakenAt, deterministic_by}
+use Rattle.lite_read.specs.Deterministic.{IsDeterministic, SameByKind}
 
 -- The fold of `read_to_end` can append any bytes.
 pub appends_all : (m : Type 0) (start : ℕ) (g xs : List ℕ) → FoldsTo (appends m start).takes g xs (g ++ xs)
@@ -121,3 +122,46 @@ module _ {R A : Type 0} where
     to_end_any x y l h =
         gathers_weaker (λ v. appends_weaker v.start (λ g. ToEndLacksRoom (length x.buf.now.items) (length y.buf.now.items) x) (λ g. ⊤)
         (λ g full. tt)) x y l h.gathered
+
+-- `read_to_end` is steady over a steady reader if no allocation fails, and calm over a calm one.
+
+given_by : (start : ℕ) (g : List ℕ) (l : List ReadMark) (v : Result ℕ Error) → Appended ⊥ start g l v
+    → GivenBy ⊥ (TakenAt (appends ⊥ start) g) l
+given_by start g (ReadMark.end ∷ []) (Ok n) h = GivenBy.at_mark _ (λ n. n) (λ t. cc t.2) tt
+given_by start g (ReadMark.fault kind ∷ []) (Err e) h = GivenBy.at_mark _ (λ n. n) (λ t. cc t.2) tt
+given_by start g [] (Err e) h = absurd h.0
+given_by start g _ v h = absurd h
+
+one_value : (start : ℕ) (g : List ℕ) (l : List ReadMark) (v w : Result ℕ Error) → Appended ⊥ start g l v
+    → Appended ⊥ start g l w → SameByKind v w
+one_value start g (ReadMark.end ∷ []) (Ok n) (Ok k) h j = omega (arith, h, j)
+one_value start g (ReadMark.fault kind ∷ []) (Err e) (Err f) h k = h ∙ sym k
+one_value start g [] (Err e) w h k = absurd h.0
+one_value start g (ReadMark.end ∷ []) (Ok n) (Err f) h k = absurd k
+one_value start g (ReadMark.fault kind ∷ []) (Err e) (Ok n) h k = absurd k
+one_value start g _ v w h k = absurd h
+
+pub appends_deterministic : (start : ℕ) → IsDeterministic SameByKind (appends ⊥ start)
+appends_deterministic start =
+    deterministic_by _ (λ g. ⊥) (λ p q r b h k. h ∙ sym k) (λ p r b h n. n) (λ p q l v h. given_by start p l v h.0)
+    (λ p q r l v w h k. (one_value start p l v w h.0 k.0, h.1 ∙ sym k.1))
+
+module _ {R A : Type 0} where
+  -- All bytes in the vector of a `read_to_end` future.
+  abbrev bytes_held : ReadToEndFuture R A → List ℕ
+  bytes_held x = x.buf.now.items
+
+  -- Two `read_to_end` futures have equal bytes in their vectors and one `start`, over readers that are alike.
+  abbrev pub ToEndAlike : (R → R → Type 0) → ReadToEndFuture R A → ReadToEndFuture R A → Type 0
+  ToEndAlike alike x y = alike x.reader.now y.reader.now × (bytes_held x ≡ bytes_held y) × (x.start ≡ y.start)
+
+  module _ {reads : Runs ReadMark R} where
+    module _ {ample : Runs ReadMark R} {needs_none : Type 0} {alike : R → R → Type 0}
+        (s : SteadyReadLaws reads ample needs_none alike) where
+      pub to_end_steady : FutureSteadyLawsBy (Sameness.by SameByKind) (ReadsToEndByRoom reads) (ReadsToEnd ⊥ ample) ⊥
+          (ToEndAlike alike)
+      to_end_steady = record {
+        laws = append_runs ⊥ s.laws;
+        steady = λ x y e. gathers_alike (λ x. appends_deterministic x.start) s x y e.0 e.1 (ap (appends ⊥) (sym e.2));
+        found = λ n. absurd n;
+      }

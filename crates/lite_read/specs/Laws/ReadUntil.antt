@@ -1,12 +1,11 @@
 -- Laws of `read_until`.
 use Rattle.std.specs.Prelude.{⊤, ◌≤◌, List, [], ◌∷◌, length, Result, ℕ, vec_capacity}
-use Rattle.lite_read.specs.Uses.{◌∙◌, refl, ap, arith, Error, Poll, FutureLaws, FutureRunLaws, Ranks, ReadCounting, Runs, ReadMark, MarkLaws, future_laws_of, lent_still}
+use Rattle.lite_read.specs.Uses.{◌∙◌, refl, ap, arith, Error, Poll, FutureLaws, FutureRunLaws, Ranks, ReadCounting}
+use Rattle.lite_read.specs.Uses.{Runs, ReadMark, MarkLaws, future_laws_of, lent_still}
 use Rattle.lite_read.specs.Laws.Gathers.{KeepLaws, gathers_before, gathers_runs}
-use Rattle.lite_read.specs.UntilVector.{UntilStays}
-use Rattle.lite_read.specs.Laws.ByRoom.{RoomLaws, room_runs}
-use Rattle.lite_read.specs.Laws.Refusals.{gathers_weaker, pieces_weaker}
-use Rattle.lite_read.specs.ReadUntil.{CountsPiece, ReadsUntil, ReadsUntilByRoom, UntilLacksRoom, until}
-use Rattle.lite_read.specs.PieceSteps.{AppendsMore}
+use Rattle.lite_read.specs.ReadUntil.{UntilStays, CountsPiece, ReadsUntil, ReadsUntilByRoom, UntilLacksRoom, until}
+use Rattle.lite_read.specs.Laws.Refusals.{RoomLaws, room_runs, gathers_weaker, pieces_weaker}
+use Rattle.lite_read.specs.PollSteps.{AppendsMore}
 use Rattle.lite_read.specs.declared.read_until.ReadUntilFuture.{ReadUntilFuture}
 
 module _ {R : Type 0} where

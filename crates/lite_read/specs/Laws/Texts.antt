@@ -1,17 +1,20 @@
 -- Laws of futures that read into a text.
 use Rattle.std.specs.Prelude.{◌≡◌, ◌+◌, ◌-◌, ℕ, List, [], ◌∷◌, Result, ⊤, string_bytes}
-use Rattle.lite_read.specs.Uses.{refl, ap, arith, FoldsTo, Error, Poll, FutureLaws, FutureRunLaws, Ranks, ReadCounting, Runs, ReadMark, MarkLaws, future_laws_of, lent_still}
+use Rattle.lite_read.specs.Uses.{refl, ap, arith, FoldsTo, Error, Poll, FutureLaws, FutureRunLaws, Ranks, ReadCounting}
+use Rattle.lite_read.specs.Uses.{Runs, ReadMark, MarkLaws, future_laws_of, lent_still, Sameness, FutureSteadyLawsBy}
+use Rattle.lite_read.specs.Uses.{SteadyReadLaws}
 use Rattle.lite_read.specs.ReadFold.{ReadFold}
-use Rattle.lite_read.specs.Laws.Gathers.{KeepLaws, gathers_before, gathers_runs}
+use Rattle.lite_read.specs.Laws.Gathers.{KeepLaws, gathers_before, gathers_runs, gathers_alike}
 use Rattle.lite_read.specs.Holding.{TextOver, TextStays}
-use Rattle.lite_read.specs.Laws.ByRoom.{RoomLaws, room_runs}
-use Rattle.lite_read.specs.Laws.Refusals.{Weaker, appends_weaker, gathers_weaker, pieces_weaker, text_weaker}
+use Rattle.lite_read.specs.Laws.Refusals.{RoomLaws, room_runs, Weaker, appends_weaker, gathers_weaker, pieces_weaker, text_weaker}
 use Rattle.lite_read.specs.ReadLine.{LineLacksMemory, line_over, read_line_fold}
 use Rattle.lite_read.specs.ReadToString.{StringGrows, StringLacksMemory, all_over, read_to_string_fold}
 use Rattle.lite_read.specs.ReadUntil.{CountsPiece}
 use Rattle.lite_read.specs.declared.read_to_string.ReadToStringFuture.{ReadToStringFuture}
 use Rattle.lite_read.specs.Texts.{ReadsText, ReadsTextByRoom, TextGrows, in_text, reading}
-use Rattle.lite_read.specs.TextSteps.{AnswersText, TakesTextIn}
+use Rattle.lite_read.specs.PollSteps.{AnswersText, TakesTextIn}
+use Rattle.lite_read.specs.Deterministic.{IsDeterministic, SameByKind}
+use Rattle.lite_read.specs.Laws.Deterministic.{text_deterministic}
 
 -- Bytes that the fold consumes leave the text unchanged.
 pub folds_in : (fold : ReadFold (List ℕ) (Result ℕ Error)) (text p q xs : List ℕ) → FoldsTo fold.takes p xs q
@@ -154,4 +157,23 @@ module _ {R A : Type 0} where
           room = omega (arith, h.filled, k.filled, h.room, k.room);
         };
         sooner = λ x y z h. string_sooner x y h;
+      }
+
+-- The futures that read into a text are steady over a steady reader if no allocation fails, and calm over a calm one.
+
+module _ {X R A : Type 0} (over : TextOver X R A) where
+  -- Two futures have read equal bytes, for texts with equal bytes, over readers that are alike.
+  abbrev pub TextAlike : (R → R → Type 0) → X → X → Type 0
+  TextAlike alike x y = alike (over.reader x).now (over.reader y).now × (reading over x ≡ reading over y)
+
+  module _ (fold : (List ℕ → Type 0) → ReadFold (List ℕ) (Result ℕ Error)) {reads : Runs ReadMark R} where
+    module _ {lacks : X → X → List ℕ → Type 0} (deterministic : IsDeterministic SameByKind (fold (λ read. ⊥)))
+        {ample : Runs ReadMark R} {needs_none : Type 0}
+        {alike : R → R → Type 0} (s : SteadyReadLaws reads ample needs_none alike) where
+      pub text_steady : FutureSteadyLawsBy (Sameness.by SameByKind) (ReadsTextByRoom over fold lacks reads)
+          (ReadsText over (fold (λ read. ⊥)) ample) ⊥ (TextAlike alike)
+      text_steady = record {
+        laws = text_runs over _ s.laws;
+        steady = λ x y e. gathers_alike (λ x. text_deterministic _ deterministic) s x y e.0 e.1 refl;
+        found = λ n. absurd n;
       }

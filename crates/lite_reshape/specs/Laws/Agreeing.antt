@@ -1,8 +1,10 @@
 -- Laws about adapters that leave items out: their results, `Pending`s aside, do not depend on when the source was
 -- pending.
-use Rattle.std.specs.Prelude.{◌≡◌, List, ◌∷◌, Option, Some, None, Bool, true, false}
-use Rattle.lite_reshape.specs.Uses.{refl, arith, OptionBy, SameAnswer, SameItem, Sameness, strip, Accepts, AgreeFrom, AgreeKeeping, Keeping}
-use Rattle.lite_reshape.specs.Uses.{both_items, ends_same, same_answer, MatchesFrom, agree_from_matches, Question, AgreeingOver, Entails}
+use Rattle.std.specs.Prelude.{◌≡◌, List, ◌∷◌, Option, Some, None, Bool, true, false, ⊤}
+use Rattle.lite_reshape.specs.Uses.{refl, arith, OptionBy, SameAnswer, SameItem, Sameness, strip, Accepts, AgreeFrom}
+use Rattle.lite_reshape.specs.Uses.{AgreeKeeping, Keeping, both_items, ends_same, same_answer, MatchesFrom}
+use Rattle.lite_reshape.specs.Uses.{agree_from_matches, Question, AgreeingOver, Entails, AllByRecursion, Ready, Pending}
+use Rattle.lite_reshape.specs.Uses.{Answer, ComparableBy, OfItem}
 use Rattle.lite_base.specs.Laws.Alike.{item_answers}
 use Rattle.lite_base.specs.Laws.Calling.{accepts_matches, keeping_matches}
 use Rattle.lite_stream.specs.Laws.Placed.{AlikeInPlace, Placed, placed_agreeing}
@@ -10,6 +12,7 @@ use Rattle.lite_reshape.specs.Laws.Leaving.{leaves_steps}
 use Rattle.lite_reshape.specs.Leaving.{LeavesOut}
 use Rattle.lite_reshape.specs.Skip.{Skips}
 use Rattle.lite_reshape.specs.SkipWhile.{SkipsUntil}
+use Rattle.lite_reshape.specs.Cloned.{Refers}
 
 -- A kept item is one result, and a rejected one is none.
 abbrev KeptInPlace : {B : Type 0} → Option B → (List (Option B) → Type 0) → List (Option B) → Type 0
@@ -85,3 +88,20 @@ module _ {F A : Type 0} (test : Question F A Bool) (like : Sameness A) where
 
   pub leaves_until : AgreeingOver like like (LeavesOut (SkipsUntil test)) (OptionBy TestsAgree)
   leaves_until = leaves_agreeing _ like like until_matches
+
+-- Laws about values that are made of alike items.
+
+-- If each item is the same as those that it is alike to, the lists are the same.
+module _ {A : Type 0} (like same : A → A → Type 0) where
+  pub items_same : (l : List (Answer A)) (m : List (Option A))
+      → AllByRecursion (OfItem (λ x. (y : A) → like x y → same x y)) l → ComparableBy (OptionBy like) (strip l) m
+      → ComparableBy (OptionBy same) (strip l) m
+  items_same (Pending ∷ l) m each c = items_same l m each.1 c
+  items_same (Ready None ∷ l) (None ∷ m) each c = (tt, items_same l m each.1 c.1)
+  items_same (Ready (Some x) ∷ l) (Some y ∷ m) each c = (each.0 x refl y c.0, items_same l m each.1 c.1)
+  items_same (Ready _ ∷ l) (_ ∷ m) each c = absurd c.0
+  items_same _ _ each c = tt
+
+-- The case in which the value that is made of an item is the item.
+pub refers_match : {R : Type 0} (like : R → R → Type 0) → MatchesFrom like like Refers (λ (p q : Unit {0}). ⊤)
+refers_match like f k g l x w y z a e c d = (rw (c, d) e, tt)

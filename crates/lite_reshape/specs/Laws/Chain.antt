@@ -1,15 +1,16 @@
 -- Laws about two streams that are chained.
 use Rattle.std.specs.Prelude.{◌≡◌, ℕ, ◌+◌, List, [], ◌∷◌, ◌++◌, length, Some, None}
-use Rattle.lite_reshape.specs.Uses.{length-replicate, ◌∙◌, inl, inr, refl, ap, sym, subst, arith, length-append, append_assoc, append-nil, Ready}
-use Rattle.lite_reshape.specs.Uses.{Pending, Answer, Endless, items, AtMost-both, Below-after, Below-first, Lowers-at_most, endless_join, same_hint}
-use Rattle.lite_reshape.specs.Uses.{AtMost, Below, Lowers, Counting, Ranks, RunLaws, StreamLaws, runs_of, Hints, NoHint, Runs, Cuts, at_most_below}
-use Rattle.lite_reshape.specs.Uses.{lowers_after}
-use Rattle.lite_base.specs.Laws.Falling.{AtMost-length}
+use Rattle.lite_reshape.specs.Uses.{length-replicate, ◌∙◌, inl, inr, refl, ap, sym, subst, arith, length-append}
+use Rattle.lite_reshape.specs.Uses.{append_assoc, append-nil, Ready, Pending, Answer, Endless, items, AtMost-both}
+use Rattle.lite_base.specs.Ranks.{AtMost}
+use Rattle.lite_reshape.specs.Uses.{Below-after, Below-first, Lowers-at_most, endless_join, same_hint, Below}
+use Rattle.lite_reshape.specs.Uses.{Lowers, Counting, Ranks, RunLaws, StreamLaws, runs_of, Hints, NoHint, Runs, Cuts}
+use Rattle.lite_reshape.specs.Uses.{AtMost-then_below, Lowers-after, not_empty, own_lowers, zeros_least}
+use Rattle.lite_base.specs.Laws.Ranks.{AtMost-length}
 use Rattle.lite_base.specs.Laws.StreamLaws.{laws_of}
 use Rattle.lite_stream.specs.Laws.Cutting.{cuts_relating, cuts_steps}
 use Rattle.lite_reshape.specs.Chain.{Chains, CrossesOver, Joins, is_done, second_after, chain_rank, chain_ranks, second_rank, zeros}
-use Rattle.lite_reshape.specs.Laws.Before.{items_after, not_empty, own_lowers}
-use Rattle.lite_reshape.specs.Laws.Zeros.{zeros_least}
+use Rattle.lite_base.specs.Laws.Answers.{items_after}
 use Rattle.lite_reshape.specs.declared.chain.Part.TheVariants.{First, Second, Done}
 use Rattle.lite_reshape.specs.declared.chain.Part.{Part}
 
@@ -21,7 +22,7 @@ module _ (xs ys : List ℕ) where
   zeros_same e = cc
 
   zeros_below : Below xs ys → Below (zeros xs) ys
-  zeros_below = at_most_below _ xs ys (zeros_least _ xs refl)
+  zeros_below = AtMost-then_below _ xs ys (zeros_least _ xs refl)
 
 second_below : (g : Part) (xs ys : List ℕ) → Below xs ys → Below (second_rank g xs) ys
 second_below Done xs ys h = zeros_below xs ys h
@@ -137,7 +138,7 @@ module _ {A : Type 0} where
   joins_lowers First g i j l xs us ys vs (inr r) h k =
       let second = second_lowers g j (r.next ∷ r.later) ys vs r.followed k in
       let after =
-      lowers_after (r.next ∷ r.later) (zeros xs) us (second_rank g ys) vs
+      Lowers-after (r.next ∷ r.later) (zeros xs) us (second_rank g ys) vs
       (zeros_least (length xs) us (sym (AtMost-length xs us (Lowers-at_most i xs us h)))) second in
       let ended = ended_rank g xs ys (not_first Second g j (r.next ∷ r.later) r.followed (λ d. cc d)) in
       rw r.joined
@@ -146,7 +147,7 @@ module _ {A : Type 0} where
       (λ b. chain_below g xs us ys vs b (AtMost-length ys vs (Lowers-at_most j ys vs k))))
   joins_lowers Second g i j l xs us ys vs r h k =
       rw (ended_rank g xs ys (not_first Second g j l r.1 (λ d. cc d)))
-      (lowers_after l _ _ _ vs
+      (Lowers-after l _ _ _ vs
       (inl (zeros_same xs us (AtMost-length xs us (Lowers-at_most i xs us h)))) (second_lowers g j l ys vs r.1 k))
   joins_lowers Done g i j l xs us ys vs r h k =
       let same = AtMost-length xs us (Lowers-at_most i xs us h) in

@@ -1,21 +1,21 @@
 -- Laws about references that are replaced by clones.
 use Rattle.std.specs.Prelude.{⊤, Result, Ok, ◌≡◌, List, [], ◌∷◌, ◌++◌, Option, Some, None}
-use Rattle.lite_reshape.specs.Uses.{AllByRecursion, ◌∙◌, refl, ap, sym, append_assoc, Ready, Pending, Bor, OptionBy, SameAnswer, Sameness, Answer}
-use Rattle.lite_reshape.specs.Uses.{Gives, Waiting, item, items, NoPending, all_any, all_split, no_pending_join, ok_counting, Counting, Ranks}
-use Rattle.lite_reshape.specs.Uses.{SteadinessBy, SteadyLawsBy, TakesNone, StreamLaws, Hints, NoHint, Runs, through_alike, Calming, laws_following}
-use Rattle.lite_reshape.specs.Uses.{through_on, through_runs}
-use Rattle.lite_base.specs.Laws.All.{all_append}
-use Rattle.lite_base.specs.OkRanks.{OkCounting, all_ok}
+use Rattle.lite_reshape.specs.Uses.{AllByRecursion, ◌∙◌, refl, ap, sym, append_assoc, Ready, Pending, Bor, OptionBy}
+use Rattle.lite_reshape.specs.Uses.{SameAnswer, Sameness, Answer, Gives, Waiting, item, items, NoPending, all_any}
+use Rattle.lite_reshape.specs.Uses.{all_split, no_pending_join, ok_counting, Counting, Ranks, SteadinessBy}
+use Rattle.lite_reshape.specs.Uses.{SteadyLawsBy, TakesNone, StreamLaws, Hints, NoHint, Runs, through_alike, Calming}
+use Rattle.lite_reshape.specs.Uses.{laws_following, through_on, through_runs}
+use Rattle.lite_base.specs.Laws.Answers.{all_append}
+use Rattle.lite_base.specs.Ranks.{OkCounting, all_ok}
 use Rattle.lite_reshape.specs.Cloned.{AlikeCloned, ClonedFrom, Clones, ClonesAll, ClonesUnrefused, EqualClones}
 use Rattle.lite_reshape.specs.Cloned.{IsCloneRefusal, NoCloneRefused, NotCloneRefused, Refers, Refuses, cloned_parts}
-use Rattle.lite_reshape.specs.Laws.Before.{not_empty}
+use Rattle.lite_reshape.specs.Uses.{not_empty}
 use Rattle.lite_reshape.specs.Laws.Calming.{expanding_calming}
 use Rattle.lite_reshape.specs.Laws.Expanding.{FollowLaws, GivingOne, held_counting, held_ranks, expanding_following}
-use Rattle.lite_reshape.specs.Laws.SteadyExpanding.{OneMade, expanding_agreeing}
-use Rattle.lite_reshape.specs.Laws.SteadyExpanding.{expanding_found_where}
+use Rattle.lite_reshape.specs.Laws.SteadyExpanding.{OneMade, expanding_agreeing, expanding_found_where}
 use Rattle.lite_reshape.specs.declared.cloned.Cloned.{Cloned}
 use Rattle.lite_reshape.specs.Expanding.{Expanding}
-use Rattle.lite_reshape.specs.Laws.Replacing.{refers_match}
+use Rattle.lite_reshape.specs.Laws.Agreeing.{refers_match}
 
 module _ {T E : Type 0} (is_clone : T → T → Type 0) (is_infallible : T → Type 0) where
   clones_join : (x y : Bor T) (next : Option (Bor T)) (l m : List (Answer (Result T E)))

@@ -1,11 +1,12 @@
 -- Laws about adapters that replace each item by a list of results.
 use Rattle.std.specs.Prelude.{◌≡◌, ℕ, ◌+◌, List, [], ◌∷◌, ◌++◌, Option, Some, None}
 use Rattle.std.proofs.Common.{◌≤◌}
-use Rattle.lite_reshape.specs.Uses.{◌∙◌, inl, inr, refl, ap, sym, arith, append_assoc, AllByRecursion, Ready, Pending, Answer, Gives, Waiting}
-use Rattle.lite_reshape.specs.Uses.{before_end, end, item, items, all_split, Lowers-at_most, Lowers-below, IsItem, items_each, Below, Lowers}
-use Rattle.lite_reshape.specs.Uses.{Counting, Ranks, count_held, StreamLaws, Hints, Question, Runs, AlsoBefore, Entails, Following, AdapterParts}
+use Rattle.lite_reshape.specs.Uses.{◌∙◌, inl, inr, refl, ap, sym, arith, append_assoc, AllByRecursion, Ready, Pending}
+use Rattle.lite_reshape.specs.Uses.{Answer, Gives, Waiting, before_end, end, item, items, all_split, Lowers-at_most}
+use Rattle.lite_reshape.specs.Uses.{Lowers-below, IsItem, items_each, Below, Lowers, Counting, Ranks, count_held}
+use Rattle.lite_reshape.specs.Uses.{StreamLaws, Hints, Question, Runs, AlsoBefore, Entails, Following, AdapterParts}
 use Rattle.lite_reshape.specs.Uses.{Adapts, Through}
-use Rattle.lite_base.specs.Laws.Falling.{waiting_lowers}
+use Rattle.lite_base.specs.Laws.Ranks.{waiting_lowers}
 use Rattle.lite_base.specs.Ranks.{held_rank}
 use Rattle.lite_stream.specs.Laws.Held.{held_falls, held_first, held_less, held_level, held_sized}
 use Rattle.lite_reshape.specs.Expanding.{Expanding, Expands}

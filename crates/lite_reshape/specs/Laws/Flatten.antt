@@ -1,17 +1,17 @@
 -- Laws about a stream of streams that is flattened.
 use Rattle.std.specs.Prelude.{IfSome, replicate, ◌≡◌, ℕ, List, [], ◌∷◌, ◌++◌, length, Option, Some, None}
-use Rattle.lite_reshape.specs.Uses.{◌∙◌, inl, inr, refl, ap, sym, arith, length-append, append_assoc, length-replicate, AllByRecursion, Ready}
-use Rattle.lite_reshape.specs.Uses.{Pending, Answer, Endless, end, item, items, NextStep, Reaches, all_split, Reaches-back, Terminates}
-use Rattle.lite_reshape.specs.Uses.{Terminates-map, ItemRun, AtMost-both, Below-after, Below-first, Lowers-at_most, Lowers-below, endless_join}
-use Rattle.lite_reshape.specs.Uses.{IsItem, OfItem, items_each, Below, Lowers, Counting, Ranks, RunLaws, StreamLaws, Hints, Runs, at_most_below}
-use Rattle.lite_reshape.specs.Uses.{lowers_after, Entails, Following, AdapterParts, Adapts, PollsOn, Through}
-use Rattle.lite_base.specs.Laws.Falling.{Below-then}
-use Rattle.lite_base.specs.Laws.Items.{each_items, each_of}
-use Rattle.lite_stream.specs.Laws.Lower.{lowers_at_most}
+use Rattle.lite_reshape.specs.Uses.{◌∙◌, inl, inr, refl, ap, sym, arith, length-append, append_assoc, length-replicate}
+use Rattle.lite_reshape.specs.Uses.{AllByRecursion, Ready, Pending, Answer, Endless, end, item, items, NextStep}
+use Rattle.lite_reshape.specs.Uses.{Reaches, all_split, Reaches-back, Terminates, Terminates-map, ItemRun, AtMost-both}
+use Rattle.lite_reshape.specs.Uses.{Below-after, Below-first, Lowers-at_most, Lowers-below, endless_join, IsItem}
+use Rattle.lite_reshape.specs.Uses.{OfItem, items_each, Below, Lowers, Counting, Ranks, RunLaws, StreamLaws, Hints}
+use Rattle.lite_reshape.specs.Uses.{Runs, AtMost-then_below, Lowers-after, Entails, Following, AdapterParts, Adapts}
+use Rattle.lite_reshape.specs.Uses.{PollsOn, Through}
+use Rattle.lite_base.specs.Laws.Ranks.{Below-then, Lowers-then_at_most}
+use Rattle.lite_base.specs.Laws.Answers.{each_items, each_of}
 use Rattle.lite_reshape.specs.Flatten.{Flat, Flattening}
 use Rattle.lite_reshape.specs.Inner.{CanStepFlat, EachInner, FlatStep, FlatSteps, GivesOne, TakesNext, flattening_ranks, inner_rank}
-use Rattle.lite_reshape.specs.Laws.Before.{not_empty, own_lowers}
-use Rattle.lite_reshape.specs.Laws.Zeros.{zeros_least}
+use Rattle.lite_reshape.specs.Uses.{not_empty, own_lowers, zeros_least}
 
 -- Induction on the outer stream's results and on the inner stream that is held. That one goes on, or it is done.
 module _ {B A : Type 0} (run : Runs (Answer A) B) (last : Option B)
@@ -214,10 +214,10 @@ module _ {B A : Type 0} (run : Runs (Answer A) B) (n : ℕ) (rank : B → List �
       own_lowers own _ rest _ _ xs _ low
       (λ _.
       let least = AtMost-both us us _ _ (inl refl) (zeros_least n _ (sized b)) in
-      lowers_at_most rest xs _ _ h least)
+      Lowers-then_at_most rest xs _ _ h least)
       (λ below.
-      let gone = at_most_below _ _ _ (zeros_least n _ (sized c)) below in
-      at_most_below xs (us ++ replicate n 0) _ (Lowers-at_most rest xs _ h)
+      let gone = AtMost-then_below _ _ _ (zeros_least n _ (sized c)) below in
+      AtMost-then_below xs (us ++ replicate n 0) _ (Lowers-at_most rest xs _ h)
       (Below-then us _ _ gone))
 
   flat_lowers : (firm : B → Type 0) (f g : Option B) (i : List (Answer B)) (l : List (Answer A)) (xs us : List ℕ)
@@ -226,7 +226,7 @@ module _ {B A : Type 0} (run : Runs (Answer A) B) (n : ℕ) (rank : B → List �
   flat_lowers firm f g i l xs us inner =
       flattening_by run g (λ f i l. IfSome f firm → Lowers i xs us → Lowers l (xs ++ Inner g) (us ++ Inner f))
       (λ e k h. rw e (AtMost-both xs us (replicate n 0) (replicate n 0) h (inl refl)))
-      (λ b c l m ran e k h. rw e (lowers_after l xs us (rank c) (rank b) h (inner b c l k ran)))
+      (λ b c l m ran e k h. rw e (Lowers-after l xs us (rank c) (rank b) h (inner b c l k ran)))
       (λ b c i own a rest m ran k d h.
       ended_lowers b c own (a ∷ rest) (xs ++ Inner g) us (inner b c _ d ran) (k tt h))
       (λ i l k d. k tt) (λ i l k d. k tt)

@@ -1,10 +1,12 @@
 -- Laws about adapters that leave some items out.
 use Rattle.std.specs.Prelude.{ℕ, List, [], ◌∷◌, Option, Some, None}
 use Rattle.std.proofs.Common.{◌≤◌}
-use Rattle.lite_reshape.specs.Uses.{refl, arith, AllByRecursion, Ready, Pending, Answer, before_end, end, item, items, waits, Lowers-below, IsItem}
-use Rattle.lite_reshape.specs.Uses.{items_each, answers_given, answers_taken, Lowers, Question, Segment, Calming, AlsoBefore, AdapterParts, Adapts}
-use Rattle.lite_reshape.specs.Uses.{AtEachItem, Counting, Entails, FoldsTo, Hints, PollsOn, Ranks, Relating, Runs, StreamLaws, each_along, items_in}
-use Rattle.lite_base.specs.Laws.Items.{first_item}
+use Rattle.lite_reshape.specs.Uses.{refl, arith, AllByRecursion, Ready, Pending, Answer, before_end, end, item, items}
+use Rattle.lite_reshape.specs.Uses.{waits, Lowers-below, IsItem, items_each, answers_given, answers_taken, Lowers}
+use Rattle.lite_reshape.specs.Uses.{Question, Segment, Calming, AlsoBefore, AdapterParts, Adapts, AtEachItem, Counting}
+use Rattle.lite_reshape.specs.Uses.{Entails, FoldsTo, Hints, PollsOn, Ranks, Relating, Runs, StreamLaws, each_along}
+use Rattle.lite_reshape.specs.Uses.{items_in}
+use Rattle.lite_base.specs.Laws.Answers.{first_item}
 use Rattle.lite_base.specs.Laws.Segments.{answers_by, segments_join}
 use Rattle.lite_reshape.specs.Leaving.{LeavesOut, Passes}
 

@@ -1,12 +1,13 @@
 -- The steadiness of streams that are flattened.
 use Rattle.std.specs.Prelude.{⊤, ◌≡◌, ◌⊎◌, List, [], ◌∷◌, ◌++◌, Option, Some, None}
-use Rattle.lite_reshape.specs.Uses.{inl, inr, refl, Ready, AlikeBy, OptionBy, SameAnswer, SameItem, Sameness, Answer, ComparableBy, Endless, end, strip}
-use Rattle.lite_reshape.specs.Uses.{SteadinessBy, SteadyLawsBy, TakesNone, PlacedFrom, placed_from_same, strip_join, both_items, comparable_as, comparable_nil}
+use Rattle.lite_reshape.specs.Uses.{inl, inr, refl, Ready, AlikeBy, OptionBy, SameAnswer, SameItem, Sameness, Answer}
+use Rattle.lite_reshape.specs.Uses.{ComparableBy, Endless, end, strip, SteadinessBy, SteadyLawsBy, TakesNone}
+use Rattle.lite_reshape.specs.Uses.{PlacedFrom, placed_from_same, strip_join, both_items, comparable_as, comparable_nil}
 use Rattle.lite_reshape.specs.Uses.{answer_items, RunLaws, Runs, Entails, through_runs, AdapterParts, Adapts}
 use Rattle.lite_reshape.specs.Cloned.{Refers}
 use Rattle.lite_reshape.specs.Flatten.{Flattening}
 use Rattle.lite_reshape.specs.Inner.{EachInner}
-use Rattle.lite_reshape.specs.Laws.Replacing.{items_same, refers_match}
+use Rattle.lite_reshape.specs.Laws.Agreeing.{items_same, refers_match}
 use Rattle.lite_reshape.specs.Laws.Flatten.{flattening, flattening_by, have_come}
 
 module _ {A : Type 0} where

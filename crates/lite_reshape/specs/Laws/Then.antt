@@ -1,13 +1,13 @@
 -- Laws about `then`, whose items are replaced by the results of futures.
 use Rattle.std.specs.Prelude.{IfSome, cond, nat_lt, ◌≡◌, ℕ, ◌+◌, ◌-◌, ◌^◌, List, [], ◌∷◌, ◌++◌, Option, Some, None, Bool, true, false}
 use Rattle.std.proofs.Common.{◌≤◌, map}
-use Rattle.lite_reshape.specs.Uses.{Mut, refl, arith, Poll, Ready, Pending, count_held, OptionBy, SameItem, Sameness, Answer, Gives, item, CalmLaws}
-use Rattle.lite_reshape.specs.Uses.{NoPending, handed, no_pending_join, same_hint, SteadyLawsBy, makes_on, AgreeFrom, Calls, agree_from_matches}
-use Rattle.lite_reshape.specs.Uses.{Hints, Question, FoldsTo, PollsOn, Runs, StreamLaws, ap, each_along, items_in, subst}
+use Rattle.lite_reshape.specs.Uses.{Mut, refl, arith, Poll, Ready, Pending, count_held, OptionBy, SameItem, Sameness}
+use Rattle.lite_reshape.specs.Uses.{Answer, Gives, item, CalmLaws, NoPending, handed, no_pending_join, same_hint}
+use Rattle.lite_reshape.specs.Uses.{SteadyLawsBy, makes_on, AgreeFrom, Calls, agree_from_matches, Hints, Question}
+use Rattle.lite_reshape.specs.Uses.{FoldsTo, PollsOn, Runs, StreamLaws, ap, each_along, items_in, subst}
 use Rattle.lite_base.specs.FutureLaws.{FutureLaws, FutureRunLaws}
 use Rattle.lite_base.specs.Laws.Alike.{alike_agrees}
-use Rattle.lite_base.specs.Laws.Future.Handed.{handed_no_pending, handed_waiting}
-use Rattle.lite_base.specs.Laws.Future.Spent.{shown_gives, spends_follow, spends_found, spends_rest, spends_stay}
+use Rattle.lite_base.specs.Laws.Future.Spent.{handed_no_pending, handed_waiting, shown_gives, spends_follow, spends_found, spends_rest, spends_stay}
 use Rattle.lite_base.specs.Laws.FutureLaws.{future_runs_of}
 use Rattle.lite_base.specs.Steady.{FutureSteadyLawsBy}
 use Rattle.lite_stream.specs.Laws.Agreeing.{through_steady_by}

@@ -1,8 +1,9 @@
 -- Laws about sources that never change.
 use Rattle.std.specs.Prelude.{⊤, ◌≡◌, ◌≤◌, List, [], ◌∷◌, ◌++◌, Option, Some, IfSome}
-use Rattle.lite_source.specs.Uses.{◌∙◌, ℕ, refl, inl, arith, AllByRecursion, Ready, Pending, Answer, ComparableBy, before_end, item, strip, NoPending}
-use Rattle.lite_source.specs.Uses.{all_append, same_hint, Lowers, Counting, StreamLaws}
-use Rattle.lite_base.specs.Rank.{AtMost}
+use Rattle.lite_source.specs.Uses.{◌∙◌, ℕ, refl, inl, arith, AllByRecursion, Ready, Pending, Answer, ComparableBy}
+use Rattle.lite_source.specs.Uses.{before_end, item, strip, NoPending, all_append, same_hint, Lowers, Counting}
+use Rattle.lite_source.specs.Uses.{StreamLaws}
+use Rattle.lite_base.specs.Ranks.{AtMost}
 use Rattle.lite_source.specs.Always.{Unchanging, no_ranks}
 
 module _ {A : Type 0} (may : Answer A → Type 0) where

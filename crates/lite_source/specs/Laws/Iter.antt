@@ -1,10 +1,11 @@
 -- Laws about `iter`.
 use Rattle.std.specs.Prelude.{IfSome, ◌≤◌, List, [], ◌∷◌, ◌++◌, Option, Some, None}
-use Rattle.lite_source.specs.Uses.{sym, ℕ, refl, ap, arith, inl, Count, IsFinite, MakesProgress, UpTo, size, Ready, Pending, Answer, before_end}
-use Rattle.lite_source.specs.Uses.{Below-one, Lowers-at_most, folds_follow, Lowers, Counting, StreamLaws}
+use Rattle.lite_source.specs.Uses.{sym, ℕ, refl, ap, arith, inl, Count, IsFinite, MakesProgress, UpTo, size, Ready}
+use Rattle.lite_source.specs.Uses.{Pending, Answer, before_end, Below-one, Lowers-at_most, folds_follow, Lowers}
+use Rattle.lite_source.specs.Uses.{Counting, StreamLaws}
 use Rattle.lite_base.specs.Answers.{items}
-use Rattle.lite_base.specs.Laws.Falling.{at_most_one}
-use Rattle.lite_base.specs.Rank.{Below}
+use Rattle.lite_base.specs.Laws.Ranks.{at_most_one}
+use Rattle.lite_base.specs.Ranks.{Below}
 use Rattle.lite_source.specs.Iter.{AlwaysNext, IterHints, Iterates, NeverRaised, Nexts, iter_ranks}
 use Rattle.lite_source.specs.declared.iter.Iter.{Iter}
 

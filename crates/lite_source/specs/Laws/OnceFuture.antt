@@ -1,14 +1,14 @@
 -- Laws about `once_future`.
 use Rattle.std.specs.Prelude.{IfSome, ◌≡◌, List, [], ◌∷◌, map, Option, Some, None}
-use Rattle.lite_source.specs.Uses.{◌∙◌, refl, ap, arith, inl, AllByRecursion, option_len, Poll, OptionBy, SameAnswer, SameItem, Sameness, Answer}
-use Rattle.lite_source.specs.Uses.{ComparableBy, end, strip, CalmLaws, NoPending, Lowers-below, Spends, FutureLaws, FutureRunLaws, RunLaws}
-use Rattle.lite_source.specs.Uses.{alike_agrees, all_append, calm_both, no_pending_join, handed_gives, handed_no_pending, handed_waits, same_hint}
-use Rattle.lite_source.specs.Uses.{Lowers, Counting, number_counting, FutureSteadyLawsBy, SteadinessBy, SteadyLawsBy, StreamLaws, laws_of, handed}
-use Rattle.lite_source.specs.Uses.{NoHint, Runs}
+use Rattle.lite_source.specs.Uses.{◌∙◌, refl, ap, arith, inl, AllByRecursion, option_len, Poll, OptionBy, SameAnswer}
+use Rattle.lite_source.specs.Uses.{SameItem, Sameness, Answer, ComparableBy, end, strip, CalmLaws, NoPending}
+use Rattle.lite_source.specs.Uses.{Lowers-below, Spends, FutureLaws, FutureRunLaws, RunLaws, alike_agrees, all_append}
+use Rattle.lite_source.specs.Uses.{calm_both, no_pending_join, handed_gives, handed_no_pending, handed_waits, same_hint}
+use Rattle.lite_source.specs.Uses.{Lowers, Counting, number_counting, FutureSteadyLawsBy, SteadinessBy, SteadyLawsBy}
+use Rattle.lite_source.specs.Uses.{StreamLaws, laws_of, handed, NoHint, Runs}
 use Rattle.lite_base.specs.Laws.Alike.{comparable_nil, ends_same, same_answer}
-use Rattle.lite_base.specs.Laws.Falling.{waiting_lowers}
-use Rattle.lite_base.specs.Laws.Future.Handed.{handed_waiting}
-use Rattle.lite_base.specs.Laws.Future.Spent.{spends_follow, spends_found, spends_on, spends_rest, spends_stay}
+use Rattle.lite_base.specs.Laws.Ranks.{waiting_lowers}
+use Rattle.lite_base.specs.Laws.Future.Spent.{handed_waiting, spends_follow, spends_found, spends_on, spends_rest, spends_stay}
 use Rattle.lite_base.specs.Laws.FutureLaws.{future_runs_of}
 use Rattle.lite_source.specs.OnceFuture.{GivesFuture, once_future_ranks}
 use Rattle.lite_source.specs.Laws.Always.{answers_no_pending, answers_same, no_items_lower}

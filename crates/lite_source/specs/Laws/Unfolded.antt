@@ -1,17 +1,18 @@
 -- The results of `unfold` and `try_unfold`, `Pending`s aside: the same for futures that are alike.
 use Rattle.std.specs.Prelude.{⊤, ◌≡◌, ◌⊎◌, List, [], ◌∷◌, ◌++◌, map, flat_map, Option, Some, None}
-use Rattle.lite_source.specs.Uses.{inl, inr, ◌∙◌, refl, ap, sym, append-nil, Mut, AllByRecursion, FoldsTo, Poll, OptionBy, SameAnswer, SameItem}
-use Rattle.lite_source.specs.Uses.{Sameness, Answer, ComparableBy, Waiting, end, strip, CalmLaws, NoPending, AgreeFrom, Calls, MakesAlways, Finishes}
-use Rattle.lite_source.specs.Uses.{handed, FutureRunLaws, alike_agrees, calm_both, no_pending_join, handed_gives, handed_no_pending, handed_waits}
-use Rattle.lite_source.specs.Uses.{FutureSteadyLawsBy, SteadinessBy, SteadyLawsBy, RunLaws, Question, Runs, makes_on}
+use Rattle.lite_source.specs.Uses.{inl, inr, ◌∙◌, refl, ap, sym, append-nil, Mut, AllByRecursion, FoldsTo, Poll}
+use Rattle.lite_source.specs.Uses.{OptionBy, SameAnswer, SameItem, Sameness, Answer, ComparableBy, Waiting, end, strip}
+use Rattle.lite_source.specs.Uses.{CalmLaws, NoPending, AgreeFrom, Calls, MakesAlways, Finishes, handed, FutureRunLaws}
+use Rattle.lite_source.specs.Uses.{alike_agrees, calm_both, no_pending_join, handed_gives, handed_no_pending}
+use Rattle.lite_source.specs.Uses.{handed_waits, FutureSteadyLawsBy, SteadinessBy, SteadyLawsBy, RunLaws, Question}
+use Rattle.lite_source.specs.Uses.{Runs, makes_on}
 use Rattle.lite_base.specs.Laws.Alike.{equal_options}
 use Rattle.lite_base.specs.Laws.Answers.{strip_join}
 use Rattle.lite_base.specs.Laws.Calling.{agree_from_matches}
-use Rattle.lite_base.specs.Laws.Future.Finishes.{finishes_found, finishes_later}
+use Rattle.lite_base.specs.Laws.Future.Spent.{finishes_found, finishes_later}
 use Rattle.lite_base.specs.Steady.{TakesNone}
 use Rattle.lite_source.specs.Laws.Always.{answers_no_pending}
-use Rattle.lite_source.specs.Unfolding.{BothHave, Holding, HoldingsBy, IfHeldFuture, IsCurrent, Leads, PartOf}
-use Rattle.lite_source.specs.Unfolding.{UnfoldAlike, UnfoldPart, Unfolds, comes}
+use Rattle.lite_source.specs.Unfolding.{BothHave, Holding, HoldingsBy, IfHeldFuture, IsCurrent, Leads, PartOf, UnfoldAlike, UnfoldPart, Unfolds, comes}
 
 module _ {F S V O B : Type 0} (call : Mut F (S × Unit {0}) V) (gives : Runs (Poll O) V) (after : O → Option S)
     (shown : O → Option B) where

@@ -1,11 +1,15 @@
 -- Laws about adapters over one source whose results, `Pending`s aside, do not depend on when the source was pending.
-use Rattle.std.specs.Prelude.{List, Option}
-use Rattle.lite_stream.specs.Uses.{SameAnswer, Sameness, Answer, ComparableBy, strip, Runs}
+use Rattle.std.specs.Prelude.{List, Option, ⊤, ◌≡◌}
+use Rattle.std.proofs.Common.{sym}
+use Rattle.lite_stream.specs.Uses.{SameAnswer, Sameness, Answer, ComparableBy, strip, Runs, ◌∙◌, Bor, Pairwise, SameItem, MatchesFrom, Question}
 use Rattle.lite_base.specs.Alike.{AlikeBy}
 use Rattle.lite_base.specs.Steady.{SteadyLawsBy}
 use Rattle.lite_stream.specs.Laws.Through.{Entails, Following, through_runs}
-use Rattle.lite_stream.specs.Through.{AdapterParts, Adapts}
-use Rattle.lite_stream.specs.Relates.{Relates}
+use Rattle.lite_stream.specs.Through.{AdapterParts, Adapts, Relates}
+use Rattle.lite_base.specs.Laws.Alike.{made_same, pairs_same}
+use Rattle.lite_stream.specs.Copied.{CopiesItem, Referred}
+use Rattle.lite_stream.specs.Enumerate.{Numbers}
+use Rattle.lite_stream.specs.Inspect.{ShowsItem}
 
 module _ {F A B : Type 0} where
   -- From states that agree, source results that correspond by `like` lead to adapter results that correspond by `same`.
@@ -59,3 +63,23 @@ module _ {M S F A B : Type 0} (p : AdapterParts M S F) {run ample : Runs (Answer
         → SteadyLawsBy same (Adapts p run relates) (Adapts p ample relates) needs_none
         (λ x y. alike (p.source x) (p.source y) × agree (p.held x) (p.held y))
     through_steady_over s t agrees = through_steady_by s t agrees (λ n. (n, λ f g i o h. h))
+
+-- Laws about calls on items that are the same, for adapters that yield no result of a closure.
+
+module _ {A : Type 0} where
+  -- Items that are the same get pairs that are the same, if they are numbered from one number on.
+  pub numbers_match : (like : Sameness A)
+      → MatchesFrom (SameItem like) (SameItem (Pairwise Sameness.equal like)) Numbers (λ n m. m ≡ n)
+  numbers_match like f k g l x w y z a e c d =
+      (rw (c.0, d.0) (pairs_same Sameness.equal like (f, x) (k, w) (sym a) e), rw (c.1, d.1, a))
+
+  -- References that are the same refer to values that are the same.
+  pub copies_match : (like : Sameness (Bor A))
+      → MatchesFrom (SameItem like) (SameItem (Referred like)) CopiesItem (λ p q. ⊤)
+  copies_match like f k g l x w y z a e c d =
+      (made_same like _ (λ r v u p q. p ∙ sym q) x w y z e c d, tt)
+
+  -- Items that are the same are yielded as the same, whatever function is called with them.
+  pub shows_match : {F : Type 0} (look : Question F A (Unit {0})) (like : A → A → Type 0)
+      → MatchesFrom like like (ShowsItem look) (λ p q. ⊤)
+  shows_match look like f k g l x w y z a e c d = (rw (c.0, d.0) e, tt)

@@ -5,8 +5,7 @@ use Rattle.lite_stream.specs.Uses.{arith, Answer, waits, Runs}
 use Rattle.lite_base.specs.Calm.{CalmLaws}
 use Rattle.lite_base.specs.Laws.Calm.{calm_both, no_pending_none, none_no_pending}
 use Rattle.lite_stream.specs.Laws.Through.{Entails}
-use Rattle.lite_stream.specs.Through.{AdapterParts, Adapts}
-use Rattle.lite_stream.specs.Relates.{Relates}
+use Rattle.lite_stream.specs.Through.{AdapterParts, Adapts, Relates}
 
 -- The adapter adds no `Pending` of its own: its results hold no more `Pending`s than the source's results.
 abbrev pub Calming : {F A B : Type 0} → Relates F A B → Type 0

@@ -1,7 +1,7 @@
 -- Laws about facts that hold of each item that a source may still yield.
 use Rattle.std.specs.Prelude.{◌≡◌, List, [], ◌∷◌, ◌++◌, Some, None}
 use Rattle.lite_stream.specs.Uses.{ap, refl, FoldsTo, Pending, Ready, Answer, end, item, Hints, Question, Runs, StreamLaws}
-use Rattle.lite_base.specs.Laws.Calls.{folds_follow}
+use Rattle.lite_base.specs.Laws.Calling.{folds_follow}
 use Rattle.std.proofs.Common.{append_assoc}
 use Rattle.lite_stream.specs.EachItem.{AtEachItem, items_in}
 

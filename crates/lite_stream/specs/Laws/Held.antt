@@ -1,11 +1,10 @@
 -- Ranks of adapters that hold a value: the source's rank, followed by one number that counts the value held.
-use Rattle.std.specs.Prelude.{◌≡◌, ℕ, ◌+◌, List, [], ◌∷◌, Option, Some, None}
-use Rattle.lite_stream.specs.Uses.{◌∙◌, inl, refl, ap, arith, AllByRecursion, Answer, items, AtMost-both, Below-after, IsItem, AtMost, Below}
-use Rattle.lite_base.specs.Laws.Falling.{Below-first}
-use Rattle.lite_base.specs.Laws.Items.{each_items}
-use Rattle.lite_base.specs.Ranks.{count_held, held_rank}
+use Rattle.std.specs.Prelude.{ℕ, List, [], ◌∷◌, Some, ◌≡◌, ◌+◌, Option, None}
+use Rattle.lite_stream.specs.Uses.{inl, Answer, ◌∙◌, refl, ap, arith, AllByRecursion, items, IsItem}
+use Rattle.lite_base.specs.Laws.Ranks.{AtMost-both, AtMost-then_below, Below-after, Below-first}
+use Rattle.lite_base.specs.Laws.Answers.{each_items}
+use Rattle.lite_base.specs.Ranks.{count_held, held_rank, AtMost, Below}
 use Rattle.std.proofs.Common.{length, length-append}
-use Rattle.lite_stream.specs.Laws.Lower.{at_most_below}
 
 module _ {V : Type 0} where
   pub held_sized : (xs : List ℕ) (held : Option V) {n : ℕ} → length xs ≡ n → length (held_rank xs held) ≡ n + 1
@@ -17,7 +16,7 @@ module _ {V : Type 0} where
 
   pub held_less : (zs us : List ℕ) (v : V) → AtMost zs (held_rank {V = V} us None) → Below zs (held_rank us (Some v))
   held_less zs us v h =
-      at_most_below zs _ _ h (held_below us us v (inl refl))
+      AtMost-then_below zs _ _ h (held_below us us v (inl refl))
 
   -- The rank is lower if the source's rank is.
   module _ (xs us : List ℕ) where

@@ -5,7 +5,7 @@ use Rattle.lite_stream.specs.Uses.{OptionBy, SameAnswer, SameItem, Sameness, Com
 use Rattle.lite_base.specs.Laws.Alike.{answer_items, comparable_as, comparable_nil}
 use Rattle.lite_stream.specs.Laws.Agreeing.{AgreeingOver}
 use Rattle.lite_stream.specs.Laws.Through.{Entails}
-use Rattle.lite_stream.specs.Relates.{Relates}
+use Rattle.lite_stream.specs.Through.{Relates}
 
 -- `InPlace v follows out`: the results `out` begin with those made of `v`, and `follows` holds of the rest.
 module _ {F A V B : Type 0} (call : Question F A V)

@@ -1,10 +1,17 @@
 -- Laws of `collect` that returns `Ok`: the stream yielded items and `Pending`s and then ended, and the collection holds
 -- the items.
 use Rattle.std.specs.Prelude.{IsSome, IfSome, ◌≡◌, List, [], ◌∷◌, ◌++◌, Some, None, Result, Ok}
-use Rattle.lite_theorems.specs.Uses.{Option, refl, ap, sym, subst, append-nil, append_assoc, Poll, Ready, Pending, Answer, Gives, end, item, Consumes, Decides}
-use Rattle.lite_theorems.specs.Uses.{Fold, fold_of, consumes_steps, collects, Refused}
-use Rattle.lite_theorems.specs.Interleaving.{items_given}
-use Rattle.lite_theorems.specs.Laws.Rows.{WithoutEnd}
+use Rattle.lite_gather.specs.Collect.{collects}
+use Rattle.lite_gather.specs.declared.collect.Collect.{Collect}
+use Rattle.lite_gather.specs.declared.refused.Refused.{Refused}
+use Rattle.lite_theorems.specs.Uses.{Option, refl, ap, sym, subst, append-nil, append_assoc, Poll, Ready, Pending}
+use Rattle.lite_theorems.specs.Uses.{Answer, Gives, end, item, Consumes, Decides, Fold, fold_of, consumes_steps}
+use Rattle.lite_theorems.specs.Uses.{AtEachOk, Runs, Folds, Consume, Or, Race}
+use Rattle.lite_theorems.specs.Interleaving.{items_given, OrHolds, RaceHolds}
+use Rattle.lite_theorems.specs.Laws.Rows.{WithoutEnd, merged_whole}
+use Rattle.lite_merge.specs.Or.{Ors}
+use Rattle.lite_merge.specs.Race.{Races, RacesOn}
+use Rattle.rand_core.specs.Stream.{Stream}
 
 -- The Option holds a collection, and that holds these items.
 abbrev pub Has : {C A : Type 0} → (C → List A → Type 0) → Option C → List A → Type 0
@@ -72,3 +79,46 @@ module _ {N C A : Type 0} (may_refuse : C → A → Type 0) (holds : C → List 
       })
       q
       (λ p o r d g. decided p q o r c d g.0) p ins out absurd k g before h
+
+-- Laws of `collect` of `or`: if it returns `Ok`, the collection holds all items of the two streams.
+
+module _ {S U C A : Type 0} (run : Runs (Answer A) S) (run' : Runs (Answer A) U)
+    (stays : (x y : S) → run x [] y → y ≡ x) (stays' : (x y : U) → run' x [] y → y ≡ x)
+    (may_refuse : C → A → Type 0) (holds : C → List A → Type 0) where
+  -- The runs of `collect` of `or`.
+  abbrev pub OrCollects : Runs (Poll (Result C (Refused C A))) (Consume (Or S U) (Collect C))
+  OrCollects = Folds (Ors run run') (fold_of (λ (f : Collect C). f.collection) (collects may_refuse holds))
+
+  pub or_collected : (x : Consume (Or S U) (Collect C)) (before : List A) → Has holds x.folder.collection before
+      → AtEachOk OrCollects x (OrHolds holds run run' before x)
+  or_collected x before is out y c h g =
+      let w =
+      collected may_refuse holds (λ (f : Collect C). f.collection) out x.folder y.folder h.ins before c is h.consumed g in
+      let came = subst (λ l. Ors run run' x.stream l y.stream) w.cut h.came in
+      let whole = merged_whole run run' stays stays' w.body w.no_end came in
+      (whole.0, whole.1, items_given w.body, whole.2, whole.3, whole.4, w.held)
+
+-- Laws of `collect` of `race`: if it returns `Ok`, the collection holds all items of the two streams, whatever the
+-- random words were.
+
+module _ {S U R C A : Type 0} (run : Runs (Answer A) S) (run' : Runs (Answer A) U) (stream : R → Stream)
+    (stays : (x y : S) → run x [] y → y ≡ x) (stays' : (x y : U) → run' x [] y → y ≡ x)
+    (may_refuse : C → A → Type 0) (holds : C → List A → Type 0) where
+  -- The runs of `collect` of `race`.
+  abbrev pub RaceCollects : Runs (Poll (Result C (Refused C A))) (Consume (Race S U R) (Collect C))
+  RaceCollects = Folds (RacesOn run run' stream) (fold_of (λ (f : Collect C). f.collection) (collects may_refuse holds))
+
+  -- If it returned a result, it drew words.
+  raced : (x y : Race S U R) (body : List (Answer A)) → RacesOn run run' stream x (body ++ end ∷ []) y
+      → Races run run' stream x (body ++ end ∷ []) y
+  raced x y [] h = h
+  raced x y (b ∷ body) h = h
+
+  pub race_collected : (x : Consume (Race S U R) (Collect C)) (before : List A) → Has holds x.folder.collection before
+      → AtEachOk RaceCollects x (RaceHolds holds run run' before x)
+  race_collected x before is out y c h g =
+      let w =
+      collected may_refuse holds (λ (f : Collect C). f.collection) out x.folder y.folder h.ins before c is h.consumed g in
+      let came = raced x.stream y.stream w.body (rw (← w.cut) h.came) in
+      let whole = merged_whole run run' stays stays' w.body w.no_end came.merges in
+      (whole.0, whole.1, items_given w.body, whole.2, whole.3, whole.4, w.held)

@@ -1,16 +1,12 @@
 -- Laws of a stream that is specified by a step.
 use Rattle.std.specs.Prelude.{⊤, ◌≤◌, ℕ, List, [], ◌∷◌, Some, None}
-use Rattle.lite_theorems.specs.Uses.{FoldsTo, ap, arith, inl, inr, refl, subst, sym, Ready, Pending, Answer, Below-one, at_most_one, folds_follow}
-use Rattle.lite_theorems.specs.Uses.{Lowers, Ranks, number_ranks, StreamLaws, NoHint}
+use Rattle.lite_theorems.specs.Uses.{FoldsTo, ap, arith, inl, inr, refl, subst, sym, Ready, Pending, Answer, Below-one}
+use Rattle.lite_theorems.specs.Uses.{at_most_one, folds_follow, Lowers, Ranks, number_ranks, StreamLaws, NoHint}
 use Rattle.lite_base.specs.Answers.{before_end, items}
-use Rattle.lite_base.specs.Laws.Falling.{Lowers-at_most}
-use Rattle.lite_base.specs.Laws.Hint.{same_hint}
-use Rattle.lite_base.specs.Laws.StreamLaws.{laws_of}
-use Rattle.lite_base.specs.Rank.{AtMost}
-use Rattle.lite_base.specs.Ranks.{Counting}
+use Rattle.lite_base.specs.Laws.Ranks.{AtMost-then_below, Lowers-at_most, Lowers-then_at_most, number_counting}
+use Rattle.lite_base.specs.Laws.StreamLaws.{same_hint, laws_of}
+use Rattle.lite_base.specs.Ranks.{AtMost, Counting}
 use Rattle.lite_base.specs.StreamLaws.{PollsOn, RunLaws}
-use Rattle.lite_base.specs.Laws.Ranks.{number_counting}
-use Rattle.lite_stream.specs.Laws.Lower.{at_most_below, lowers_at_most}
 use Rattle.lite_theorems.specs.Streams.{HintsAt, ItemsLower, RankLowers}
 
 -- `step` says what one poll may return, and which value it leaves.
@@ -63,9 +59,9 @@ module _ {S A : Type 0} {step : S → Answer A → S → Type 0} {number : S →
 
 module _ {A : Type 0} (l : List (Answer A)) (xs ys zs : List ℕ) (h : Lowers l xs ys) where
   lowers_then : (a : Answer A) → Lowers (a ∷ []) ys zs → Lowers (a ∷ l) xs zs
-  lowers_then (Ready (Some a)) k = at_most_below xs ys zs (Lowers-at_most l xs ys h) k
-  lowers_then Pending k = lowers_at_most l xs ys zs h k
-  lowers_then (Ready None) k = lowers_at_most l xs ys zs h k
+  lowers_then (Ready (Some a)) k = AtMost-then_below xs ys zs (Lowers-at_most l xs ys h) k
+  lowers_then Pending k = Lowers-then_at_most l xs ys zs h k
+  lowers_then (Ready None) k = Lowers-then_at_most l xs ys zs h k
 
 module _ {S A : Type 0} {step : S → Answer A → S → Type 0} {r : Ranks S} (low : RankLowers step r) where
   counted_from : (x y : S) (l : List (Answer A)) → r.counts x → FoldsTo step x l y → r.counts y
@@ -79,7 +75,7 @@ module _ {S A : Type 0} {step : S → Answer A → S → Type 0} {r : Ranks S} (
   items_lower : (x y : S) (l : List A) → r.counts x → FoldsTo step x (items l) y → AtMost (r.rank y) (r.rank x)
   items_lower x y [] c h = inl (ap r.rank (sym h))
   items_lower x y (a ∷ l) c h =
-      inr (at_most_below _ _ _ (items_lower h.0 y l (low.counts_on x h.0 _ c h.1) h.2) (low.falls x h.0 a c h.1))
+      inr (AtMost-then_below _ _ _ (items_lower h.0 y l (low.counts_on x h.0 _ c h.1) h.2) (low.falls x h.0 a c h.1))
 
   ranks_lower : (x y : S) (l : List (Answer A)) → r.firm x → FoldsTo step x l y → Lowers l (r.rank y) (r.rank x)
   ranks_lower x y [] c h = inl (ap r.rank (sym h))
@@ -94,6 +90,6 @@ module _ {S A : Type 0} {step : S → Answer A → S → Type 0} {r : Ranks S} (
         counts_on = counted_from;
         firm_on = firm_from;
         falls = λ x y a more c h.
-            at_most_below _ _ _ (items_lower h.0 y more (low.counts_on x h.0 _ c h.1) h.2) (low.falls x h.0 a c h.1);
+            AtMost-then_below _ _ _ (items_lower h.0 y more (low.counts_on x h.0 _ c h.1) h.2) (low.falls x h.0 a c h.1);
         lowers = ranks_lower;
       }

@@ -2,7 +2,7 @@
 use Rattle.std.specs.Prelude.{ℕ, List, [], ◌∷◌, map, refl, Bool}
 use Rattle.std.proofs.Common.{◌≤◌}
 use Rattle.lite_views.specs.Uses.{map-append, zero, suc, ◌∙◌, length, take, ap, arith, filter, filter-append}
-use Rattle.lite_views.specs.Fronts.{Front}
+use Rattle.lite_views.specs.Lists.{Front}
 
 pub front_map : {A B : Type 0} (f : A → B) (xs ys : List A) → Front xs ys → Front (map f xs) (map f ys)
 front_map f xs ys h = (map f h.0, ap (map f) h.1 ∙ map-append f xs h.0)

@@ -1,10 +1,11 @@
 -- Which items adapters yield, as plain functions of the source's items.
 use Rattle.std.specs.Prelude.{◌≡◌, ℕ, List, [], ◌∷◌, map, refl, Bool, true, false, Option, Some, None, Result, Ok, Err, IfOk}
 use Rattle.std.proofs.Common.{◌≤◌, ◌-◌}
-use Rattle.lite_views.specs.Uses.{suc, length, take, ap, inl, inr, arith, filter, Ready, Pending, Answer, end, item, items, Always, Question, Cuts}
-use Rattle.lite_views.specs.Uses.{items_in, Replaces, is_none_left, left_after, leaves_steps, LeavesOut}
+use Rattle.lite_views.specs.Uses.{suc, length, take, ap, inl, inr, arith, filter, Ready, Pending, Answer, end, item}
+use Rattle.lite_views.specs.Uses.{items, Always, Question, Cuts, items_in, Replaces, is_none_left, left_after}
+use Rattle.lite_views.specs.Uses.{leaves_steps, LeavesOut}
 use Rattle.lite_stream.specs.Laws.Pointwise.{exchanges_steps}
-use Rattle.lite_views.specs.Fronts.{Front}
+use Rattle.lite_views.specs.Lists.{Front}
 use Rattle.lite_views.specs.Laws.Fronts.{front_filter, front_map, front_take}
 
 -- `map`: as many results, with the function applied to the items.

@@ -1,7 +1,7 @@
 -- Laws of `sink`.
 use Rattle.std.specs.Prelude.{List, [], ◌∷◌, ◌++◌, ⊤}
 use Rattle.lite_write.specs.Uses.{refl, MarkLaws, CalmWriteLaws, NoPendingWrite, WriteMark}
-use Rattle.lite_io_base.specs.SteadyWrite.{SteadyWriteLaws}
+use Rattle.lite_io_base.specs.Steady.{SteadyWriteLaws}
 use Rattle.lite_write.specs.Sink.{Sinks}
 use Rattle.lite_write.specs.declared.sink.Sink.{Sink}
 

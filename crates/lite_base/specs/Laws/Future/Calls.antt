@@ -7,7 +7,7 @@ use Rattle.lite_base.specs.Calm.{CalmLaws}
 use Rattle.lite_base.specs.Future.Calls.{AlwaysObeys, CallAnswers, NeverPends, Polled, Poller}
 use Rattle.lite_base.specs.FutureLaws.{FutureLaws}
 use Rattle.lite_base.specs.Laws.Answers.{up_to_once, waiting_up_to, waiting_waiting}
-use Rattle.lite_base.specs.Laws.Calls.{folds_follow}
+use Rattle.lite_base.specs.Laws.Calling.{folds_follow}
 use Rattle.lite_base.specs.Laws.Calm.{calm_both, no_pending_back}
 use Rattle.lite_base.specs.Steady.{FutureSteadyLaws}
 use Rattle.lite_base.specs.Laws.Steady.{future_steady_always}

@@ -7,7 +7,7 @@ use Rattle.lite_base.specs.Future.Picks.{PickRow, PickRows, Picks}
 use Rattle.lite_base.specs.FutureLaws.{FutureRunLaws, WaitsOn}
 use Rattle.lite_base.specs.Laws.Answers.{waiting_up_to}
 use Rattle.lite_base.specs.Laws.Calm.{no_pending_join}
-use Rattle.lite_base.specs.Laws.Rows.{rows_by, rows_follow}
+use Rattle.lite_base.specs.Laws.Segments.{rows_by, rows_follow}
 use Rattle.lite_base.specs.Runs.{Runs}
 
 other_way : {P Q : Type 0} → P ⊎ Q → Q ⊎ P

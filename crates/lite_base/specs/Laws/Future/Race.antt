@@ -7,7 +7,7 @@ use Rattle.lite_base.specs.Future.Race.{FutureRacesOn, is_first}
 use Rattle.lite_base.specs.FutureLaws.{FutureLaws, FutureRunLaws, WaitsOn}
 use Rattle.lite_base.specs.Laws.FutureLaws.{future_laws_of, future_runs_of}
 use Rattle.lite_base.specs.Laws.Answers.{up_to_once}
-use Rattle.lite_base.specs.Laws.Calls.{folds_follow}
+use Rattle.lite_base.specs.Laws.Calling.{folds_follow}
 use Rattle.lite_base.specs.Laws.Calm.{calm_both}
 use Rattle.lite_base.specs.Laws.Future.Picks.{picks_calm, picks_follow, picks_on}
 use Rattle.lite_base.specs.declared.future.race.Race.{Race}

@@ -5,10 +5,9 @@ use Rattle.lite_base.specs.Answers.{Gives, Waiting}
 use Rattle.lite_base.specs.Calm.{CalmLaws, NoPending}
 use Rattle.lite_base.specs.Future.Side.{Came, CanAsk, IfAsked, InEachRow, IsAskedAnd, Stands}
 use Rattle.lite_base.specs.FutureLaws.{FutureRunLaws, WaitsOn}
-use Rattle.lite_base.specs.Laws.All.{all_append, all_split}
-use Rattle.lite_base.specs.Laws.Answers.{no_gives, waiting_waiting}
+use Rattle.lite_base.specs.Laws.Answers.{all_append, all_split, no_gives, waiting_waiting}
 use Rattle.lite_base.specs.Laws.Calm.{no_pending_join}
-use Rattle.lite_base.specs.Laws.Future.Finishes.{finishes_found, finishes_later}
+use Rattle.lite_base.specs.Laws.Future.Spent.{finishes_found, finishes_later}
 use Rattle.lite_base.specs.Steady.{TakesNone}
 use Rattle.lite_base.specs.declared.future.side.Side.{Side}
 use Rattle.lite_base.specs.declared.future.side.Side.TheVariants.{Asked, Gave, Taken}

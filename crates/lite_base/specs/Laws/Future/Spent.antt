@@ -1,13 +1,32 @@
 -- Laws of a future that is held until its value.
-use Rattle.std.specs.Prelude.{◌≡◌, List, [], ◌∷◌, ◌++◌, map, refl, IfSome, Option, Some, None}
-use Rattle.lite_base.specs.Uses.{append_assoc, ap, map-append, Poll}
-use Rattle.lite_base.specs.Answers.{Gives}
-use Rattle.lite_base.specs.Future.Spent.{Spends}
+use Rattle.std.specs.Prelude.{Result, Ok, Err, IfOk, List, ◌++◌, ◌≡◌, [], ◌∷◌, map, refl, IfSome, Option, Some, None}
+use Rattle.lite_base.specs.Uses.{Poll, append_assoc, ap, map-append, Ready, Pending}
+use Rattle.lite_base.specs.Answers.{Gives, Waiting, Answer, strip}
+use Rattle.lite_base.specs.Future.Spent.{Finishes, Spends, handed}
 use Rattle.lite_base.specs.FutureLaws.{FutureRunLaws, WaitsOn}
-use Rattle.lite_base.specs.Laws.Answers.{waiting_waiting}
-use Rattle.lite_base.specs.Laws.Future.Finishes.{finishes_found, finishes_later}
+use Rattle.lite_base.specs.Laws.Answers.{waiting_gives, waiting_waiting, waiting_strip}
 use Rattle.lite_base.specs.Steady.{TakesNone}
 use Rattle.lite_base.specs.Runs.{Runs}
+use Rattle.lite_base.specs.Calm.{NoPending}
+
+-- Laws of a future that was polled until its value.
+
+-- `Pending`s may come before a finished run.
+pub finishes_later : {F A : Type 0} {run : Runs (Poll A) F} → FutureRunLaws run
+    → (f g : F) (l m : List (Poll A)) (v : A) → Waiting l → run f l g → Finishes run g m v → Finishes run f (l ++ m) v
+finishes_later laws f g l m v w came h =
+    record { gives = waiting_gives l m v w h.gives; last = h.last; came = laws.follows f g h.last l m w came h.came }
+
+-- If no poll needs memory, a finished run is ample.
+pub finishes_found : {F A : Type 0} {run ample : Runs (Poll A) F} → TakesNone run ample
+    → (f : F) (l : List (Poll A)) (v : A) → Finishes run f l v → Finishes ample f l v
+finishes_found takes f l v h = record { gives = h.gives; last = h.last; came = takes f h.last l h.came }
+
+-- The future finishes if its value came after `Pending`s and no allocation failed in the wait.
+pub gave_finishes : {F A E : Type 0} (run : Runs (Poll A) F) (f g : F) (r : Result A E)
+    → IfOk r (λ v. (l : List (Poll A)) × Gives l v × run f l g) → IfOk r (λ v. (l : List (Poll A)) × Finishes run f l v)
+gave_finishes run f g (Ok v) h = (h.0, record { gives = h.1; last = g; came = h.2 })
+gave_finishes run f g (Err e) h = tt
 
 module _ {A B : Type 0} (shown : Poll A → Poll B) where
   pub shown_none : (ins : List (Poll A)) → [] ≡ map shown ins → ins ≡ []
@@ -86,3 +105,27 @@ module _ {F A B : Type 0} (run : Runs (Poll A) F) (can_poll : F → Type 0) (on 
   spends_on None y l c h = rw h.1 tt
   spends_on (Some f) (Some g) l c h = on f g h.0 h.1 c h.2
   spends_on (Some f) None l c h = tt
+
+-- Laws of what a stream yields that polls a future.
+
+module _ {A B : Type 0} (shown : A → Option B) where
+  -- While the future is pending, the stream is pending.
+  pub handed_waiting : (l : List (Poll A)) → Waiting l → Waiting (map (handed shown) l)
+  handed_waiting [] w = tt
+  handed_waiting (Pending ∷ l) w = handed_waiting l w
+  handed_waiting (Ready x ∷ l) w = absurd w
+
+  pub handed_waits : (l : List (Poll A)) → Waiting l → strip (map (handed shown) l) ≡ []
+  handed_waits l w = waiting_strip (map _ l) (handed_waiting l w)
+
+  -- After that the stream yields what is shown of the value, before later results.
+  pub handed_gives : (l : List (Poll A)) (later : List (Answer B)) (x : A) → Gives l x
+      → strip (map (handed shown) l ++ later) ≡ shown x ∷ strip later
+  handed_gives [] later x g = absurd g
+  handed_gives (Pending ∷ l) later x g = handed_gives l later x g
+  handed_gives (Ready y ∷ l) later x g = rw (g.0, g.1)
+
+  pub handed_no_pending : (l : List (Poll A)) → NoPending l → NoPending (map (handed shown) l)
+  handed_no_pending [] h = tt
+  handed_no_pending (Pending ∷ l) h = absurd h
+  handed_no_pending (Ready x ∷ l) h = handed_no_pending l h

@@ -1,7 +1,6 @@
 use Rattle.std.specs.Prelude.{[]}
 use Rattle.lite_theorems.specs.Uses.{LacksRoom}
-use Rattle.lite_theorems.specs.Laws.Collected.{has}
-use Rattle.lite_theorems.specs.Laws.Or.{or_collected}
+use Rattle.lite_theorems.specs.Laws.Collected.{has, or_collected}
 use Rattle.lite_theorems.proofs.or.collect_or.Goals as goal
 
 pub returns-clause-whole : goal.returns-clause-whole

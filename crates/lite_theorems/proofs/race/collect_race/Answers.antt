@@ -1,7 +1,6 @@
 use Rattle.std.specs.Prelude.{[]}
 use Rattle.lite_theorems.specs.Uses.{LacksRoom}
-use Rattle.lite_theorems.specs.Laws.Collected.{has}
-use Rattle.lite_theorems.specs.Laws.Race.{race_collected}
+use Rattle.lite_theorems.specs.Laws.Collected.{has, race_collected}
 use Rattle.lite_theorems.proofs.race.collect_race.Goals as goal
 
 pub returns-clause-whole : goal.returns-clause-whole

@@ -1,5 +1,5 @@
 use Rattle.std.proofs.Common.{rules, refl}
-use Rattle.lite_read.proofs.Ample.{lines_ample}
+use Rattle.lite_read.proofs.Refusals.{lines_ample}
 use Rattle.nests_agree.proofs.Appended.{appended_as}
 use Rattle.nests_agree.proofs.lines.lines_agree.Goals as goal
 

@@ -1,7 +1,7 @@
 use Rattle.std.proofs.Common.{Bor, List, ℕ}
 use Rattle.std.proofs.lemmas.Result.{IfOk-weaker}
-use Rattle.lite_write.specs.Laws.SteadyCopy.{ok_no_failure}
-use Rattle.lite_buffered.specs.Laws.Steady.Chain.{chain_steady}
+use Rattle.lite_write.specs.Laws.Copy.{ok_no_failure}
+use Rattle.lite_buffered.specs.Laws.Chain.{chain_steady}
 use Rattle.lite_io_base.specs.Laws.Steady.{slice_steady}
 use Rattle.nests_agree.proofs.writes.chained_agree.Goals as goal
 

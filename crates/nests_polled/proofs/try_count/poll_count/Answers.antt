@@ -3,7 +3,7 @@ use Rattle.futures.specs.declared.task.Poll.{Poll}
 use Rattle.lite_base.specs.Answers.{Answer, item, items}
 use Rattle.lite_base.specs.Chain.{NextStep, Reaches}
 use Rattle.lite_base.specs.Laws.Chain.{Reaches-back}
-use Rattle.lite_base.specs.OkRanks.{all_ok}
+use Rattle.lite_base.specs.Ranks.{all_ok}
 use Rattle.lite_base.specs.StreamLaws.{StreamLaws}
 use Rattle.lite_base.specs.Runs.{Hints, Runs}
 use Rattle.nests_polled.specs.TryCount.{CountsUntil, DecidesCount, TrySteps, counted}

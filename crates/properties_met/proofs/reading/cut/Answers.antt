@@ -1,4 +1,4 @@
-use Rattle.lite_read.proofs.Ample.{lines_ample}
+use Rattle.lite_read.proofs.Refusals.{lines_ample}
 use Rattle.properties_met.proofs.Unrefused.{split_ample}
 use Rattle.properties_met.proofs.reading.cut.Goals as goal
 

@@ -1,6 +1,5 @@
 use Rattle.futures_lite.specs.Uses.{LacksRoom, value_made, seen}
-use Rattle.lite_views.proofs.Collecting.{all_collected}
-use Rattle.lite_views.proofs.OkLists.{ok_seen}
+use Rattle.lite_views.proofs.Collecting.{all_collected, ok_seen}
 use Rattle.lite_views.proofs.TryCollect.{try_collect_made}
 use Rattle.futures_lite.proofs.stream.StreamExt.try_collect.Goals as goal
 

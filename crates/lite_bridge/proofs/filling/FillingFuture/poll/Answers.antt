@@ -1,5 +1,5 @@
 use Rattle.lite_bridge.specs.Uses.{refl}
-use Rattle.lite_bridge.proofs.Fills.{filled_once}
+use Rattle.lite_bridge.proofs.Reading.{filled_once}
 use Rattle.lite_bridge.proofs.filling.FillingFuture.poll.Goals as goal
 
 pub returns-clause-ran : goal.returns-clause-ran

@@ -1,9 +1,8 @@
 use Rattle.std.specs.Prelude.{◌<◌, length}
 use Rattle.lite_buffered.specs.Uses.{refl, arith}
 use Rattle.lite_buffered.specs.BufReader.{bytes_ahead}
-use Rattle.lite_buffered.proofs.Asking.{asks_none}
+use Rattle.lite_buffered.proofs.Reading.{asks_none, through_rest}
 use Rattle.lite_buffered.proofs.Ranges.{length-slice_range, slice_range_none}
-use Rattle.lite_buffered.proofs.Reading.{through_rest}
 use Rattle.lite_buffered.proofs.buf_reader.BufReader.fill.Goals as goal
 
 pub returns-then-self-clause-ran : goal.returns-then-self-clause-ran

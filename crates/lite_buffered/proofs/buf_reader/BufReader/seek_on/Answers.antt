@@ -1,6 +1,6 @@
 use Rattle.std.specs.Prelude.{length}
 use Rattle.lite_buffered.specs.Uses.{rules, inr}
-use Rattle.lite_buffered.proofs.Offsets.{to_z_back, to_z_known, to_z_offset}
+use Rattle.lite_buffered.proofs.Seeking.{to_z_back, to_z_known, to_z_offset}
 use Rattle.lite_buffered.specs.BufReader.{bytes_ahead}
 use Rattle.lite_buffered.proofs.buf_reader.BufReader.seek_on.Goals as goal
 

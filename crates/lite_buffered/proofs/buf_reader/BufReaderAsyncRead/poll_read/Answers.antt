@@ -1,8 +1,7 @@
 use Rattle.std.specs.Prelude.{◌≡◌, [], length}
 use Rattle.lite_buffered.specs.Uses.{refl, arith, common_steps, read_marks}
 use Rattle.lite_buffered.specs.BufReader.{bytes_ahead}
-use Rattle.lite_buffered.proofs.Polling.{polls_asked}
-use Rattle.lite_buffered.proofs.Reading.{moved_none, through_past, through_taken}
+use Rattle.lite_buffered.proofs.Reading.{polls_asked, moved_none, through_past, through_taken}
 use Rattle.lite_buffered.proofs.buf_reader.BufReaderAsyncRead.poll_read.Goals as goal
 
 pub returns-then-is_empty-clause-ran : goal.returns-then-is_empty-clause-ran

@@ -1,8 +1,7 @@
 use Rattle.std.specs.Prelude.{◌≡◌, []}
 use Rattle.lite_buffered.specs.Uses.{refl, arith, common_steps, reads_front, read_marks, room_in}
 use Rattle.lite_buffered.specs.BufReader.{ThroughBuffer, bytes_ahead}
-use Rattle.lite_buffered.proofs.Polling.{polls_asked}
-use Rattle.lite_buffered.proofs.Reading.{moved_none, through_past, through_taken}
+use Rattle.lite_buffered.proofs.Reading.{polls_asked, moved_none, through_past, through_taken}
 use Rattle.lite_buffered.proofs.buf_reader.BufReaderAsyncRead.poll_read_vectored.Goals as goal
 
 pub returns-then-total-eq0-clause-ran : goal.returns-then-total-eq0-clause-ran

@@ -1,5 +1,5 @@
 use Rattle.lite_buffered.specs.Uses.{rules}
-use Rattle.lite_buffered.proofs.Offsets.{to_z_offset}
+use Rattle.lite_buffered.proofs.Seeking.{to_z_offset}
 use Rattle.lite_buffered.proofs.buf_reader.BufReaderAsyncSeek.poll_seek.Goals as goal
 
 pub returns-in-Current-clause-sought : goal.returns-in-Current-clause-sought

@@ -1,7 +1,7 @@
 use Rattle.std.specs.Prelude.{◌≡◌, ◌≤◌, ◌+◌, ◌-◌, [], length, take, drop}
 use Rattle.lite_buffered.specs.Uses.{◌∙◌, sym, ap, subst, arith, append-nil, length-take, length-take-le, take-take, drop-take, bytes}
 use Rattle.lite_buffered.specs.Take.{WithinLimit}
-use Rattle.lite_buffered.proofs.Limits.{fits_bytes}
+use Rattle.lite_buffered.proofs.Reading.{fits_bytes}
 use Rattle.lite_buffered.proofs.take.TakeAsyncBufRead.consume.Goals as goal
 
 pub returns-clause-ran : goal.returns-clause-ran

@@ -1,7 +1,7 @@
 use Rattle.std.specs.Prelude.{◌≡◌, ◌≤◌, ◌<◌, ◌-◌, [], Ok, length, take, drop}
 use Rattle.lite_buffered.specs.Uses.{rules, arith, sym, ◌∙◌, append-nil, length-take-le, subst, common_steps, Ready, read_marks_room, moved_marks}
 use Rattle.lite_buffered.specs.Take.{WithinLimit}
-use Rattle.lite_buffered.proofs.Limits.{fits_moved}
+use Rattle.lite_buffered.proofs.Reading.{fits_moved}
 use Rattle.lite_buffered.proofs.take.TakeAsyncRead.poll_read.Goals as goal
 
 pub returns-in-Ok-clause-ran : goal.returns-in-Ok-clause-ran

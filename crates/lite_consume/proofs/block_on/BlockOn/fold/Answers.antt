@@ -1,7 +1,6 @@
-use Rattle.lite_consume.specs.Calls.{CallsBoth}
+use Rattle.lite_consume.specs.Fold.{CallsBoth, folds}
 use Rattle.lite_consume.specs.Given.{MayFold}
 use Rattle.lite_consume.proofs.Given.{each_of, given_last}
-use Rattle.lite_consume.specs.Fold.{folds}
 use Rattle.lite_consume.proofs.block_on.BlockOn.fold.Goals as goal
 
 pub ask-requires-clause-asks : goal.ask-requires-clause-asks

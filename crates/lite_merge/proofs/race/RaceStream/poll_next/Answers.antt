@@ -1,6 +1,6 @@
 use Rattle.std.specs.Prelude.{[], ◌∷◌}
 use Rattle.lite_merge.specs.Uses.{refl}
-use Rattle.lite_base.specs.Laws.Rows.{drawn_first, drawn_second}
+use Rattle.lite_base.specs.Laws.Segments.{drawn_first, drawn_second}
 use Rattle.lite_merge.specs.Merge.{MergeRow}
 use Rattle.lite_merge.proofs.race.RaceStream.poll_next.Goals as goal
 

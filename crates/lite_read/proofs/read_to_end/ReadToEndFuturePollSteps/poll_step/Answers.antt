@@ -2,7 +2,7 @@ use Rattle.std.specs.Prelude.{◌≡◌, ◌<◌, ◌+◌, ◌-◌, max, vec_cap
 use Rattle.lite_read.specs.Uses.{ap, refl, rules, arith, length-take-le, common_steps, Ready, Pending, ReadMark}
 use Rattle.lite_read.proofs.Appending.{gives_pending, gives_value, read_none, read_some, refused, room_made}
 use Rattle.lite_read.proofs.Filling.{ends_behind}
-use Rattle.lite_read.specs.Appending.{read_front}
+use Rattle.lite_read.specs.ReadToEnd.{read_front}
 use Rattle.lite_read.proofs.read_to_end.ReadToEndFuturePollSteps.poll_step.Goals as goal
 
 pub returns-then-is_err-clause-stepped : goal.returns-then-is_err-clause-stepped

@@ -1,7 +1,7 @@
 use Rattle.std.specs.Prelude.{[], ◌∷◌, refl}
 use Rattle.lite_base.specs.Future.Picks.{PickRow}
 use Rattle.lite_base.specs.Laws.Answers.{up_to_one}
-use Rattle.lite_base.specs.Laws.Rows.{drawn_first, drawn_second}
+use Rattle.lite_base.specs.Laws.Segments.{drawn_first, drawn_second}
 use Rattle.lite_base.proofs.future.race.RaceFuture.poll.Goals as goal
 
 pub returns-then-next_u32-eq1-clause-ran : goal.returns-then-next_u32-eq1-clause-ran
