@@ -332,11 +332,13 @@ module _ (E : El) where
             (flft (p.0 ∷ κT) p.1) ⊛ raw (Kept 𝓛 State κs.0 κT qs.0 qs.1.1.1.1.0 tb to γt s.0 p))))
             (lends 𝓛 State κs.0 κT qs.0 qs.1.1.1.1.0 tb to γt s.0) $ await ! tt $
             pick ! (λ pt. split3 ! $ move ! (3 ∷ 4 ∷ 5 ∷ []) $
+            use3 𝓛 (later
             (some (λ (p : ℕ × Share × GName). ‵ (lent (Cx κ2) (p.0 ∷ κ2) cb co p.2 s.1) ⊛ ‵
             (flft (p.0 ∷ κ2) p.1) ⊛ raw
             (Kept 𝓛 (Cx κ2) κs.1.0 κ2 qs.1.0 (Share.left qs.1.1.0) cb co γc s.1 p))))
             (lends 𝓛 (Cx κ2) κs.1.0 κ2 qs.1.0 (Share.left qs.1.1.0) cb co γc s.1) $ await ! tt $
             pick ! (λ pc. split3 ! $ move ! (6 ∷ 7 ∷ 8 ∷ []) $
+            use3 𝓛 (later
             (some (λ (p : ℕ × Share × GName). ‵ (lent Answer (p.0 ∷ κO) ob oo p.2 None) ⊛ ‵
             (flft (p.0 ∷ κO) p.1) ⊛ raw
             (Kept 𝓛 Answer κs.1.1.1.0 κO qs.1.1.1.0 qs.1.1.1.1.1.0 ob oo γo None p))))
@@ -369,9 +371,11 @@ module _ (E : El) where
             use3 𝓛 (later (‵ (lent State κs.0 tb to γt z.1) ⊛ ‵ (flft κs.0 qs.0) ⊛ ‵ (flft κT qs.1.1.1.1.0)))
             (regains 𝓛 State κs.0 κT qs.0 qs.1.1.1.1.0 tb to γt s.0 pt z.1) $
             await ! tt $ split3 ! $ move ! (3 ∷ []) $ split3 ! $ move ! (0 ∷ 1 ∷ 7 ∷ []) $
+            use3 𝓛 (later
             (‵ (lent (Cx κ2) κs.1.0 cb co γc z.2) ⊛ ‵ (flft κs.1.0 qs.1.0) ⊛ ‵ (flft κ2 (Share.left qs.1.1.0))))
             (regains 𝓛 (Cx κ2) κs.1.0 κ2 qs.1.0 (Share.left qs.1.1.0) cb co γc s.1 pc z.2) $
             await ! tt $ split3 ! $ move ! (3 ∷ []) $ split3 ! $ move ! (0 ∷ 1 ∷ 9 ∷ []) $
+            use3 𝓛 (later
             (‵ (lent Answer κs.1.1.1.0 ob oo γo z.3) ⊛ ‵ (flft κs.1.1.1.0 qs.1.1.1.0) ⊛ ‵ (flft κO qs.1.1.1.1.1.0)))
             (regains 𝓛 Answer κs.1.1.1.0 κO qs.1.1.1.0 qs.1.1.1.1.1.0 ob oo γo None po z.3) $
             await ! tt $ split3 ! $ move ! (7 ∷ 8 ∷ 9 ∷ 4 ∷ 5 ∷ 6 ∷ 0 ∷ 1 ∷ 2 ∷ 3 ∷ []) $
