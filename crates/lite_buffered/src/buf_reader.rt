@@ -484,7 +484,7 @@ impl<R: AsyncRead> AsyncRead for BufReader<R> {
 
     // Inline, because a call would return its large result through memory.
     #[inline(always)]
-    #[tactic(auto, using(crate::proofs::Polling::polls_rules, crate::proofs::Asking::asks_rules))]
+    #[tactic(auto, using(crate::proofs::Reading::polls_rules, crate::proofs::Reading::asks_rules))]
     fn poll_read(&mut self, cx: &mut Context<'_>, buf: &mut [u8]) -> Poll<io::Result<usize>>
         ensures bound { IfReady result (λ r. IfOk r (λ n. n ≤ length buf.new)) }
         ensures ran { ThroughBuffer R.reads self.old (read_marks result buf.new) self.new }
@@ -521,7 +521,7 @@ impl<R: AsyncRead> AsyncRead for BufReader<R> {
         self.read_ahead(cx, buf)
     }
 
-    #[tactic(auto, using(crate::proofs::Polling::polls_rules, crate::proofs::Asking::asks_rules))]
+    #[tactic(auto, using(crate::proofs::Reading::polls_rules, crate::proofs::Reading::asks_rules))]
     fn poll_read_vectored(
         &mut self,
         cx: &mut Context<'_>,
@@ -564,7 +564,9 @@ impl<R: AsyncRead> AsyncRead for BufReader<R> {
 }
 
 impl<R: AsyncRead> AsyncBufRead for BufReader<R> {
+    ghost use Rattle.lite_buffered.specs.BufReader.{AsksWhereEmpty, ThroughBuffer, bytes_ahead, reader_capacity, reader_inner};
     ghost use Rattle.lite_buffered.specs.Laws.BufReader.{through_shows};
+    ghost use Rattle.lite_buffered.specs.contracts.buf_reader.BufReader.{the_row};
     ghost use Rattle.lite_io_base.specs.Runs.{Afterwards, Fills};
 
     ghost buffer_of = { bytes_ahead };
@@ -616,6 +618,7 @@ impl<R: AsyncWrite> AsyncWrite for BufReader<R> {
 }
 
 impl<R: AsyncSeek> AsyncSeek for BufReader<R> {
+    ghost use Rattle.lite_buffered.specs.BufReader.{reader_inner};
     ghost use Rattle.lite_buffered.specs.BufReader.{SeeksThrough};
 
     ghost seeks = { SeeksThrough R.seeks };
@@ -638,6 +641,7 @@ impl<R: AsyncSeek> AsyncSeek for BufReader<R> {
 
 impl<R: AsyncSeek> BufReader<R> {
     ghost use Rattle.lite_buffered.specs.Uses.{by_kind};
+    ghost use Rattle.lite_buffered.specs.BufReader.{reader_inner};
     ghost use Rattle.lite_buffered.specs.BufReader.{SeeksOnce, SeeksThrough, SeeksTwice};
 
     // Seeks from the position of the byte that is read next.
@@ -700,6 +704,7 @@ impl<R: CountedRead> CountedRead for BufReader<R> {
 
 // If its capacity is above 0: without one, a fill looks like end of file.
 impl<R: SteadyRead> SteadyRead for BufReader<R> {
+    ghost use Rattle.lite_buffered.specs.BufReader.{ThroughBuffer};
     ghost use Rattle.lite_buffered.specs.Laws.BufReader.{AheadAlike, buf_reader_steady};
 
     ghost ample = { ThroughBuffer R.ample };

@@ -269,7 +269,7 @@ impl<R1: AsyncRead, R2: AsyncRead> Chain<R1, R2> {
 
     // Reads the first reader, and then the second if the first is at end of file.
     #[inline(always)]
-    #[tactic(auto, using(crate::proofs::Crossing::crossed, crate::proofs::Ends::no_end_moved))]
+    #[tactic(auto, using(crate::proofs::Crossing::crossed, crate::proofs::Crossing::no_end_moved))]
     fn read_on(&mut self, cx: &mut Context<'_>, buf: &mut [u8]) -> Poll<io::Result<usize>>
         requires first { has_ended self.old ≡ false }
         requires some { 0 < length buf.old }
@@ -288,7 +288,7 @@ impl<R1: AsyncRead, R2: AsyncRead> Chain<R1, R2> {
 
     // Reads as `read_on` does, into several buffers, which have this room.
     #[inline(always)]
-    #[tactic(auto, using(crate::proofs::Ends::no_end_moved))]
+    #[tactic(auto, using(crate::proofs::Crossing::no_end_moved))]
     fn read_on_vectored(
         &mut self,
         cx: &mut Context<'_>,
@@ -411,7 +411,7 @@ impl<R1: AsyncBufRead, R2: AsyncBufRead> AsyncBufRead for Chain<R1, R2> {
         self.show()
     }
 
-    #[tactic(auto, using(crate::proofs::Ends::no_end_bytes))]
+    #[tactic(auto, using(crate::proofs::Crossing::no_end_bytes))]
     fn consume(&mut self, amount: usize) {
         if self.has_ended {
             self.second.consume(amount);
@@ -431,6 +431,7 @@ impl<R1: CountedRead, R2: CountedRead> CountedRead for Chain<R1, R2> {
 }
 
 impl<R1: SteadyRead, R2: SteadyRead> SteadyRead for Chain<R1, R2> {
+    ghost use Rattle.lite_buffered.specs.Chain.{ChainsReaders};
     ghost use Rattle.lite_buffered.specs.Laws.Chain.{PlaceAlike, chain_steady};
 
     ghost ample = { ChainsReaders R1.ample R2.ample };

@@ -8,7 +8,7 @@ use lite_io_base::{AsyncSeek, CountedRead};
 /// that counts and is as firm as before, if that is true of its inner reader.
 ///
 /// So a call that consumes many bytes in one poll may be made after a seek, too.
-#[tactic(auto, using(crate::specs::Laws::SeeksThrough::seeks_keep))]
+#[tactic(auto, using(crate::specs::Laws::BufReader::seeks_keep))]
 pub fn counts_after_seek<R: CountedRead + AsyncSeek>(_reader: &BufReader<R>)
     requires counts { SeekKeeps R.seeks R.ranks.counts }
     requires firm { SeekKeeps R.seeks R.ranks.firm }

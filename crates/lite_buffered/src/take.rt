@@ -259,6 +259,8 @@ impl<R: AsyncRead> AsyncRead for Take<R> {
 }
 
 impl<R: AsyncBufRead> Take<R> {
+    ghost use Rattle.lite_buffered.specs.Take.{limit_of, take_inner};
+
     fn show(&self) -> &[u8]
         ensures { result.now ≡ take (limit_of self.now) (R.buffer_of (take_inner self.now)) }
     {
@@ -275,6 +277,7 @@ fn first_bytes(all: &[u8], limit: u64) -> &[u8]
 }
 
 impl<R: AsyncBufRead> AsyncBufRead for Take<R> {
+    ghost use Rattle.lite_buffered.specs.Take.{limit_of, take_inner};
     ghost use Rattle.lite_buffered.specs.Laws.Take.{takes_show};
 
     ghost buffer_of = { λ r. take (limit_of r) (R.buffer_of (take_inner r)) };
@@ -318,6 +321,7 @@ impl<R: CountedRead> CountedRead for Take<R> {
 }
 
 impl<R: SteadyRead> SteadyRead for Take<R> {
+    ghost use Rattle.lite_buffered.specs.Take.{ReadsWithin};
     ghost use Rattle.lite_buffered.specs.Laws.Take.{LimitAlike, take_steady};
 
     ghost ample = { ReadsWithin R.ample };

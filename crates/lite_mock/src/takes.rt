@@ -53,6 +53,8 @@ impl Model for Takes {
 }
 
 impl Takes {
+    ghost use Rattle.lite_mock.specs.Takes.{Orders};
+
     /// A writer that takes all.
     pub fn new(alloc: Global) -> Takes
         ensures orders { result.orders ≡ [] }

@@ -104,6 +104,8 @@ impl<R: AsyncRead, W: AsyncWrite> CopyFuture<R, W> {
 }
 
 impl<R: CountedRead, W: AsyncWrite> PollSteps for CopyFuture<R, W> {
+    ghost use Rattle.lite_write.specs.Uses.{OneStep};
+    ghost use Rattle.lite_write.specs.Copy.{CopiesSome, CopyRegisters, Moves};
     ghost use Rattle.lite_write.specs.Laws.Copy.{some_given};
 
     type Output = io::Result<u64>;

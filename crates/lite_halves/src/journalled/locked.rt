@@ -27,7 +27,7 @@ pub(super) struct Locked<T: ReadSpec + WriteSpec + Clone, B: CounterNames> {
     ghost writing_is: { writing ≡ booked_in Writing journal },
 }
 
-#[tactic(auto, using(crate::proofs::Fits::call_fits))]
+#[tactic(auto, using(crate::proofs::Noted::call_fits))]
 impl<T: AsyncRead + WriteSpec + Clone, B: CounterNames> Locked<T, B> {
     /// Reads once, with an entry. `None` means that the memory for it was refused, and nothing was called.
     pub(super) fn read(
@@ -64,7 +64,7 @@ impl<T: AsyncRead + WriteSpec + Clone, B: CounterNames> Locked<T, B> {
     }
 }
 
-#[tactic(auto, using(crate::proofs::Fits::call_fits))]
+#[tactic(auto, using(crate::proofs::Noted::call_fits))]
 impl<T: ReadSpec + AsyncWrite + Clone, B: CounterNames> Locked<T, B> {
     /// Writes once, with an entry. `None` means that the memory for it was refused, and nothing was called.
     pub(super) fn write(
