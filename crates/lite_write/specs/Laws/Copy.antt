@@ -236,16 +236,16 @@ OkCounts (Err e) held xs = ⊤
 abbrev MarksOfValue : CopyResult → ℕ → List ReadMark → Type 0
 MarksOfValue v held marks = (xs : List ℕ) × (strip_marks marks ≡ bytes xs ++ stop_of v ∷ []) × OkCounts v held xs
 
-same_value : (v w : CopyResult) (held : ℕ) (xs ys : List ℕ) → (xs ≡ ys) × (stop_of v ≡ stop_of w)
+same_outcome : (v w : CopyResult) (held : ℕ) (xs ys : List ℕ) → (xs ≡ ys) × (stop_of v ≡ stop_of w)
     → OkCounts v held xs → OkCounts w held ys → SameByKind v w
-same_value (Ok n) (Ok k) held xs ys both h g = cc
-same_value (Err e) (Err f) held xs ys both h g = cc both.1
-same_value _ _ held xs ys both h g = absurd (cc both.1)
+same_outcome (Ok n) (Ok k) held xs ys both h g = cc
+same_outcome (Err e) (Err f) held xs ys both h g = cc both.1
+same_outcome _ _ held xs ys both h g = absurd (cc both.1)
 
 same_told : (v w : CopyResult) (held : ℕ) (i j : List ReadMark) → MarksOfValue v held i → MarksOfValue w held j
     → Comparable (strip_marks i) (strip_marks j) → SameByKind v w
 same_told v w held i j h g c =
-    same_value v w held h.0 g.0 (one_stop v w h.0 g.0 (rw (← g.1, ← h.1) c)) h.2 g.2
+    same_outcome v w held h.0 g.0 (one_stop v w h.0 g.0 (rw (← g.1, ← h.1) c)) h.2 g.2
 
 no_bytes : (phase : Phase) → bytes_told (met_in phase) ≡ []
 no_bytes Copying = refl
