@@ -1,7 +1,7 @@
 mod Items
 mod Lacking
 mod ReadLine
-mod Refusals
+pub mod Refusals
 mod Strings
 mod TextSteps
 mod Until
