@@ -1,4 +1,6 @@
 //! Why the program stops.
+ghost use Rattle.std.specs.Prelude.{◌≡◌};
+ghost use Rattle.example_words.specs.declared.fault.LineError.TheVariants.{Memory};
 ghost use Rattle.example_words.specs.declared.fault.WordsError.TheVariants.{Output};
 ghost use Rattle.programs.specs.Statuses.{WrapsBrokenPipe};
 
@@ -68,6 +70,8 @@ impl From<AllocError> for WordsError {
 }
 
 impl From<AllocError> for LineError {
+    ghost from_gives = { λ _ e. e ≡ Memory };
+
     fn from(_error: AllocError) -> LineError {
         LineError::Memory
     }

@@ -1,6 +1,7 @@
 //! Counts become sums.
-ghost use Rattle.std.specs.Prelude.{◌≡◌, ◌∷◌, ◌++◌, ◌<◌, [], IfOk, List, OnOk};
+ghost use Rattle.std.specs.Prelude.{◌≡◌, ◌∷◌, ◌++◌, ◌<◌, [], IfErr, IfOk, List, OnOk};
 ghost use Rattle.example_words.specs.Records.{Counted, TableSoFar, record_line, record_lines};
+ghost use Rattle.example_words.specs.Refusals.{RefusedLine};
 ghost use Rattle.example_words.specs.Runs.{Reduces};
 
 use crate::fault::{LineError, WordsError};
@@ -50,9 +51,10 @@ where
 
 // Adds the record of a line to the sum. If it begins another word, the line of the word before is appended to `text`.
 fn add_line(sum: &mut Sum, line: &[u8], text: &mut Vec<u8>) -> Result<(), LineError>
-    ensures { OnOk result ((r : Counted) × (line.now ≡ record_line r) × (more : List Counted)
+    ensures added { OnOk result ((r : Counted) × (line.now ≡ record_line r) × (more : List Counted)
         × (text.new.items ≡ text.old.items ++ record_lines more) × ((done read : List Counted)
         → TableSoFar done sum.old.word.items sum.old.count read → TableSoFar (done ++ more) sum.new.word.items sum.new.count (read ++ r ∷ []))) }
+    ensures refused { IfErr result (λ e. RefusedLine sum.old.word.items sum.old.count line.now e) }
 {
     sum.add(parse_record(line)?, text)
 }

@@ -27,7 +27,7 @@ returns-then-is_empty g c =
 
 pub loop-preserved : goal.loop-preserved
 loop-preserved g c =
-    let added = c.in_default.ensures in
+    let added = c.in_default.ensures.added in
     let line = sym c.deref-in-loop.ensures.value ∙ added.1 in
     let text = c.deref-in-loop-2.ensures.value ∙ added.3 ∙ ap (λ k. k ++ record_lines added.2) c.clear.ensures.items in (
       tt,
