@@ -56,7 +56,7 @@ once rest word behind next =
 pub words_refused : (before now : List Counted) (line rest word behind : List ℕ)
     → ((w : List ℕ) → total_count now w + occurrences rest w ≡ total_count before w + occurrences line w)
     → ((w : List ℕ) → total_count before w ≤ total_count now w) → words rest ≡ word ∷ words behind
-    → (e : LineError) → RefusedWord (total_count now word) e → RefusedWords before line e
+    → (e : LineError) → RefusedWord (total_count now word) e → RefusedWords (total_count before) line e
 words_refused before now line rest word behind sums grows next TooLarge refused =
     (word, omega (arith, refused, sums word, once rest word behind next))
 words_refused before now line rest word behind sums grows next Memory refused =
@@ -66,3 +66,13 @@ words_refused before now line rest word behind sums grows next NoTab refused = a
 words_refused before now line rest word behind sums grows next NoWord refused = absurd refused
 words_refused before now line rest word behind sums grows next NoCount refused = absurd refused
 words_refused before now line rest word behind sums grows next OutOfOrder refused = absurd refused
+
+-- Words are refused by how often each was counted before.
+pub refused_by : (f g : List ℕ → ℕ) (line : List ℕ) → ((w : List ℕ) → f w ≡ g w) → (e : LineError) → RefusedWords f line e → RefusedWords g line e
+refused_by f g line same TooLarge refused = (refused.0, omega (arith, refused.1, same refused.0))
+refused_by f g line same Memory refused = (refused.0, omega (arith, refused.1, same refused.0), refused.2)
+refused_by f g line same CutOff refused = absurd refused
+refused_by f g line same NoTab refused = absurd refused
+refused_by f g line same NoWord refused = absurd refused
+refused_by f g line same NoCount refused = absurd refused
+refused_by f g line same OutOfOrder refused = absurd refused

@@ -42,7 +42,7 @@ impl Counts {
         ensures counts { OnOk result ((w : List ℕ) →
             total_count (counted_records self.new) w ≡ total_count (counted_records self.old) w + occurrences line.now w) }
         ensures positive { OnOk result (All (λ r. 0 < r.1) (counted_records self.old) → All (λ r. 0 < r.1) (counted_records self.new)) }
-        ensures refused { IfErr result (λ e. RefusedWords (counted_records self.old) line.now e) }
+        ensures refused { IfErr result (λ e. RefusedWords (total_count (counted_records self.old)) line.now e) }
     {
         let mut rest = line;
         while let Some((word, behind)) = next_word(rest) {

@@ -1,6 +1,6 @@
 //! Words become counts.
-ghost use Rattle.std.specs.Prelude.{IfOk};
-ghost use Rattle.example_words.specs.Runs.{HasCounted, MapsText};
+ghost use Rattle.std.specs.Prelude.{IfErr, IfOk};
+ghost use Rattle.example_words.specs.Runs.{HasCounted, MapStops, MapsText};
 
 use crate::counts::Counts;
 use crate::fault::WordsError;
@@ -24,7 +24,8 @@ where
     T: AsyncBufRead + CountedRead,
     O: AsyncWrite,
     requires counts { T.ranks.counts reader.old }
-    ensures { IfOk result (λ _. MapsText T.reads O.writes reader.old output.old reader.new output.new) }
+    ensures written { IfOk result (λ _. MapsText T.reads O.writes reader.old output.old reader.new output.new) }
+    ensures stopped { IfErr result (λ e. MapStops T.reads reader.old e reader.new) }
 {
     let counts = count_words(on, rt, reader)?;
     let text = counts.text()?;
@@ -37,7 +38,8 @@ where
     R: Wait + AllocGlobal,
     T: AsyncBufRead + CountedRead,
     requires counts { T.ranks.counts reader.old }
-    ensures { IfOk result (λ counts. HasCounted T.reads reader.old counts reader.new) }
+    ensures counted { IfOk result (λ counts. HasCounted T.reads reader.old counts reader.new) }
+    ensures stopped { IfErr result (λ e. MapStops T.reads reader.old e reader.new) }
 {
     let mut counts = Counts::new(rt.alloc());
     let mut line = Vec::new(rt.alloc());

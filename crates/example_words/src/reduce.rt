@@ -2,7 +2,7 @@
 ghost use Rattle.std.specs.Prelude.{◌≡◌, ◌∷◌, ◌++◌, ◌<◌, [], IfErr, IfOk, List, OnOk};
 ghost use Rattle.example_words.specs.Records.{Counted, TableSoFar, record_line, record_lines};
 ghost use Rattle.example_words.specs.Refusals.{RefusedLine};
-ghost use Rattle.example_words.specs.Runs.{Reduces};
+ghost use Rattle.example_words.specs.Runs.{ReduceStops, Reduces};
 
 use crate::fault::{LineError, WordsError};
 use crate::input::read_line;
@@ -27,7 +27,8 @@ where
     T: AsyncBufRead + CountedRead,
     O: AsyncWrite,
     requires counts { T.ranks.counts reader.old }
-    ensures { IfOk result (λ _. Reduces T.reads O.writes reader.old output.old reader.new output.new) }
+    ensures written { IfOk result (λ _. Reduces T.reads O.writes reader.old output.old reader.new output.new) }
+    ensures stopped { IfErr result (λ e. ReduceStops T.reads reader.old e reader.new) }
 {
     let mut sum = Sum::new(rt.alloc());
     let mut line = Vec::new(rt.alloc());
