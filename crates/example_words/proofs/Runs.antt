@@ -9,7 +9,7 @@ use Rattle.std.specs.Cmp.Lexicographic.{slice_cmp}
 use Rattle.std.specs.List.{All}
 use Rattle.std.specs.List.Sorted.{IsStrictlySortedBy}
 use Rattle.std.specs.Ordering.{nat_cmp}
-use Rattle.std.specs.Prelude.{Err, Ok, OnOk, Result, count_by, decimal, if◌then◌else◌, nat_eq}
+use Rattle.std.specs.Prelude.{Err, Ok, OnOk, Result, count_by, decimal, nat_eq}
 use Rattle.futures_lite.specs.Laws.Told.{taken_both, told_follow, told_none}
 use Rattle.futures_lite.specs.Marks.{ReadMark, WriteMark, bytes}
 use Rattle.futures_lite.specs.Own.{MarkLaws, Runs}

@@ -1,4 +1,4 @@
-use Rattle.std.proofs.Common.{◌≡◌, arith, rules}
+use Rattle.std.proofs.Common.{arith, rules}
 use Rattle.example_words.proofs.Refusals.{not_digits, not_text, read_back}
 use Rattle.example_words.proofs.record.parse_count.Goals as goal
 use Rattle.example_words.proofs.record.parse_count.Goals.{else-count-gt0-via-then-count-gt0+else-eq, else-count-gt0-via-else-count-gt0}

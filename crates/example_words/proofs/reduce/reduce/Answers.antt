@@ -1,6 +1,6 @@
 use Rattle.std.proofs.Common.{◌≡◌, ◌++◌, ◌∙◌, ap, length, rules, sym}
 use Rattle.example_words.specs.Records.{pending, record_lines}
-use Rattle.example_words.proofs.Runs.{on_ok, reduce_stops, sums_end, sums_line, sums_start, sums_stop}
+use Rattle.example_words.proofs.Runs.{on_ok, sums_end, sums_line, sums_start, sums_stop}
 use Rattle.example_words.proofs.reduce.reduce.Goals as goal
 
 pub loop-init : goal.loop-init
