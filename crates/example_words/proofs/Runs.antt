@@ -123,18 +123,6 @@ module _ {T : Type 0} (reads : Runs ReadMark T) (laws : MarkLaws reads) where
     refused = refused_by (total_count (counted_records cs)) (occurrences so_far.text) line so_far.right e refused;
   }
 
-  pub map_stops : (x y : T) (e : WordsError) → NamesNoLine e → MapStops reads x e y
-  map_stops x y (Line number e) h = absurd h
-  map_stops x y (Input e) h = tt
-  map_stops x y (Output e) h = tt
-  map_stops x y Memory h = tt
-
-  pub reduce_stops : (x y : T) (e : WordsError) → NamesNoLine e → ReduceStops reads x e y
-  reduce_stops x y (Line number e) h = absurd h
-  reduce_stops x y (Input e) h = tt
-  reduce_stops x y (Output e) h = tt
-  reduce_stops x y Memory h = tt
-
   -- The text of the counts was written.
   pub mapped : {O : Type 0} (writes : Runs WriteMark O) (x y : T) (w v : O) (cs : Counts) (text : List ℕ) → HasCounted reads x cs y
       → IsStrictlySortedBy (slice_cmp nat_cmp) (map (λ r. r.0) (counted_records cs)) → text ≡ record_lines (counted_records cs)

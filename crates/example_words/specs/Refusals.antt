@@ -12,8 +12,8 @@ use Rattle.example_words.specs.declared.fault.LineError.TheVariants.{CutOff, Mem
 use Rattle.example_words.specs.declared.fault.WordsError.{WordsError}
 use Rattle.example_words.specs.declared.fault.WordsError.TheVariants.{Line}
 
--- Why these bytes are no count. `NoCount`: no number is written so, however large. `TooLarge`: they are the digits of a
--- number past 64 bits.
+-- Why these bytes are no count. `NoCount`: no number above 0 and of at most 64 digits is written so. `TooLarge`: they are
+-- the digits of a number past 64 bits.
 abbrev pub RefusedCount : List ℕ → LineError → Type 0
 RefusedCount digits NoCount = (n : ℕ) → 0 < n → n < 10 ^ 64 → digits ≢ decimal n
 RefusedCount digits TooLarge = IsNumeral 10 digits × (2 ^ 64 ≤ digits_value 10 digits)

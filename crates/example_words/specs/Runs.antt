@@ -14,8 +14,8 @@ use Rattle.example_words.specs.declared.fault.WordsError.{WordsError}
 use Rattle.example_words.specs.declared.fault.WordsError.TheVariants.{Line}
 
 -- The number of a line with so many lines before it, counted from 1 and kept in 64 bits.
-abbrev pub line_number : ℕ → ℕ
-line_number before = min (before + 1) (2 ^ 64 - 1)
+abbrev pub numbered_after : ℕ → ℕ
+numbered_after before = min (before + 1) (2 ^ 64 - 1)
 
 module _ {T : Type 0} (reads : Runs ReadMark T) where
   -- The reader gave just the bytes of a text, and then the end of file.
@@ -43,7 +43,7 @@ module _ {T : Type 0} (reads : Runs ReadMark T) where
     pub before : ToldStripped reads x (bytes text) between
     pub lines : WholeLines text
     pub read : ReadsOneLine between line whole y
-    pub numbered : number ≡ line_number (count_by (nat_eq 10) text)
+    pub numbered : number ≡ numbered_after (count_by (nat_eq 10) text)
     pub refused : RefusedWords (occurrences text) line e
 
   -- `map` stopped with this error. Only an error of a line says where.
@@ -59,7 +59,7 @@ module _ {T : Type 0} (reads : Runs ReadMark T) where
     pub between : T
     pub before : ToldStripped reads x (bytes (record_lines records)) between
     pub read : ReadsOneLine between line whole y
-    pub numbered : number ≡ line_number (length records)
+    pub numbered : number ≡ numbered_after (length records)
     pub refused : RefusedNext records line e
 
   -- `reduce` stopped with this error. Only an error of a line says where.

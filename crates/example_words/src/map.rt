@@ -13,6 +13,10 @@ use std::alloc::AllocGlobal;
 use std::sync::Wait;
 
 /// Reads a text to its end, and writes a line for each word of it, with how often it is there.
+///
+/// # Errors
+///
+/// The input or the output failed, memory was refused, or a count passes 64 bits. The error of a line names the last one read.
 pub fn map<R, T, O>(
     on: &mut BlockOn,
     rt: &R,

@@ -20,7 +20,7 @@ pub struct Record<'a> {
     pub count: u64,
 }
 
-/// Appends the line of a word and its count.
+/// Appends the line of a word and its count. It fails only if memory was refused.
 pub fn push_record(text: &mut Vec<u8>, word: &[u8], count: u64) -> Result<(), AllocError>
     ensures { OnOk result (text.new.items ≡ text.old.items ++ record_line (word.now, count)) }
 {
@@ -32,6 +32,10 @@ pub fn push_record(text: &mut Vec<u8>, word: &[u8], count: u64) -> Result<(), Al
 }
 
 /// Returns the record of a line, which has its newline.
+///
+/// # Errors
+///
+/// The line has no newline, no tab, no word before its first tab, or no count behind it.
 #[tactic(auto, using(crate::specs::Laws::record_cut))]
 pub fn parse_record(line: &[u8]) -> Result<Record<'_>, LineError>
     ensures line { IfOk result (λ r. line.now ≡ record_line (r.word.now, r.count)) }

@@ -16,6 +16,10 @@ use std::alloc::AllocGlobal;
 use std::sync::Wait;
 
 /// Reads records to the end of the input, sorted by word, and writes a line for each word with the sum of its counts.
+///
+/// # Errors
+///
+/// The input or the output failed, memory was refused, or a line was refused. The error of a line names the last one read.
 pub fn reduce<R, T, O>(
     on: &mut BlockOn,
     rt: &R,

@@ -27,6 +27,10 @@ impl Sum {
     }
 
     /// Adds the next record. If it begins another word, the line of the word before is appended to `text`.
+    ///
+    /// # Errors
+    ///
+    /// The word is less than the one before it, the sum passes 64 bits, or memory was refused.
     pub fn add(&mut self, next: Record<'_>, text: &mut Vec<u8>) -> Result<(), LineError>
         ensures added { OnOk result ((more : List Counted) × (text.new.items ≡ text.old.items ++ record_lines more)
             × ((done read : List Counted) → 0 < next.entry.count → TableSoFar done self.old.word.items self.old.count read
@@ -52,7 +56,7 @@ impl Sum {
         Ok(())
     }
 
-    /// Appends the line of the word to `text`, if there was a record.
+    /// Appends the line of the word to `text`, if there was a record. It fails only if memory was refused.
     pub fn finish(&self, text: &mut Vec<u8>) -> Result<(), AllocError>
         ensures { OnOk result (text.new.items ≡ text.old.items ++ record_lines (pending self.now)) }
     {

@@ -1,5 +1,5 @@
 use Rattle.std.proofs.Common.{◌≡◌, false, rules, true}
-use Rattle.example_words.proofs.Runs.{counts_last, counts_line, counts_start, counts_stop, map_stops}
+use Rattle.example_words.proofs.Runs.{counts_last, counts_line, counts_start, counts_stop}
 use Rattle.example_words.proofs.map.count_words.Goals as goal
 
 pub loop-init : goal.loop-init
@@ -31,11 +31,6 @@ loop-preserved g c =
           c.read_line.new.line.items (rw c.deref.ensures.value at c.in_default.ensures.counts) c.in_default.ensures.positive c.loop.invariant.3
           (rw next at c.in_ok-more.ensures.read)),
     )
-
-pub returns-in_err-more-clause-stopped : goal.returns-in_err-more-clause-stopped
-returns-in_err-more-clause-stopped g c =
-    let stops = map_stops g.T.ReadSpec.reads g.T.ReadSpec.read_laws c.args.reader.now c.read_line.new.reader _ c.in_err-more.ensures.failed in
-    search (rules, stops)
 
 pub returns-in-Err-clause-stopped : goal.returns-in-Err-clause-stopped
 returns-in-Err-clause-stopped g c =

@@ -23,4 +23,4 @@ returns-clause-positive c = c.loop-word.invariant.1
 pub returns-in_err-add-clause-refused : goal.returns-in_err-add-clause-refused
 returns-in_err-add-clause-refused c =
     let more = words_refused (counted_records c.args.self.now) (counted_records c.loop-word.self) c.args.line.now c.loop-word.rest.now
-        c.in-Some.word.now c.in-Some.behind.now c.loop-word.invariant.0 c.loop-word.invariant.2 c.in-Some.ensures.0 in search (rules, more)
+    c.in-Some.word.now c.in-Some.behind.now c.loop-word.invariant.0 c.loop-word.invariant.2 c.in-Some.ensures.0 in search (rules, more)
