@@ -16,14 +16,13 @@ use Rattle.futures_lite.specs.Own.{MarkLaws, Runs}
 use Rattle.futures_lite.specs.Readers.{ToldStripped, Without}
 use Rattle.example_words.specs.Laws.{counts_append, counts_none, shards_make_whole, total_none}
 use Rattle.example_words.specs.Records.{Counted, TableSoFar, IsTable, counted_records, pending, record_line, record_lines, total_count}
-use Rattle.example_words.specs.Runs.{HasCounted, MapStops, MapsText, ReadsWholeText, ReadsOneLine, ReduceStops, Reduces, StopsAdding, StopsCounting, WritesFlushed, WritesText}
+use Rattle.example_words.specs.Runs.{HasCounted, MapsText, ReadsWholeText, ReadsOneLine, Reduces, StopsAdding}
+use Rattle.example_words.specs.Runs.{StopsCounting, WritesFlushed, WritesText}
 use Rattle.example_words.proofs.Refusals.{refused_by}
-use Rattle.example_words.specs.Refusals.{NamesNoLine, RefusedLine, RefusedWords}
+use Rattle.example_words.specs.Refusals.{RefusedLine, RefusedWords}
 use Rattle.example_words.specs.Words.{WholeLines, occurrences}
 use Rattle.example_words.specs.declared.counts.Counts.{Counts}
 use Rattle.example_words.specs.declared.fault.LineError.{LineError}
-use Rattle.example_words.specs.declared.fault.WordsError.{WordsError}
-use Rattle.example_words.specs.declared.fault.WordsError.TheVariants.{Input, Line, Memory, Output}
 use Rattle.example_words.specs.declared.sum.Sum.{Sum}
 
 module _ {T : Type 0} (reads : Runs ReadMark T) (laws : MarkLaws reads) where

@@ -27,8 +27,9 @@ loop-preserved g c =
       tt,
       c.read_line.ensures.again,
       rw c.saturating_add-number.ensures
-          (counts_line g.T.ReadSpec.reads g.T.ReadSpec.read_laws c.args.reader.now c.loop.reader c.read_line.new.reader c.loop.counts c.add_line.new.self c.loop.number
-          c.read_line.new.line.items (rw c.deref.ensures.value at c.in_default.ensures.counts) c.in_default.ensures.positive c.loop.invariant.3
+          (counts_line g.T.ReadSpec.reads g.T.ReadSpec.read_laws c.args.reader.now c.loop.reader c.read_line.new.reader c.loop.counts
+          c.add_line.new.self c.loop.number c.read_line.new.line.items
+          (rw c.deref.ensures.value at c.in_default.ensures.counts) c.in_default.ensures.positive c.loop.invariant.3
           (rw next at c.in_ok-more.ensures.read)),
     )
 
