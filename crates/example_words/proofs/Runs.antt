@@ -1,23 +1,28 @@
 -- The steps of reading and writing, and how a run ends.
 use Rattle.std.proofs.Common.{◌≡◌, ℕ, ◌+◌, ◌<◌, ◌∙◌, Bool, true, false, inl, inr, List, [], ◌∷◌, ◌++◌, ap, append-nil}
-use Rattle.std.proofs.Common.{append_assoc, arith, length, length-append, map, refl, sym}
+use Rattle.std.proofs.Common.{append_assoc, arith, length, length-append, map, min, refl, rules, sym, ◌-◌, ◌^◌}
 use Rattle.std.proofs.lemmas.Grind.{common_steps, flat_map-append}
 use Rattle.std.proofs.lemmas.List.{map-append}
 use Rattle.std.proofs.lemmas.List.Elements.{All-nil}
+use Rattle.std.proofs.lemmas.List.Sums.{sum_by-append}
 use Rattle.std.specs.Cmp.Lexicographic.{slice_cmp}
 use Rattle.std.specs.List.{All}
 use Rattle.std.specs.List.Sorted.{IsStrictlySortedBy}
 use Rattle.std.specs.Ordering.{nat_cmp}
-use Rattle.std.specs.Prelude.{Err, Ok, OnOk, Result, decimal}
+use Rattle.std.specs.Prelude.{Err, Ok, OnOk, Result, count_by, decimal, nat_eq}
 use Rattle.futures_lite.specs.Laws.Told.{taken_both, told_follow, told_none}
 use Rattle.futures_lite.specs.Marks.{ReadMark, WriteMark, bytes}
 use Rattle.futures_lite.specs.Own.{MarkLaws, Runs}
 use Rattle.futures_lite.specs.Readers.{ToldStripped, Without}
 use Rattle.example_words.specs.Laws.{counts_append, counts_none, shards_make_whole, total_none}
 use Rattle.example_words.specs.Records.{Counted, TableSoFar, IsTable, counted_records, pending, record_line, record_lines, total_count}
-use Rattle.example_words.specs.Runs.{HasCounted, MapsText, ReadsWholeText, ReadsOneLine, Reduces, WritesFlushed, WritesText}
+use Rattle.example_words.specs.Runs.{HasCounted, MapsText, ReadsWholeText, ReadsOneLine, Reduces, StopsAdding}
+use Rattle.example_words.specs.Runs.{StopsCounting, WritesFlushed, WritesText}
+use Rattle.example_words.proofs.Refusals.{refused_by}
+use Rattle.example_words.specs.Refusals.{RefusedLine, RefusedWords}
 use Rattle.example_words.specs.Words.{WholeLines, occurrences}
 use Rattle.example_words.specs.declared.counts.Counts.{Counts}
+use Rattle.example_words.specs.declared.fault.LineError.{LineError}
 use Rattle.example_words.specs.declared.sum.Sum.{Sum}
 
 module _ {T : Type 0} (reads : Runs ReadMark T) (laws : MarkLaws reads) where
@@ -31,11 +36,32 @@ module _ {T : Type 0} (reads : Runs ReadMark T) (laws : MarkLaws reads) where
       rw (map-append ReadMark.byte text line, append_assoc (bytes text) (bytes line) (ReadMark.end ∷ []))
       (told_follow laws x y z (bytes text) (bytes line ++ ReadMark.end ∷ []) h k)
 
+abbrev pub newlines : List ℕ → ℕ
+newlines = count_by (nat_eq 10)
+
+newlines_none : (front : List ℕ) → Without 10 front → newlines front ≡ 0
+newlines_none [] h = refl
+newlines_none (b ∷ front) h = at (newlines_none front h.1) (nat_eq 10 b) refl
+  where
+    at : newlines front ≡ 0 → (t : Bool) → nat_eq 10 b ≡ t → newlines (b ∷ front) ≡ 0
+    at rest true is = absurd (search rules)
+    at rest false is = search rules
+
+newlines_more : (text front : List ℕ) → Without 10 front → newlines (text ++ (front ++ 10 ∷ [])) ≡ newlines text + 1
+newlines_more text front h =
+    let both : newlines (text ++ (front ++ 10 ∷ [])) ≡ newlines text + newlines (front ++ 10 ∷ []) = sum_by-append _ text (front ++ 10 ∷ []) in
+    let last : newlines (front ++ 10 ∷ []) ≡ newlines front + 1 = sum_by-append _ front (10 ∷ []) in
+    both ∙ ap (λ k. newlines text + k) (last ∙ ap (λ k. k + 1) (newlines_none front h))
+
+next_line : (n a b : ℕ) → n ≡ min a (2 ^ 64 - 1) → b ≡ a + 1 → min (n + 1) (2 ^ 64 - 1) ≡ min b (2 ^ 64 - 1)
+next_line n a b h more = omega (arith, h, more)
+
 -- Whole lines were read, and their words are what was counted.
-pub record CountsSoFar {T : Type 0} (reads : Runs ReadMark T) (x : T) (cs : Counts) (y : T) : Type 0 where
+pub record CountsSoFar {T : Type 0} (reads : Runs ReadMark T) (x : T) (cs : Counts) (n : ℕ) (y : T) : Type 0 where
   pub text : List ℕ
   pub told : ToldStripped reads x (bytes text) y
   pub lines : WholeLines text
+  pub numbered : n ≡ min (newlines text) (2 ^ 64 - 1)
   pub positive : All (λ r. 0 < r.1) (counted_records cs)
   pub right : (word : List ℕ) → total_count (counted_records cs) word ≡ occurrences text word
 
@@ -43,27 +69,30 @@ whole_lines : (text line front : List ℕ) → line ≡ front ++ 10 ∷ [] → W
 whole_lines text line front e = inr (text ++ front, rw e (sym (append_assoc text front (10 ∷ []))))
 
 module _ {T : Type 0} (reads : Runs ReadMark T) (laws : MarkLaws reads) where
-  pub counts_start : (x : T) (cs : Counts) → counted_records cs ≡ [] → CountsSoFar reads x cs x
+  pub counts_start : (x : T) (cs : Counts) → counted_records cs ≡ [] → CountsSoFar reads x cs 0 x
   counts_start x cs none = record {
     text = [];
     told = told_none laws x;
     lines = inl refl;
+    numbered = refl;
     positive = rw none (All-nil (λ r. 0 < r.1));
     right = λ word. rw none (total_none word ∙ sym (counts_none word));
   }
 
-  module _ (x y z : T) (cs ds : Counts) (line : List ℕ)
+  module _ (x y z : T) (cs ds : Counts) (n : ℕ) (line : List ℕ)
       (more : (w : List ℕ) → total_count (counted_records ds) w ≡ total_count (counted_records cs) w + occurrences line w)
-      (keeps : All (λ r. 0 < r.1) (counted_records cs) → All (λ r. 0 < r.1) (counted_records ds)) (so_far : CountsSoFar reads x cs y) where
+      (keeps : All (λ r. 0 < r.1) (counted_records cs) → All (λ r. 0 < r.1) (counted_records ds)) (so_far : CountsSoFar reads x cs n y) where
     sums : (w : List ℕ) → total_count (counted_records ds) w ≡ occurrences (so_far.text ++ line) w
     sums w = omega (arith, more w, so_far.right w, counts_append so_far.text line w so_far.lines)
 
     -- One more line.
-    pub counts_line : ReadsOneLine reads y line true z → CountsSoFar reads x ds z
+    pub counts_line : ReadsOneLine reads y line true z → CountsSoFar reads x ds (min (n + 1) (2 ^ 64 - 1)) z
     counts_line read = record {
       text = so_far.text ++ line;
       told = more_told reads laws x y z so_far.text line so_far.told read.0;
-      lines = whole_lines so_far.text line read.1.0 read.1.1;
+      lines = whole_lines so_far.text line read.1.0 read.1.2;
+      numbered = next_line n (newlines so_far.text) (newlines (so_far.text ++ line)) so_far.numbered
+          (rw read.1.2 (newlines_more so_far.text read.1.0 read.1.1));
       positive = keeps so_far.positive;
       right = sums;
     }
@@ -76,6 +105,22 @@ module _ {T : Type 0} (reads : Runs ReadMark T) (laws : MarkLaws reads) where
       positive = keeps so_far.positive;
       right = sums;
     }
+
+  -- A line is refused.
+  pub counts_stop : (x y z : T) (cs : Counts) (n : ℕ) (line : List ℕ) (whole : Bool) (e : LineError) → CountsSoFar reads x cs n y
+      → ReadsOneLine reads y line whole z → RefusedWords (total_count (counted_records cs)) line e
+      → StopsCounting reads x (min (n + 1) (2 ^ 64 - 1)) e z
+  counts_stop x y z cs n line whole e so_far read refused = record {
+    text = so_far.text;
+    line = line;
+    whole = whole;
+    between = y;
+    before = so_far.told;
+    lines = so_far.lines;
+    read = read;
+    numbered = omega (arith, so_far.numbered);
+    refused = refused_by (total_count (counted_records cs)) (occurrences so_far.text) line so_far.right e refused;
+  }
 
   -- The text of the counts was written.
   pub mapped : {O : Type 0} (writes : Runs WriteMark O) (x y : T) (w v : O) (cs : Counts) (text : List ℕ) → HasCounted reads x cs y
@@ -129,21 +174,23 @@ on_ok (Ok x) f h = f h
 on_ok (Err e) f h = tt
 
 -- Records were read, and the lines of those whose sums are known were written.
-pub record SumsSoFar {T O : Type 0} (reads : Runs ReadMark T) (writes : Runs WriteMark O) (x : T) (w : O) (s : Sum) (y : T) (v : O)
+pub record SumsSoFar {T O : Type 0} (reads : Runs ReadMark T) (writes : Runs WriteMark O) (x : T) (w : O) (s : Sum) (n : ℕ) (y : T) (v : O)
     : Type 0 where
   pub records : List Counted
   pub done : List Counted
   pub told : ToldStripped reads x (bytes (record_lines records)) y
   pub holds : TableSoFar done s.word.items s.count records
+  pub numbered : n ≡ min (length records) (2 ^ 64 - 1)
   pub wrote : WritesText writes w (record_lines done) v
 
 module _ {T O : Type 0} (reads : Runs ReadMark T) (writes : Runs WriteMark O) (laws : MarkLaws reads) (rules : MarkLaws writes) where
-  pub sums_start : (x : T) (w : O) (s : Sum) → pending s ≡ [] → SumsSoFar reads writes x w s x w
+  pub sums_start : (x : T) (w : O) (s : Sum) → pending s ≡ [] → SumsSoFar reads writes x w s 0 x w
   sums_start x w s none = record {
     records = [];
     done = [];
     told = told_none laws x;
     holds = (rw none empty_table, λ e. refl);
+    numbered = refl;
     wrote = ([], rules.rests w, refl);
   }
 
@@ -153,29 +200,45 @@ module _ {T O : Type 0} (reads : Runs ReadMark T) (writes : Runs WriteMark O) (l
   line_told y z line r false e read = absurd (without_last (r.0 ++ 9 ∷ decimal r.1) (rw (e, line_ends r) at read.1))
 
   -- One more record.
-  pub sums_line : (x y z : T) (w u v : O) (s t : Sum) (line text : List ℕ) (whole : Bool) (r : Counted) (more : List Counted)
+  pub sums_line : (x y z : T) (w u v : O) (s t : Sum) (n : ℕ) (line text : List ℕ) (whole : Bool) (r : Counted) (more : List Counted)
       → line ≡ record_line r → text ≡ record_lines more
       → ((done read : List Counted) → TableSoFar done s.word.items s.count read → TableSoFar (done ++ more) t.word.items t.count (read ++ r ∷ []))
-      → SumsSoFar reads writes x w s y u → ReadsOneLine reads y line whole z → WritesText writes u text v → SumsSoFar reads writes x w t z v
-  sums_line x y z w u v s t line text whole r more e f step so_far read wrote = record {
+      → SumsSoFar reads writes x w s n y u → ReadsOneLine reads y line whole z → WritesText writes u text v
+      → SumsSoFar reads writes x w t (min (n + 1) (2 ^ 64 - 1)) z v
+  sums_line x y z w u v s t n line text whole r more e f step so_far read wrote = record {
     records = so_far.records ++ r ∷ [];
     done = so_far.done ++ more;
     told = rw (lines_more so_far.records r)
         (more_told reads laws x y z (record_lines so_far.records) (record_line r) so_far.told (line_told y z line r whole e read));
     holds = step so_far.done so_far.records so_far.holds;
+    numbered = omega (arith, so_far.numbered, length-append so_far.records (r ∷ []));
     wrote = rw (lines_both so_far.done more)
         (more_wrote writes rules w u v (record_lines so_far.done) (record_lines more) so_far.wrote (rw f at wrote));
   }
 
+  -- A line is refused.
+  pub sums_stop : (x y z : T) (w u : O) (s : Sum) (n : ℕ) (line : List ℕ) (whole : Bool) (e : LineError) → SumsSoFar reads writes x w s n y u
+      → ReadsOneLine reads y line whole z → RefusedLine s.word.items s.count line e → StopsAdding reads x (min (n + 1) (2 ^ 64 - 1)) e z
+  sums_stop x y z w u s n line whole e so_far read refused = record {
+    records = so_far.records;
+    line = line;
+    whole = whole;
+    between = y;
+    before = so_far.told;
+    read = read;
+    numbered = omega (arith, so_far.numbered);
+    refused = (so_far.done, s.word.items, s.count, so_far.holds, refused);
+  }
+
   end_told : (y z : T) (line : List ℕ) (whole : Bool) → length line ≡ 0 → ReadsOneLine reads y line whole z → ReadsWholeText reads y [] z
-  end_told y z [] true e read = absurd (no_newline read.1.0 read.1.1)
+  end_told y z [] true e read = absurd (no_newline read.1.0 read.1.2)
   end_told y z [] false e read = read.0
   end_told y z (b ∷ line) whole e read = absurd (omega arith)
 
   -- The end of the input.
-  pub sums_end : (x y z : T) (w u v : O) (s : Sum) (line text : List ℕ) (whole : Bool) → length line ≡ 0 → text ≡ record_lines (pending s)
-      → SumsSoFar reads writes x w s y u → ReadsOneLine reads y line whole z → WritesFlushed writes u text v → Reduces reads writes x w z v
-  sums_end x y z w u v s line text whole e f so_far read written = record {
+  pub sums_end : (x y z : T) (w u v : O) (s : Sum) (n : ℕ) (line text : List ℕ) (whole : Bool) → length line ≡ 0 → text ≡ record_lines (pending s)
+      → SumsSoFar reads writes x w s n y u → ReadsOneLine reads y line whole z → WritesFlushed writes u text v → Reduces reads writes x w z v
+  sums_end x y z w u v s n line text whole e f so_far read written = record {
     records = so_far.records;
     table = so_far.done ++ pending s;
     read = rw (append-nil (record_lines so_far.records)) at

@@ -14,7 +14,7 @@ use Rattle.std.specs.Prelude.{if◌then◌else◌}
 use Rattle.std.specs.Str.{bytes_eq}
 use Rattle.std.specs.declared.cmp.Ordering.{Ordering}
 use Rattle.std.specs.declared.cmp.Ordering.TheVariants.{Equal, Greater, Less}
-use Rattle.example_words.specs.Laws.{total_cons}
+use Rattle.example_words.specs.Laws.{absent, present, total_cons, total_none}
 use Rattle.example_words.specs.Records.{Counted, total_count}
 
 -- The records of entries.
@@ -120,3 +120,33 @@ pub words_sorted : (es : List (Vec ℕ × ℕ)) → IsStrictlySortedBy by_items 
 unfolding IsStrictlySortedBy
 words_sorted [] h = tt
 words_sorted (e ∷ es) h = (words_less e.0 es h.0, words_sorted es h.1)
+
+-- A word of a map was counted as often as its value says.
+pub total_found : (word : List ℕ) (es : List (Vec ℕ × ℕ)) (v : ℕ) → IsStrictlySortedBy by_items (map (λ e. e.0) es)
+    → Some v ≡ lookup (at_word word) es → total_count (records_of es) word ≡ v
+unfolding IsStrictlySortedBy
+total_found word [] v sorted found = search rules
+total_found word (e ∷ es) v sorted found = at (total_found word es v sorted.1) (at_word word e.0) refl found
+  where
+    at : (Some v ≡ lookup (at_word word) es → total_count (records_of es) word ≡ v) → (b : Bool) → at_word word e.0 ≡ b
+        → Some v ≡ cond b (Some e.1) (lookup (at_word word) es) → total_count (records_of (e ∷ es)) word ≡ v
+    at rest true is found =
+        let same : word ≡ e.0.items = same_word word e.0 is in
+        let count : e.1 ≡ v = search rules in
+        let none = absent e.0.items (records_of es) (words_less e.0 es sorted.0) in
+        rw same (omega (arith, present (e.0.items, e.1) (records_of es), none, count))
+    at rest false is found =
+        let other : bytes_eq word e.0.items ≡ false = sym (is_eq-slice_cmp word e.0.items) ∙ is in
+        rw (total_cons (e.0.items, e.1) (records_of es) word, other) (omega (arith, rest found))
+
+-- Any other word was not counted.
+pub total_missing : (word : List ℕ) (es : List (Vec ℕ × ℕ)) → lookup (at_word word) es ≡ None → total_count (records_of es) word ≡ 0
+total_missing word [] none = total_none word
+total_missing word (e ∷ es) none = at (total_missing word es) (at_word word e.0) refl none
+  where
+    at : (lookup (at_word word) es ≡ None → total_count (records_of es) word ≡ 0) → (b : Bool) → at_word word e.0 ≡ b
+        → cond b (Some e.1) (lookup (at_word word) es) ≡ None → total_count (records_of (e ∷ es)) word ≡ 0
+    at rest true is none = search rules
+    at rest false is none =
+        let other : bytes_eq word e.0.items ≡ false = sym (is_eq-slice_cmp word e.0.items) ∙ is in
+        rw (total_cons (e.0.items, e.1) (records_of es) word, other) (omega (arith, rest none))

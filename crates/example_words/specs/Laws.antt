@@ -353,11 +353,11 @@ not_same w v less = sym (is_eq-slice_cmp w v) ∙ ap is_eq less
 same_as_itself : (w : List ℕ) → bytes_eq w w ≡ true
 same_as_itself w = (bytes_eq-Decides w w).1 refl
 
-absent : (w : List ℕ) (rs : List Counted) → AllByRecursion (λ y. slice_cmp nat_cmp w y ≡ Less) (map (λ r. r.0) rs) → total_count rs w ≡ 0
+pub absent : (w : List ℕ) (rs : List Counted) → AllByRecursion (λ y. slice_cmp nat_cmp w y ≡ Less) (map (λ r. r.0) rs) → total_count rs w ≡ 0
 absent w [] h = total_none w
 absent w (r ∷ rs) h = rw (total_cons r rs w, not_same w r.0 h.0) (omega (arith, absent w rs h.1))
 
-present : (r : Counted) (rs : List Counted) → total_count (r ∷ rs) r.0 ≡ r.1 + total_count rs r.0
+pub present : (r : Counted) (rs : List Counted) → total_count (r ∷ rs) r.0 ≡ r.1 + total_count rs r.0
 present r rs = rw (total_cons r rs r.0, same_as_itself r.0) refl
 
 rest_total : (x y : Counted) (xs ys : List Counted) (w : List ℕ) → x.0 ≡ y.0 → x.1 ≡ y.1 → total_count (x ∷ xs) w ≡ total_count (y ∷ ys) w

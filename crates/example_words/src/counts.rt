@@ -1,5 +1,5 @@
 //! How often each word was counted.
-ghost use Rattle.std.specs.Prelude.{◌≡◌, ◌+◌, ◌<◌, [], IfOk, List, OnOk, if◌then◌else◌, map, ℕ};
+ghost use Rattle.std.specs.Prelude.{◌≡◌, ◌+◌, ◌<◌, [], IfErr, IfOk, List, OnOk, if◌then◌else◌, map, ℕ};
 ghost use Rattle.std.specs.Cmp.Lexicographic.{slice_cmp};
 ghost use Rattle.std.specs.List.{All};
 ghost use Rattle.std.specs.List.Sorted.{IsStrictlySortedBy};
@@ -7,6 +7,7 @@ ghost use Rattle.std.specs.Ordering.{nat_cmp};
 ghost use Rattle.std.specs.Str.{bytes_eq};
 ghost use Rattle.example_words.specs.Words.{occurrences};
 ghost use Rattle.example_words.specs.Records.{counted_records, record_lines, total_count};
+ghost use Rattle.example_words.specs.Refusals.{RefusedWord, RefusedWords};
 
 use crate::fault::LineError;
 use crate::record::push_record;
@@ -41,6 +42,7 @@ impl Counts {
         ensures counts { OnOk result ((w : List ℕ) →
             total_count (counted_records self.new) w ≡ total_count (counted_records self.old) w + occurrences line.now w) }
         ensures positive { OnOk result (All (λ r. 0 < r.1) (counted_records self.old) → All (λ r. 0 < r.1) (counted_records self.new)) }
+        ensures refused { IfErr result (λ e. RefusedWords (total_count (counted_records self.old)) line.now e) }
     {
         let mut rest = line;
         while let Some((word, behind)) = next_word(rest) {
@@ -55,6 +57,7 @@ impl Counts {
         ensures counts { OnOk result ((w : List ℕ) →
             total_count (counted_records self.new) w ≡ total_count (counted_records self.old) w + (if bytes_eq w word.now then 1 else 0)) }
         ensures positive { OnOk result (All (λ r. 0 < r.1) (counted_records self.old) → All (λ r. 0 < r.1) (counted_records self.new)) }
+        ensures refused { IfErr result (λ e. RefusedWord (total_count (counted_records self.old) word.now) e) }
     {
         if let Some(count) = self.counts.get_mut(word) {
             let Some(more) = count.checked_add(1) else {

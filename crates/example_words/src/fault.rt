@@ -1,4 +1,5 @@
 //! Why the program stops.
+ghost use Rattle.std.specs.Prelude.{◌≡◌};
 ghost use Rattle.example_words.specs.declared.fault.WordsError.TheVariants.{Output};
 ghost use Rattle.programs.specs.Statuses.{WrapsBrokenPipe};
 
@@ -62,12 +63,20 @@ impl ProgramError for WordsError {
 }
 
 impl From<AllocError> for WordsError {
+    ghost use Rattle.example_words.specs.declared.fault.WordsError.TheVariants.{Memory};
+
+    ghost from_gives = { λ _ e. e ≡ Memory };
+
     fn from(_error: AllocError) -> WordsError {
         WordsError::Memory
     }
 }
 
 impl From<AllocError> for LineError {
+    ghost use Rattle.example_words.specs.declared.fault.LineError.TheVariants.{Memory};
+
+    ghost from_gives = { λ _ e. e ≡ Memory };
+
     fn from(_error: AllocError) -> LineError {
         LineError::Memory
     }

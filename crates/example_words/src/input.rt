@@ -1,5 +1,6 @@
 //! Lines of the input.
-ghost use Rattle.std.specs.Prelude.{IfOk};
+ghost use Rattle.std.specs.Prelude.{IfErr, IfOk};
+ghost use Rattle.example_words.specs.Refusals.{NamesNoLine};
 ghost use Rattle.example_words.specs.Runs.{ReadsOneLine};
 
 use crate::fault::WordsError;
@@ -20,6 +21,7 @@ where
     T: AsyncBufRead + CountedRead,
     requires counts { T.ranks.counts reader.old }
     ensures read { IfOk result (λ whole. ReadsOneLine T.reads reader.old line.new.items whole reader.new) }
+    ensures failed { IfErr result (λ e. NamesNoLine e) }
     ensures again { T.ranks.counts reader.new }
 {
     line.clear();

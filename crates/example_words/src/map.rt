@@ -1,6 +1,6 @@
 //! Words become counts.
-ghost use Rattle.std.specs.Prelude.{IfOk};
-ghost use Rattle.example_words.specs.Runs.{HasCounted, MapsText};
+ghost use Rattle.std.specs.Prelude.{IfErr, IfOk};
+ghost use Rattle.example_words.specs.Runs.{HasCounted, MapStops, MapsText};
 
 use crate::counts::Counts;
 use crate::fault::WordsError;
@@ -13,6 +13,10 @@ use std::alloc::AllocGlobal;
 use std::sync::Wait;
 
 /// Reads a text to its end, and writes a line for each word of it, with how often it is there.
+///
+/// # Errors
+///
+/// The input or the output failed, memory was refused, or a count passes 64 bits. The error of a line names the last one read.
 pub fn map<R, T, O>(
     on: &mut BlockOn,
     rt: &R,
@@ -24,7 +28,8 @@ where
     T: AsyncBufRead + CountedRead,
     O: AsyncWrite,
     requires counts { T.ranks.counts reader.old }
-    ensures { IfOk result (λ _. MapsText T.reads O.writes reader.old output.old reader.new output.new) }
+    ensures written { IfOk result (λ _. MapsText T.reads O.writes reader.old output.old reader.new output.new) }
+    ensures stopped { IfErr result (λ e. MapStops T.reads reader.old e reader.new) }
 {
     let counts = count_words(on, rt, reader)?;
     let text = counts.text()?;
@@ -37,7 +42,8 @@ where
     R: Wait + AllocGlobal,
     T: AsyncBufRead + CountedRead,
     requires counts { T.ranks.counts reader.old }
-    ensures { IfOk result (λ counts. HasCounted T.reads reader.old counts reader.new) }
+    ensures counted { IfOk result (λ counts. HasCounted T.reads reader.old counts reader.new) }
+    ensures stopped { IfErr result (λ e. MapStops T.reads reader.old e reader.new) }
 {
     let mut counts = Counts::new(rt.alloc());
     let mut line = Vec::new(rt.alloc());

@@ -1,5 +1,6 @@
 //! Text of the output.
-ghost use Rattle.std.specs.Prelude.{IfOk};
+ghost use Rattle.std.specs.Prelude.{IfErr, IfOk};
+ghost use Rattle.example_words.specs.Refusals.{NamesNoLine};
 ghost use Rattle.example_words.specs.Runs.{WritesText, WritesFlushed};
 
 use crate::fault::WordsError;
@@ -15,7 +16,8 @@ pub fn write<R: Wait, O: AsyncWrite>(
     output: &mut O,
     text: &[u8],
 ) -> Result<(), WordsError>
-    ensures { IfOk result (λ _. WritesText O.writes output.old text.now output.new) }
+    ensures written { IfOk result (λ _. WritesText O.writes output.old text.now output.new) }
+    ensures failed { IfErr result (λ e. NamesNoLine e) }
 {
     match wait_write_all(on, rt, output, text) {
         Ok(Ok(())) => Ok(()),
@@ -31,7 +33,8 @@ pub fn write_last<R: Wait, O: AsyncWrite>(
     output: &mut O,
     text: &[u8],
 ) -> Result<(), WordsError>
-    ensures { IfOk result (λ _. WritesFlushed O.writes output.old text.now output.new) }
+    ensures written { IfOk result (λ _. WritesFlushed O.writes output.old text.now output.new) }
+    ensures failed { IfErr result (λ e. NamesNoLine e) }
 {
     write(on, rt, output, text)?;
     match wait_flush(on, rt, output) {

@@ -1,7 +1,8 @@
 //! Counts become sums.
-ghost use Rattle.std.specs.Prelude.{◌≡◌, ◌∷◌, ◌++◌, ◌<◌, [], IfOk, List, OnOk};
+ghost use Rattle.std.specs.Prelude.{◌≡◌, ◌∷◌, ◌++◌, ◌<◌, [], IfErr, IfOk, List, OnOk};
 ghost use Rattle.example_words.specs.Records.{Counted, TableSoFar, record_line, record_lines};
-ghost use Rattle.example_words.specs.Runs.{Reduces};
+ghost use Rattle.example_words.specs.Refusals.{RefusedLine};
+ghost use Rattle.example_words.specs.Runs.{ReduceStops, Reduces};
 
 use crate::fault::{LineError, WordsError};
 use crate::input::read_line;
@@ -15,6 +16,10 @@ use std::alloc::AllocGlobal;
 use std::sync::Wait;
 
 /// Reads records to the end of the input, sorted by word, and writes a line for each word with the sum of its counts.
+///
+/// # Errors
+///
+/// The input or the output failed, memory was refused, or a line was refused. The error of a line names the last one read.
 pub fn reduce<R, T, O>(
     on: &mut BlockOn,
     rt: &R,
@@ -26,7 +31,8 @@ where
     T: AsyncBufRead + CountedRead,
     O: AsyncWrite,
     requires counts { T.ranks.counts reader.old }
-    ensures { IfOk result (λ _. Reduces T.reads O.writes reader.old output.old reader.new output.new) }
+    ensures written { IfOk result (λ _. Reduces T.reads O.writes reader.old output.old reader.new output.new) }
+    ensures stopped { IfErr result (λ e. ReduceStops T.reads reader.old e reader.new) }
 {
     let mut sum = Sum::new(rt.alloc());
     let mut line = Vec::new(rt.alloc());
@@ -50,9 +56,10 @@ where
 
 // Adds the record of a line to the sum. If it begins another word, the line of the word before is appended to `text`.
 fn add_line(sum: &mut Sum, line: &[u8], text: &mut Vec<u8>) -> Result<(), LineError>
-    ensures { OnOk result ((r : Counted) × (line.now ≡ record_line r) × (more : List Counted)
+    ensures added { OnOk result ((r : Counted) × (line.now ≡ record_line r) × (more : List Counted)
         × (text.new.items ≡ text.old.items ++ record_lines more) × ((done read : List Counted)
         → TableSoFar done sum.old.word.items sum.old.count read → TableSoFar (done ++ more) sum.new.word.items sum.new.count (read ++ r ∷ []))) }
+    ensures refused { IfErr result (λ e. RefusedLine sum.old.word.items sum.old.count line.now e) }
 {
     sum.add(parse_record(line)?, text)
 }

@@ -1,5 +1,5 @@
 use Rattle.std.proofs.Common.{◌≡◌, false, rules, true}
-use Rattle.example_words.proofs.Runs.{counts_last, counts_line, counts_start}
+use Rattle.example_words.proofs.Runs.{counts_last, counts_line, counts_start, counts_stop}
 use Rattle.example_words.proofs.map.count_words.Goals as goal
 
 pub loop-init : goal.loop-init
@@ -13,10 +13,10 @@ loop-init g c = (
 pub read_line-requires : goal.read_line-requires
 read_line-requires g c = record { counts = c.loop.invariant.2 }
 
-pub returns-then-not-more : goal.returns-then-not-more
-returns-then-not-more g c =
+pub returns-then-not-more-clause-counted : goal.returns-then-not-more-clause-counted
+returns-then-not-more-clause-counted g c =
     let last : c.in_ok-more.more ≡ false = search rules in
-    counts_last g.T.ReadSpec.reads g.T.ReadSpec.read_laws c.args.reader.now c.loop.reader c.read_line.new.reader c.loop.counts c.add_line.new.self
+    counts_last g.T.ReadSpec.reads g.T.ReadSpec.read_laws c.args.reader.now c.loop.reader c.read_line.new.reader c.loop.counts c.add_line.new.self c.loop.number
     c.read_line.new.line.items (rw c.deref.ensures.value at c.in_default.ensures.counts) c.in_default.ensures.positive c.loop.invariant.3
     (rw last at c.in_ok-more.ensures.read)
 
@@ -26,7 +26,16 @@ loop-preserved g c =
       tt,
       tt,
       c.read_line.ensures.again,
-      counts_line g.T.ReadSpec.reads g.T.ReadSpec.read_laws c.args.reader.now c.loop.reader c.read_line.new.reader c.loop.counts c.add_line.new.self
-          c.read_line.new.line.items (rw c.deref.ensures.value at c.in_default.ensures.counts) c.in_default.ensures.positive c.loop.invariant.3
-          (rw next at c.in_ok-more.ensures.read),
+      rw c.saturating_add-number.ensures
+          (counts_line g.T.ReadSpec.reads g.T.ReadSpec.read_laws c.args.reader.now c.loop.reader c.read_line.new.reader c.loop.counts
+          c.add_line.new.self c.loop.number c.read_line.new.line.items
+          (rw c.deref.ensures.value at c.in_default.ensures.counts) c.in_default.ensures.positive c.loop.invariant.3
+          (rw next at c.in_ok-more.ensures.read)),
     )
+
+pub returns-in-Err-clause-stopped : goal.returns-in-Err-clause-stopped
+returns-in-Err-clause-stopped g c =
+    rw c.saturating_add-number.ensures
+    (counts_stop g.T.ReadSpec.reads g.T.ReadSpec.read_laws c.args.reader.now c.loop.reader c.read_line.new.reader c.loop.counts c.loop.number
+    c.read_line.new.line.items c.in_ok-more.more c.in-Err.e c.loop.invariant.3 c.in_ok-more.ensures.read
+    (rw c.deref.ensures.value at c.in-Err.ensures.refused))

@@ -1,8 +1,8 @@
 use Rattle.example_words.proofs.Runs.{on_ok}
 use Rattle.example_words.proofs.reduce.add_line.Goals as goal
 
-pub returns : goal.returns
-returns c =
+pub returns-clause-added : goal.returns-clause-added
+returns-clause-added c =
     on_ok c.add.result
     (λ h. (
       (c.in_ok-parse_record.field-0.word.now, c.in_ok-parse_record.field-0.count),
@@ -11,4 +11,4 @@ returns c =
       h.1,
       λ done read holds. h.2 done read c.in_ok-parse_record.ensures.positive holds,
     ))
-    c.add.ensures
+    c.add.ensures.added

@@ -1,6 +1,6 @@
 use Rattle.std.proofs.Common.{◌≡◌, ◌++◌, ◌∙◌, ap, length, rules, sym}
 use Rattle.example_words.specs.Records.{pending, record_lines}
-use Rattle.example_words.proofs.Runs.{on_ok, sums_end, sums_line, sums_start}
+use Rattle.example_words.proofs.Runs.{on_ok, sums_end, sums_line, sums_start, sums_stop}
 use Rattle.example_words.proofs.reduce.reduce.Goals as goal
 
 pub loop-init : goal.loop-init
@@ -15,26 +15,35 @@ loop-init g c = (
 pub read_line-requires : goal.read_line-requires
 read_line-requires g c = record { counts = c.loop.invariant.2 }
 
-pub returns-then-is_empty : goal.returns-then-is_empty
-returns-then-is_empty g c =
+pub returns-then-is_empty-clause-written : goal.returns-then-is_empty-clause-written
+returns-then-is_empty-clause-written g c =
     let none : length c.read_line.new.line.items ≡ 0 = search rules in
     let text = c.deref.ensures.value ∙ c.in_ok-finish.ensures ∙ ap (λ k. k ++ record_lines (pending c.loop.sum)) c.clear.ensures.items in
     on_ok c.write_last.result
     (λ h. sums_end g.T.ReadSpec.reads g.O.WriteSpec.writes g.T.ReadSpec.read_laws g.O.WriteSpec.write_laws c.args.reader.now c.loop.reader
-    c.read_line.new.reader c.args.output.now c.loop.output c.write_last.new.output c.loop.sum c.read_line.new.line.items
+    c.read_line.new.reader c.args.output.now c.loop.output c.write_last.new.output c.loop.sum c.loop.number c.read_line.new.line.items
     c.deref.result.now c.in_ok-read_line.field-0 none text c.loop.invariant.3 c.in_ok-read_line.ensures.read h)
-    c.write_last.ensures
+    c.write_last.ensures.written
 
 pub loop-preserved : goal.loop-preserved
 loop-preserved g c =
-    let added = c.in_default.ensures in
+    let added = c.in_default.ensures.added in
     let line = sym c.deref-in-loop.ensures.value ∙ added.1 in
     let text = c.deref-in-loop-2.ensures.value ∙ added.3 ∙ ap (λ k. k ++ record_lines added.2) c.clear.ensures.items in (
       tt,
       tt,
       c.read_line.ensures.again,
-      sums_line g.T.ReadSpec.reads g.O.WriteSpec.writes g.T.ReadSpec.read_laws g.O.WriteSpec.write_laws c.args.reader.now c.loop.reader
-          c.read_line.new.reader c.args.output.now c.loop.output c.write.new.output c.loop.sum c.add_line.new.sum c.read_line.new.line.items
+      rw c.saturating_add-number.ensures
+          (sums_line g.T.ReadSpec.reads g.O.WriteSpec.writes g.T.ReadSpec.read_laws g.O.WriteSpec.write_laws c.args.reader.now c.loop.reader
+          c.read_line.new.reader c.args.output.now c.loop.output c.write.new.output c.loop.sum c.add_line.new.sum c.loop.number c.read_line.new.line.items
           c.deref-in-loop-2.result.now c.in_ok-read_line.field-0 added.0 added.2 line text added.4 c.loop.invariant.3
-          c.in_ok-read_line.ensures.read c.in_ok-write.ensures,
+          c.in_ok-read_line.ensures.read c.in_ok-write.ensures.written),
     )
+
+pub returns-in-Err-clause-stopped : goal.returns-in-Err-clause-stopped
+returns-in-Err-clause-stopped g c =
+    let line = c.deref-in-loop.ensures.value in
+    rw c.saturating_add-number.ensures
+    (sums_stop g.T.ReadSpec.reads g.O.WriteSpec.writes g.T.ReadSpec.read_laws g.O.WriteSpec.write_laws c.args.reader.now c.loop.reader
+    c.read_line.new.reader c.args.output.now c.loop.output c.loop.sum c.loop.number c.read_line.new.line.items c.in_ok-read_line.field-0
+    c.in-Err.e c.loop.invariant.3 c.in_ok-read_line.ensures.read (rw line at c.in-Err.ensures.refused))

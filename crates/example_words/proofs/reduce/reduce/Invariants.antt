@@ -5,4 +5,4 @@ abbrev pub invariant-loop : goal.invariant-loop
 invariant-loop g l =
     (goal.iterator-loop g).can_next l.iterator' × (goal.iterator-loop g).is_finite l.iterator'
     × g.T.CountedRead.ranks.counts l.reader
-    × SumsSoFar g.T.ReadSpec.reads g.O.WriteSpec.writes l.fn.reader l.fn.output l.sum l.reader l.output
+    × SumsSoFar g.T.ReadSpec.reads g.O.WriteSpec.writes l.fn.reader l.fn.output l.sum l.number l.reader l.output

@@ -1,7 +1,6 @@
-use Rattle.std.proofs.Common.{rules}
-use Rattle.std.proofs.Common.{◌≡◌, None}
+use Rattle.std.proofs.Common.{◌≡◌, None, arith, rules, sym}
 use Rattle.std.specs.BTreeMap.{get_by}
-use Rattle.example_words.proofs.Tables.{by_items, positive_insert, positive_set, total_insert, total_set}
+use Rattle.example_words.proofs.Tables.{by_items, positive_insert, positive_set, total_found, total_insert, total_missing, total_set}
 use Rattle.example_words.proofs.counts.Counts.add.Goals as goal
 use Rattle.example_words.proofs.counts.Counts.add.Goals.{in-Err, in-Ok}
 
@@ -31,3 +30,18 @@ returns-clause-positive c =
           (λ h. positive_insert c.in_ok-key.key c.args.self.now.counts.entries h)
       | in-Err w ↦ rw w.result-is tt
     ]
+
+pub returns-in_default-checked_add-clause-refused : goal.returns-in_default-checked_add-clause-refused
+returns-in_default-checked_add-clause-refused c =
+    let total = total_found c.args.word.now c.args.self.now.counts.entries c.in-Some.count.now c.get_mut.ensures.ordered c.in-Some.ensures.value in
+    omega (arith, total, c.in_default-checked_add.ensures)
+
+pub returns-in_err-key-clause-refused : goal.returns-in_err-key-clause-refused
+returns-in_err-key-clause-refused c =
+    let none = total_missing c.args.word.now c.args.self.now.counts.entries (sym c.in_default.ensures.value) in search (rules, none)
+
+pub returns-clause-refused : goal.returns-clause-refused
+returns-clause-refused c = elim c.match-insert.branch [
+  | in-Ok w ↦ rw w.result-is tt
+  | in-Err w ↦ rw w.result-is (total_missing c.args.word.now c.args.self.now.counts.entries (sym c.in_default.ensures.value))
+]

@@ -6,8 +6,8 @@ use Rattle.example_words.specs.Laws.{holds_first, holds_next, holds_same, words_
 use Rattle.example_words.proofs.sum.Sum.add.Goals as goal
 use Rattle.example_words.proofs.sum.Sum.add.Goals.{else-self-gt0, then-self-gt0+in-Greater+in_ok-push_record-in-Greater}
 
-pub returns-in-Equal : goal.returns-in-Equal
-returns-in-Equal c =
+pub returns-in-Equal-clause-added : goal.returns-in-Equal-clause-added
+returns-in-Equal-clause-added c =
     let is : slice_cmp nat_cmp c.args.next.word.now c.args.self.now.word.items ≡ Equal = search rules in
     let same = words_equal c.args.next.word.now c.args.self.now.word.items is in (
       [],
@@ -16,8 +16,13 @@ returns-in-Equal c =
           (holds_same done read c.args.self.now.word.items c.args.self.now.count c.args.next.count c.if-self-gt0.true h),
     )
 
-pub returns : goal.returns
-returns c =
+pub returns-in_default-clause-refused : goal.returns-in_default-clause-refused
+returns-in_default-clause-refused c =
+    let is : slice_cmp nat_cmp c.args.next.word.now c.args.self.now.word.items ≡ Equal = search rules in
+    (words_equal c.args.next.word.now c.args.self.now.word.items is, omega (arith, c.in_default.ensures))
+
+pub returns-clause-added : goal.returns-clause-added
+returns-clause-added c =
     let word : c.extend_from_slice.new.self.items ≡ c.args.next.word.now =
     c.in_ok-extend_from_slice.ensures.items ∙ ap (λ k. k ++ c.args.next.word.now) c.clear.ensures.items in
     elim c.if-self-gt0.branch [
