@@ -32,10 +32,11 @@ def beginning(form, longer):
 class Names:
     """How the names of the new call are made of those of the old one."""
 
-    def __init__(self, old, new, calls):
+    def __init__(self, old, new, calls, others=()):
+        """`calls` are all calls that are there, and `others` the definitions of other files."""
         self.new, self.renamed = new, {}
         self.forms = {make(old): make(new) for make in FORMS}
-        longer = {make(it) for it in calls for make in FORMS} - {*self.forms}
+        longer = {*others, *(make(it) for it in calls for make in FORMS)} - {*self.forms}
         self.old = re.compile("|".join(beginning(it, longer) for it in sorted(self.forms, key=len, reverse=True)))
 
     def rename(self, text):
