@@ -45,8 +45,29 @@ NO_ROW = {
     TABLES: {"block_on", "iter_array", "iter_range", "iter_slice", "iter_vec", "race_with_seed"},
 }
 
+# Types without a property of their kind. A new type that lacks one is to be named here, so that none is forgotten.
+WITHOUT = {
+    # A loop over them may never end, or their rank would be that of a type that is not known.
+    "Counted": "Cloned Cycle Lines PollFn Repeat RepeatWith Split TryUnfold Unfold",
+    # The same of the `Ok` items; and these yield no `Result`s.
+    "OkCounted": "Cycle Enumerate PollFn Repeat RepeatWith TryUnfold Unfold Zip",
+    "CountedRead": "AssertAsync Box Journal JournalReadHalf ReadHalf Repeat",
+    # Their results depend on when a source was pending, or on another thread, or nothing is known of them.
+    "SteadyStream": "Cycle Drain Or Race StopAfterFuture",
+    "SteadyFuture": "FillBuf Or PollLimited PollOnce Race ReadFuture ReadVectoredFuture SeekFuture TryZip WriteFuture WriteVectoredFuture",
+    "SteadyRead": "Box JournalReadHalf ReadHalf",
+    "SteadyWrite": "Box JournalWriteHalf WriteHalf",
+    # They return a `Pending` of their own, or that of a lock or of another thread, or nothing is known of them.
+    "CalmStream": "Budgeted Bytes Pending",
+    "CalmFuture": "Fuse Pending SeekFuture",
+    "CalmRead": "Box Budgeted JournalReadHalf ReadHalf",
+    "CalmWrite": "Box JournalWriteHalf WriteHalf",
+}
+
 # An arm of the program replay that knows words.
 ARM = re.compile(r'^\s*((?:"\w+"\s*\|?\s*)+)(?:if .*)?=>', re.M)
+# The first line of a public item.
+PUBLIC = re.compile(r"pub (?:const )?(?:fn|struct|enum|trait|type) \w")
 # The impl of a type that is polled, or reads or writes; and the sources with one that have no wrong body, since they only hand calls on.
 NO_BODY = {"lite_consume/src/lent.rt"}
 POLLED = re.compile(r"^impl\b[^{;]*? (?:Stream|PollSteps|Future|Folder|Async(?:Read|BufRead|Write|Seek))(?: for|<)", re.M)
@@ -133,6 +154,26 @@ def properties_met(kinds):
                 yield MARKS_MET, f"no contract has of the future of `{name}` a member {members}"
 
 
+def properties_had(kinds):
+    """Each public type of the library has each property of its kind, or is known to lack it."""
+    for types, properties in kinds.values():
+        for trait in properties:
+            names = {name.partition("<")[0].lstrip("&"): has for name, has in types.items()}
+            there = {name for name, has in names.items() if trait in has}
+            yield from lacking("crates", set(names), there, set(WITHOUT[trait].split()), f"there is no `{trait}` of")
+
+
+def documented():
+    """Each public item of the library has a doc comment."""
+    for crate in with_below(crates_in(TOP), [FACADE, *BESIDE]):
+        for file in files_of(f"{TOP}/crates/{crate}/src"):
+            lines = [it.strip() for it in read_text(f"{TOP}/crates/{crate}/src/{file}").split("\n")]
+            for at, line in enumerate(lines):
+                above = next((it for it in reversed(lines[:at]) if not it.startswith("#[")), "")
+                if PUBLIC.match(line) and not above.startswith("///"):
+                    yield f"crates/{crate}/src/{file}", f"there is no doc comment above `{line}`"
+
+
 def names_called_in(places):
     """Returns the names of what these sources, and those in these folders, call. (A call is told by its name alone.)"""
     files = [it for place in places for it in ([place] if place.endswith(".rs") else (f"{place}/{file}" for file in files_of(f"{TOP}/{place}")))]
@@ -216,6 +257,9 @@ def measured():
     cases, rows_of = words_known(f"{THROUGHPUT}/src/*.rs"), {it.case for it in speed.rows() if it.last}
     of_both = cases - (names - originals.names())
     yield from lacking(f"{THROUGHPUT}/original", of_both, of_both & words_known(f"{THROUGHPUT}/original/src/*.rs"), set(), "there is no case")
+    text = "".join(read_text(it) for it in glob.glob(f"{TOP}/{THROUGHPUT}/src/*.rs"))
+    checked = {it for it in cases_measured() if text.count(f'"{it}"') > 1}
+    yield from lacking(f"{THROUGHPUT}/src", cases_measured(), checked, set(), "the check has no number of the case")
     yield from lacking(f"{THROUGHPUT}/measured.txt", cases_measured(), cases_measured() & rows_of, set(), "there is no row of")
 
 
