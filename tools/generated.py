@@ -20,8 +20,18 @@ from words import WRITTEN
 # The folders in which every file is generated.
 WHOLE = ("docs/api", "docs/pictures", *(f"crates/{it}/src" for it in dict.fromkeys(examples.PROVED.values())))
 
+# The list of crates; the count of functions that may wait in a line of it; and such a function.
+CRATES, COUNT, WAITS = "crates.txt", r"(?m)^({} may_wait=)\d+", re.compile(r"\bfn \w+<[^{]*\bWait\b")
 # A line of an index of modules.
 MODULE = re.compile(r"^(?:pub )?mod (\w+)\n", re.M)
+
+
+def with_waits(crates, proofs):
+    """Returns the list of crates in which each crate of examples has the count of its functions that may wait."""
+    for name in dict.fromkeys(examples.PROVED.values()):
+        count = sum(len(WAITS.findall(text)) for file, text in proofs.items() if file.startswith(f"{name}/"))
+        crates = re.sub(COUNT.format(name), rf"\g<1>{count}", crates)
+    return crates
 
 
 def indexed(index, modules):
@@ -51,8 +61,10 @@ def files():
     yield speed.PLOT, speed.plot()
     yield pictures.FILE, pictures.by_item()[pictures.SHOWN].svg()
     yield original_examples.PAGE, original_examples.page()
-    for file, text in examples.proofs().items():
+    proofs = examples.proofs()
+    for file, text in proofs.items():
         yield f"crates/{file}", text
+    yield CRATES, with_waits(read_text(f"{TOP}/{CRATES}"), proofs)
     yield adapters.FAMILIES, adapters.with_families(read_text(f"{TOP}/{adapters.FAMILIES}"), adapters.relations())
     for page, parts in ((adapters.NESTS, adapters.lists()), (adapters.GUIDE, adapters.families())):
         yield page, markers.filled(read_text(f"{TOP}/{page}"), parts)
