@@ -73,7 +73,7 @@ def files():
         originals.PAGE: {**originals.tables(), **originals.added()},
         properties.PAGE: properties.tables(),
         vocabulary.PAGE: vocabulary.list_of_calls(),
-        speed.PAGE: {"speed": speed.table()},
+        speed.PAGE: {"speed": speed.table(), "large": speed.large_table()},
         lookup.EXAMPLE_PAGE: {"find": lookup.example()},
     }
     for page, parts in parts_of.items():

@@ -93,7 +93,7 @@ def large_table():
         case, size, *told = line.split()
         seconds, megabytes = told[::2], told[1::2]
         peaks = [megabytes[it] for it in (0, 1, 3)]
-        lines.append(f"| `{case}` | {int(size):,} | " + " | ".join("-" if float(it) == 0 else it for it in (*seconds, *peaks)) + " |")
+        lines.append(f"| `{case}` | {int(size):,} | " + " | ".join("-" if it == "0" else it for it in (*seconds, *peaks)) + " |")
     return "\n\n" + LARGE_HEAD + "\n".join(lines) + "\n\n"
 
 

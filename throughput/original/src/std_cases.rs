@@ -3,6 +3,7 @@
 use crate::bytes::noise;
 use crate::texts::{repeated, text};
 use crate::LETTERS;
+use std::hint::black_box;
 use std::io::{self, BufRead, BufReader, Cursor, Read, Write};
 
 /// What the case of this name computes at size `n`.
@@ -65,7 +66,9 @@ fn copy(n: u64) -> u64 {
 fn read_to_end(n: u64) -> u64 {
     let bytes = noise(n);
     let mut read = Vec::new();
-    Cursor::new(bytes.as_slice()).read_to_end(&mut read).unwrap_or(0) as u64
+    let count = Cursor::new(bytes.as_slice()).read_to_end(&mut read).unwrap_or(0);
+    black_box(read);
+    count as u64
 }
 
 /// So many bytes of text, that are checked to be UTF-8.
@@ -73,5 +76,7 @@ fn read_to_end(n: u64) -> u64 {
 fn read_to_string(n: u64) -> u64 {
     let bytes = repeated(LETTERS, n / 16);
     let mut text = String::new();
-    Cursor::new(bytes.as_slice()).read_to_string(&mut text).unwrap_or(0) as u64
+    let count = Cursor::new(bytes.as_slice()).read_to_string(&mut text).unwrap_or(0);
+    black_box(text);
+    count as u64
 }
