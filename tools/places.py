@@ -68,6 +68,11 @@ WITHOUT = {
 ARM = re.compile(r'^\s*((?:"\w+"\s*\|?\s*)+)(?:if .*)?=>', re.M)
 # The first line of a public item.
 PUBLIC = re.compile(r"pub (?:const )?(?:fn|struct|enum|trait|type) \w")
+# Functions of the facade for which no other body has the type that they return.
+NO_OTHER_BODY = {
+    *("future::block_on", "io::AsyncBufReadExt::fill_buf", "io::AsyncReadExt::chain"),
+    *("stream::empty", "stream::StreamExt::drain", "stream::StreamExt::for_each"),
+}
 # The impl of a type that is polled, or reads or writes; and the sources with one that have no wrong body, since they only hand calls on.
 NO_BODY = {"lite_consume/src/lent.rt"}
 POLLED = re.compile(r"^impl\b[^{;]*? (?:Stream|PollSteps|Future|Folder|Async(?:Read|BufRead|Write|Seek))(?: for|<)", re.M)
@@ -223,7 +228,10 @@ def blocking(streams):
 
 
 def turned():
-    """Each source of the library with a type that is polled, or reads or writes, has a wrong body."""
+    """Each source of the library with a type that is polled, or reads or writes, has a wrong body, and so has each function of the facade."""
+    every = {f"{module}::{it.title}" for module, of_module in functions().items() for it in of_module if it.path.startswith(f"crates/{FACADE}/")}
+    there = every & {it.function for it in Bodies(FACADE).edits}
+    yield from lacking(f"{BODIES}/{FACADE}.txt", every, there, NO_OTHER_BODY, "no wrong body is of")
     crates = crates_in(TOP)
     for crate in with_below(crates, [FACADE, *BESIDE]):
         turned_there = {file for edit in Bodies(crate).edits for file, _, _ in edit.changes()}
