@@ -49,7 +49,7 @@ NO_ROW = {
 WITHOUT = {
     # A loop over them may never end, or their rank would be that of a type that is not known.
     "Counted": "Cloned Cycle Lines PollFn Repeat RepeatWith Split TryUnfold Unfold",
-    # The same of the `Ok` items; and these yield no `Result`s.
+    # The same of the `Ok` items. `Enumerate` and `Zip` yield no `Result`s.
     "OkCounted": "Cycle Enumerate PollFn Repeat RepeatWith TryUnfold Unfold Zip",
     "CountedRead": "AssertAsync Box Journal JournalReadHalf ReadHalf Repeat",
     # Their results depend on when a source was pending, or on another thread, or nothing is known of them.
@@ -68,7 +68,7 @@ WITHOUT = {
 ARM = re.compile(r'^\s*((?:"\w+"\s*\|?\s*)+)(?:if .*)?=>', re.M)
 # The first line of a public item.
 PUBLIC = re.compile(r"pub (?:const )?(?:fn|struct|enum|trait|type) \w")
-# Functions of the facade for which no other body has the type that they return.
+# Functions of the facade whose type no other body has, but one that says that memory was refused.
 NO_OTHER_BODY = {
     *("future::block_on", "io::AsyncBufReadExt::fill_buf", "io::AsyncReadExt::chain"),
     *("stream::empty", "stream::StreamExt::drain", "stream::StreamExt::for_each"),
@@ -163,9 +163,10 @@ def properties_had(kinds):
     """Each public type of the library has each property of its kind, or is known to lack it."""
     for types, properties in kinds.values():
         for trait in properties:
-            names = {name.partition("<")[0].lstrip("&"): has for name, has in types.items()}
-            there = {name for name, has in names.items() if trait in has}
-            yield from lacking("crates", set(names), there, set(WITHOUT[trait].split()), f"there is no `{trait}` of")
+            # (a type stands once for each argument that its impls name)
+            every = {name.partition("<")[0].lstrip("&") for name in types}
+            lacks = {name.partition("<")[0].lstrip("&") for name, has in types.items() if trait not in has}
+            yield from lacking("crates", every, every - lacks, set(WITHOUT[trait].split()), f"there is no `{trait}` of")
 
 
 def documented():
