@@ -2,6 +2,7 @@
 import functools
 import glob
 import re
+import subprocess
 
 import originals
 import pictures
@@ -73,9 +74,17 @@ NO_OTHER_BODY = {
     *("future::block_on", "io::AsyncBufReadExt::fill_buf", "io::AsyncReadExt::chain"),
     *("stream::empty", "stream::StreamExt::drain", "stream::StreamExt::for_each"),
 }
-# The impl of a type that is polled, or reads or writes; and the sources with one that have no wrong body, since they only hand calls on.
+# Functions whose results no clause tells (docs/PROVED.md says what is known of them), and adapters that hand on the stream itself at an error.
+NO_CONTRACT, NO_PARTS = {"future::BlockOn::new", "future::BlockOn::waits", "io::NewCounters::new", "io::split"}, {"StreamExt::cycle", "StreamExt::drain"}
+# Calls whose items their example does not prove: a lemma of lists would have to.
+NO_PROVED_EXAMPLE = {"StreamExt::flatten", "script", "try_unfold", "unfold"}
+# What a contract of properties asks of closures, and the source that shows that such closures are there.
+OF_CLOSURES, CONDITIONS = re.compile(r"requires \w+ \{[^{]*(?:Agree|\.FnMut)"), "conditions.rt"
+# An item of a source, by its name; and the page that names what is new since the file last changed that has the number.
+ITEM, CHANGES, NUMBER = r"(fn|struct|enum|trait|type) \w+", "CHANGELOG.md", "VERSION"
+# The impl of a type that is polled, reads, writes, decodes or encodes; and the sources with one that have no wrong body, since they only hand calls on.
 NO_BODY = {"lite_consume/src/lent.rt"}
-POLLED = re.compile(r"^impl\b[^{;]*? (?:Stream|PollSteps|Future|Folder|Async(?:Read|BufRead|Write|Seek))(?: for|<)", re.M)
+POLLED = re.compile(r"^impl\b[^{;]*? (?:Stream|PollSteps|Future|Folder|Decoder|Encoder|Async(?:Read|BufRead|Write|Seek))(?:<[^{;]*>)?(?: for|<)", re.M)
 # Functions that no case of the measured program calls, by their names.
 NO_CASE = {
     # They return, lend or set a part of a value, or tell its state.
@@ -95,10 +104,16 @@ NO_CASE = {
 
 
 @functools.cache
+def items():
+    """Returns the public items of each module."""
+    every = Sources()
+    return {module: list(every.items_of(module).values()) for module in MODULES}
+
+
+@functools.cache
 def functions():
     """Returns the public functions of each module."""
-    every = Sources()
-    return {module: [it for it in every.items_of(module).values() if it.kind == "fn"] for module in MODULES}
+    return {module: [it for it in of_module if it.kind == "fn"] for module, of_module in items().items()}
 
 
 def calls_of_streams():
@@ -157,6 +172,50 @@ def properties_met(kinds):
         for members in ("alike", "needs_none|ample"):
             if not re.search(rf"<(?:Consume<\w+, {name}\b|{name}Future<)[^⟧]* as SteadyFuture>⟧\.(?:{members})\b", text):
                 yield MARKS_MET, f"no contract has of the future of `{name}` a member {members}"
+
+
+def contracts(streams):
+    """Each public function has a contract, and each adapter a clause on its parts. The example of each call with a clause on its items has one, too."""
+    every = {f"{module}::{it.title}": it for module, of_module in functions().items() for it in of_module if not it.does_nothing}
+    yield from lacking("crates", set(every), {title for title, it in every.items() if it.asks or it.gives}, NO_CONTRACT, "there is no contract of")
+    calls = {it.title: it for it in calls_of_streams()}
+    with_parts, with_lists = ({title for title, it in calls.items() if any(clause.startswith(f"ensures {name} ") for clause in it.gives)} for name in ("parts", "lists"))
+    yield from lacking("crates", adapters(streams), with_parts, NO_PARTS, "there is no clause `parts` of")
+    proved = {title for title, it in calls.items() if any("ensures" in example for example in it.examples)}
+    yield from lacking("crates", with_lists, proved, NO_PROVED_EXAMPLE, "no clause is in the example of")
+
+
+def words_importable():
+    """A program can import each definition that a contract of the facade names."""
+    words = {(it.crate, it.module, it.name): it for crate in vocabulary.libraries() for it in vocabulary.definitions(crate)}
+    for path in sorted({it.path for of_module in functions().values() for it in of_module if it.path.startswith(f"crates/{FACADE}/")}):
+        where = vocabulary.imported(read_text(f"{TOP}/{path}"))
+        said = " ".join(clause for of_module in functions().values() for it in of_module if it.path == path for clause in it.asks + it.gives)
+        for place in sorted(set(vocabulary.cited(said, where))):
+            if place in words and not vocabulary.module_for_programs(words[place]):
+                yield f"crates/{FACADE}/specs", f"no module passes on `{place[2]}` of {words[place].path}, which a contract in {path} names"
+
+
+def conditions():
+    """What a contract of properties asks of closures is met by closures that catch nothing."""
+    there = names_called_in([f"{MARKS_MET}/src"])
+    for file in sorted(glob.glob(f"{TOP}/{MARKS_MET}/src/*.rt")):
+        for name, said in re.findall(r"^pub fn (\w+)(.*?)^\{", read_text(file), re.M | re.S):
+            if OF_CLOSURES.search(said) and name not in there:
+                yield f"{MARKS_MET}/src/{CONDITIONS}", f"nothing calls `{name}`, which asks something of closures"
+
+
+def at_hand(*words):
+    """Returns what git prints, or nothing where there is no history."""
+    return subprocess.run(["git", "-C", TOP, *words], capture_output=True, encoding="utf-8", check=False).stdout
+
+
+def new_names_told():
+    """Each public item that was not there when the number of the version changed is named on the page of changes. Without the history none is missed."""
+    since = at_hand("log", "-1", "--format=%H", "--", NUMBER).strip()
+    then = {it.split()[-1] for it in at_hand("grep", "-hoE", ITEM, since, "--", "crates/*/src/*.rt").splitlines()} if since else set()
+    new = {it.name for of_module in items().values() for it in of_module} - then if then else set()
+    yield from lacking(CHANGES, new, new & set(re.findall(r"\w+", read_text(f"{TOP}/{CHANGES}"))), set(), "it does not name the new")
 
 
 def properties_had(kinds):
@@ -229,7 +288,7 @@ def blocking(streams):
 
 
 def turned():
-    """Each source of the library with a type that is polled, or reads or writes, has a wrong body, and so has each function of the facade."""
+    """Each source of the library with a type that is polled, reads, writes, decodes or encodes has a wrong body, and so has each function of the facade."""
     every = {f"{module}::{it.title}" for module, of_module in functions().items() for it in of_module if it.path.startswith(f"crates/{FACADE}/")}
     there = every & {it.function for it in Bodies(FACADE).edits}
     yield from lacking(f"{BODIES}/{FACADE}.txt", every, there, NO_OTHER_BODY, "no wrong body is of")

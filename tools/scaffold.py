@@ -8,6 +8,8 @@ DEFINITION = re.compile(r"^(?:abbrev |unfoldable )*pub ([\w-]+) :", re.M)
 USE = re.compile(r"^((?:pub |ghost )*use [^;{]*)(?:\{([^}]*)\})?.*(?:;|$)\n?", re.M)
 # A parameter; what belongs to the line before although it has the same indent, and what belongs to the line behind.
 PARAMETER = re.compile(r"\w+: ")
+# What stands behind the head of a line: of a binding, an arm or a loop.
+BEHIND_HEAD = re.compile(r" (?:=>?|in) ")
 GOES_ON, COMMENT = re.compile(r"where\b|[{})\]]"), re.compile(r"//|#\[|--")
 
 
@@ -24,9 +26,9 @@ FORMS = (kebab, camel, str)
 
 
 def beginning(form, longer):
-    """Returns what finds a name that begins with this form, but none that begins with a longer one."""
+    """Returns what finds a name that begins with this form, but none that begins with a longer one; as `skipp` of `skipped`, with the last letter twice."""
     rests = [re.escape(it[len(form) :]) for it in longer if it.startswith(form)]
-    return rf"(?<![A-Za-z0-9]){form}" + (f"(?!{'|'.join(rests)})" if rests else "")
+    return rf"(?<![A-Za-z0-9]){form}(?:{form[-1]}(?=ed|ing))?" + (f"(?!{'|'.join(rests)})" if rests else "")
 
 
 class Names:
@@ -35,9 +37,11 @@ class Names:
     def __init__(self, old, new, calls, others=()):
         """`calls` are all calls that are there, and `others` the definitions of other files."""
         self.new, self.renamed = new, {}
-        self.forms = {make(old): make(new) for make in FORMS}
-        longer = {*others, *(make(it) for it in calls for make in FORMS)} - {*self.forms}
-        self.old = re.compile("|".join(beginning(it, longer) for it in sorted(self.forms, key=len, reverse=True)))
+        forms = {make(old): make(new) for make in FORMS}
+        longer = {*others, *(make(it) for it in calls for make in FORMS)} - {*forms}
+        begins = "|".join(beginning(it, longer) for it in sorted(forms, key=len, reverse=True))
+        self.old, self.whole = re.compile(begins), re.compile(rf"(?:{begins})(?![a-z])")
+        self.forms = forms | {f"{it}{it[-1]}": of_new for it, of_new in forms.items()}
 
     def rename(self, text):
         """Gives each definition of a copied text a name of its own."""
@@ -70,6 +74,11 @@ def end_of(lines, at):
     return here
 
 
+def is_of_old(line, names):
+    """Whether the head of a line has the old name as a word of its own. A call in a chain has no head."""
+    return names.whole.search(BEHIND_HEAD.split(line.strip(), maxsplit=1)[0]) and not line.strip().startswith(".")
+
+
 def is_argument(lines, at):
     """Whether a line is an argument of a call, or the end of one. A parameter begins with its name and a colon."""
     around = next((it for it in reversed(lines[:at]) if it.strip() and indent(it) < indent(lines[at])), "")
@@ -81,7 +90,7 @@ def with_items(text, names):
     lines, found, at = text.split("\n"), [], 0
     while at < len(lines):
         line = lines[at]
-        if not names.old.search(line) or COMMENT.match(line.strip()) or is_argument(lines, at):
+        if not is_of_old(line, names) or COMMENT.match(line.strip()) or is_argument(lines, at):
             found.append(line)
             at += 1
             continue

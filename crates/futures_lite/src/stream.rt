@@ -2054,7 +2054,7 @@ pub trait StreamExt: Stream {
         lite_consume::make::position(self, predicate)
     }
 
-    /// Returns a future of whether `predicate` returns true forevery item.
+    /// Returns a future of whether `predicate` returns true for every item.
     ///
     /// The first item for which it returns false decides. The value is true if there is no item. A poll
     /// requires that `ranks.counts` holds for the stream.

@@ -1,5 +1,7 @@
 //! What the others ask of closures, iterators and streams of streams is met: by closures that catch nothing, and by scripts.
-use crate::consuming::consumers_are_alike;
+ghost use Rattle.std.specs.Prelude.{◌≡◌, []};
+
+use crate::consuming::{collections_are_alike, consumers_are_alike, tries_are_alike};
 use crate::future_properties::{futures_are_alike, futures_are_calm};
 use crate::merges::{
     clones_have_marks, inner_streams_are_alike, inner_streams_are_calm, merges_are_alike,
@@ -36,6 +38,18 @@ pub fn folding_closures_agree(script: &Script<u8>) {
     consumers_are_alike(
         script, script, &0u8, &is_one, &keep, &is_small, &fold, &take, &fail,
     );
+}
+
+/// So does one that may fail at each item, and a test that parts the items, over collections that are empty.
+pub fn parting_closures_agree(script: &Script<u8>, tried: &Script<Result<u8, u16>>, empty: &Vec<u8>)
+    requires { empty.now.items ≡ [] }
+{
+    let (add, is_small) = (
+        |sum: u8, x: u8| -> Result<u8, u16> { Ok(sum ^ x) },
+        |x: &u8| *x < 100,
+    );
+    tries_are_alike(tried, tried, &0u8, &add);
+    collections_are_alike(script, script, empty, empty, &is_small);
 }
 
 /// Closures that make streams and futures of items make the same of the same ones, and calm ones.
