@@ -6,9 +6,7 @@ use Rattle.std.specs.declared.io.Error.{Error}
 use Rattle.std.specs.declared.io.ErrorKind.TheVariants.{OutOfMemory}
 use Rattle.std.specs.declared.vec.Vec.{Vec}
 use Rattle.std.proofs.Common.{◌∙◌, ap, append-nil, append_assoc, inl, inr, refl, subst, sym}
-use Rattle.futures_lite.specs.Answers.{Ready}
-use Rattle.futures_lite.specs.Marks.{ReadMark, bytes}
-use Rattle.futures_lite.specs.Own.{MarkLaws, Runs}
+use Rattle.framed.specs.Uses.{MarkLaws, ReadMark, Ready, Runs, bytes}
 use Rattle.tokio_util.specs.Codec.Next.{Gives, IsStable, Resumes, at_end, decoded}
 use Rattle.tokio_util.specs.Codec.Whole.{ReadsAll, last_frame, no_frame, whole_frame}
 use Rattle.tokio_util.proofs.CodecLemmas.Next.{Resumes-append, Resumes_now}

@@ -2,7 +2,7 @@
 use Rattle.std.specs.Prelude.{◌≡◌, ◌+◌, ℕ, List, take, drop, IsErr, IsErrAnd, Option, Result, Ok, Err}
 use Rattle.std.proofs.Common.{arith, inr, refl, sym, take-append-drop}
 use Rattle.bytes.specs.Filled.{Filled}
-use Rattle.futures_lite.specs.Lines.{without_return}
+use Rattle.framed.specs.Uses.{without_return}
 use Rattle.tokio_util.specs.Codec.Next.{Decodes}
 use Rattle.framed.specs.FrameErrors.{SaysOutOfMemory}
 use Rattle.framed.specs.Heads.{FindsDelimiter, text_has_none, text_length, with_delimiter}

@@ -3,8 +3,7 @@ use Rattle.std.specs.Prelude.{◌≡◌, ℕ, Bool, true, false, List, [], ◌�
 use Rattle.std.specs.List.{FoldsTo}
 use Rattle.std.specs.declared.io.Error.{Error}
 use Rattle.std.proofs.Common.{inr}
-use Rattle.futures_lite.specs.Marks.{ReadMark, WriteMark}
-use Rattle.futures_lite.specs.Own.{MarkLaws, Runs}
+use Rattle.framed.specs.Uses.{MarkLaws, ReadMark, Runs, WriteMark}
 use Rattle.tokio_util.specs.Codec.Next.{Gives}
 use Rattle.framed.specs.Frames.{Framed}
 use Rattle.framed.specs.Sending.{FlushesOnce}

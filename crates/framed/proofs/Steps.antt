@@ -5,9 +5,8 @@ use Rattle.std.specs.List.{FoldsTo}
 use Rattle.std.specs.declared.io.Error.{Error}
 use Rattle.std.proofs.Common.{◌∙◌, ap, append-nil, arith, drop_at, eqb-true, inl, inr, length-append, le_refl, refl, subst, sym, take_all, take_at}
 use Rattle.std.proofs.lemmas.List.{map-append}
-use Rattle.futures_lite.specs.Answers.{Answer, Pending, Ready}
-use Rattle.futures_lite.specs.Marks.{ReadMark, bytes, filled_marks}
-use Rattle.futures_lite.specs.Own.{MarkLaws, Reaches, Runs}
+use Rattle.framed.specs.Uses.{Answer, MarkLaws, Pending, Reaches, ReadMark, Ready, Runs, bytes}
+use Rattle.lite_io_base.specs.Marks.{filled_marks}
 use Rattle.tokio_util.specs.Codec.Next.{Gives, IsStable, PartialHasNoFrame, at_end as last_frame, decoded, partial}
 use Rattle.framed.specs.FrameLaws.{TakesMore, frame_ran, goes_on, joined, last_on}
 use Rattle.framed.specs.Frames.{FrameStep, Framed, InHand, InStep, Last, PollGives, NoFrame, ended, held_at, phase_of, reading}

@@ -3,11 +3,9 @@ use Rattle.std.specs.Prelude.{◌≡◌, List, Option, Some, None, Result, refl}
 use Rattle.std.specs.List.{FoldsTo}
 use Rattle.std.specs.declared.io.Error.{Error}
 use Rattle.std.proofs.Common.{◌∙◌, ap, sym}
-use Rattle.futures_lite.specs.Answers as answers
-use Rattle.futures_lite.specs.Answers.{Answer, Poll, Ready}
-use Rattle.futures_lite.specs.Marks.{ReadMark}
-use Rattle.futures_lite.specs.Own.{MarkLaws, Runs}
-use Rattle.futures_lite.specs.Readers.{ToldStripped}
+use Rattle.lite_base.specs.Answers as answers
+use Rattle.futures.specs.declared.task.Poll.{Poll}
+use Rattle.framed.specs.Uses.{Answer, MarkLaws, ReadMark, Ready, Runs, ToldStripped}
 use Rattle.lite_theorems.specs.Uses.{Consume, Consumes, Decides, Folds, Lent, MutBor, consumes_steps}
 use Rattle.lite_consume.specs.Next.{nexts}
 use Rattle.lite_consume.specs.declared.next.Next.{Next}

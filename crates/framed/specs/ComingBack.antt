@@ -5,7 +5,7 @@ use Rattle.std.specs.declared.alloc.Global.{Global}
 use Rattle.std.specs.declared.io.Error.{Error}
 use Rattle.std.specs.declared.vec.Vec.{Vec}
 use Rattle.std.proofs.Common.{◌∙◌, ap, append-nil, append_assoc, inl, inr, refl, sym}
-use Rattle.futures_lite.specs.Marks.{ReadMark, bytes}
+use Rattle.framed.specs.Uses.{ReadMark, bytes}
 use Rattle.tokio_util.specs.Codec.Next.{Gives, IsStable, Next, at_end, decoded, partial}
 use Rattle.tokio_util.specs.Codec.Whole.{EncodesAll, ReadsAll, last_frame, no_frame, whole_frame}
 use Rattle.framed.specs.RoundTrip.{CollectsBack, ComesBack, IsBack, IsNoFrame, RoundTripLaws}

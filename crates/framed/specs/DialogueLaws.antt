@@ -4,12 +4,8 @@ use Rattle.std.specs.List.{FoldsTo}
 use Rattle.std.specs.declared.io.Error.{Error}
 use Rattle.std.proofs.Common.{◌∙◌, ap, append-nil, append_assoc, inl, inr, subst, sym}
 use Rattle.std.proofs.lemmas.List.{map-append}
-use Rattle.futures_lite.specs.Answers.{Ready}
-use Rattle.futures_lite.specs.Marks.{ReadMark, WriteMark, bytes, bytes_taken}
-use Rattle.futures_lite.specs.Own.{MarkLaws, Runs}
-use Rattle.futures_lite.specs.Readers.{ToldStripped}
-use Rattle.lite_theorems.specs.Uses.{taken_both}
-use Rattle.lite_theorems.proofs.BothWriters.{flushes_both}
+use Rattle.framed.specs.Uses.{MarkLaws, ReadMark, Ready, Runs, ToldStripped, WriteMark, bytes, bytes_taken}
+use Rattle.framed.specs.Uses.{flushes_both, taken_both}
 use Rattle.tokio_util.specs.Codec.Next.{Gives, PartialHasNoFrame, at_end, decoded}
 use Rattle.framed.specs.Dialogues.{Dialogue, EndsBy, FrameByFrame, FramesOf, FrontOf, EachGoesOn, answers_from}
 use Rattle.framed.specs.FrameLaws.{join_marks, not_after}

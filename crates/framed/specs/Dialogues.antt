@@ -1,10 +1,8 @@
 -- A whole session of a server: which bytes were read, what was answered to them, and which bytes were written.
 use Rattle.std.specs.Prelude.{◌≡◌, ◌⊎◌, true, false, ℕ, List, [], ◌∷◌, ◌++◌, Some, None, Ok, map}
 use Rattle.std.specs.List.{AllByRecursion}
-use Rattle.futures_lite.specs.Marks.{ReadMark, WriteMark, bytes, bytes_taken}
-use Rattle.futures_lite.specs.Own.{Runs}
-use Rattle.futures_lite.specs.Readers.{ToldStripped}
-use Rattle.futures_lite.specs.Writers.{EndsFlushed, WritesAndFlushes}
+use Rattle.framed.specs.Uses.{EndsFlushed, ReadMark, Runs, ToldStripped, WriteMark, WritesAndFlushes, bytes}
+use Rattle.framed.specs.Uses.{bytes_taken}
 use Rattle.tokio_util.specs.Codec.Next.{Gives, at_end, decoded}
 use Rattle.tokio_util.specs.Codec.Whole.{EncodesAll}
 use Rattle.framed.specs.Services.{AnswerOf, all_of}

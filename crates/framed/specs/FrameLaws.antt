@@ -4,10 +4,11 @@ use Rattle.std.specs.List.{FoldsTo}
 use Rattle.std.specs.declared.io.Error.{Error}
 use Rattle.std.proofs.Common.{◌∙◌, ap, append-nil, append_assoc, arith, inl, inr, length-append, refl, subst, sym}
 use Rattle.std.proofs.lemmas.List.{nil_from_length}
-use Rattle.futures_lite.specs.Answers.{Answer, Pending, Ready, end, item, items}
-use Rattle.futures_lite.specs.Marks.{ReadMark, bytes, given_count}
-use Rattle.futures_lite.specs.Own.{MarkLaws, Reaches, Runs}
-use Rattle.futures_lite.specs.Ranks.{AtMost, AtMost-both, Below, Below-after, Below-first, Lowers, OkCounting, Ranks, ReadCounting}
+use Rattle.framed.specs.Uses.{Answer, MarkLaws, Pending, Ranks, Reaches, ReadCounting, ReadMark, Ready, Runs, bytes}
+use Rattle.lite_base.specs.Answers.{end, item, items}
+use Rattle.lite_io_base.specs.Marks.{given_count}
+use Rattle.lite_base.specs.Laws.Ranks.{AtMost-both, Below-after, Below-first}
+use Rattle.lite_base.specs.Ranks.{AtMost, Below, Lowers, OkCounting}
 use Rattle.lite_base.specs.Ranks.{all_ok}
 use Rattle.lite_base.specs.Laws.Ranks.{AtMost-then_below, Lowers-at_most, Lowers-then_at_most}
 use Rattle.lite_io_base.specs.Counting.{Falls}

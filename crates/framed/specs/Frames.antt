@@ -3,11 +3,8 @@ use Rattle.std.specs.Prelude.{◌≡◌, ◌⊎◌, ◌+◌, ℕ, List, [], ◌�
 use Rattle.std.specs.IoError.{error_kind}
 use Rattle.std.specs.declared.io.Error.{Error}
 use Rattle.std.specs.declared.io.ErrorKind.TheVariants.{OutOfMemory}
-use Rattle.futures_lite.specs.Answers.{Answer, Pending, Ready}
-use Rattle.futures_lite.specs.Marks.{ReadMark, bytes}
-use Rattle.futures_lite.specs.Own.{Runs}
-use Rattle.futures_lite.specs.Ranks.{Ranks}
-use Rattle.futures_lite.specs.Readers.{StandsFirst}
+use Rattle.framed.specs.Uses.{Answer, Pending, Ranks, ReadMark, Ready, Runs, bytes}
+use Rattle.lite_io_base.specs.Runs.{StandsFirst}
 use Rattle.tokio_util.specs.Codec.Next.{Gives, Resumes, at_end, decoded, partial}
 use Rattle.framed.specs.declared.framed_read.Stage.{Stage}
 use Rattle.framed.specs.declared.framed_read.Stage.TheVariants.{AtEnd, Done, Fresh, Open}

@@ -2,6 +2,7 @@
 pub mod Prompt
 pub mod Frames
 pub mod FrameLaws
+pub mod Uses
 pub mod Whole
 pub mod ToldLaws
 pub mod Sending

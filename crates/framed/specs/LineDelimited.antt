@@ -2,7 +2,7 @@
 use Rattle.std.specs.Prelude.{◌≡◌, ◌≢◌, ◌⊎◌, ◌≤◌, ◌<◌, ◌+◌, ℕ, List, [], ◌∷◌, ◌++◌, length, Some}
 use Rattle.std.proofs.Common.{ap, arith, length-append}
 use Rattle.bytes.specs.Filled.{Filled}
-use Rattle.futures_lite.specs.Lines.{without_return}
+use Rattle.framed.specs.Uses.{without_return}
 use Rattle.tokio_util.specs.Codec.Next.{Gives}
 use Rattle.framed.specs.FrameErrors.{SaysOutOfMemory}
 use Rattle.framed.specs.Heads.{FirstAt, HasNo}

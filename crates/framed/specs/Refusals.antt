@@ -2,13 +2,8 @@
 use Rattle.std.specs.Prelude.{◌≡◌, false, ℕ, List, [], ◌∷◌, ◌++◌, Some, Err, map}
 use Rattle.std.specs.declared.io.Error.{Error}
 use Rattle.std.proofs.Common.{◌∙◌, ap, append-nil, append_assoc, inl, inr, subst, sym}
-use Rattle.futures_lite.specs.Answers.{Ready}
-use Rattle.futures_lite.specs.Marks.{ReadMark, WriteMark, bytes, bytes_taken}
-use Rattle.futures_lite.specs.Own.{MarkLaws, Runs}
-use Rattle.futures_lite.specs.Readers.{ToldStripped}
-use Rattle.futures_lite.specs.Writers.{EndsFlushed, WritesAndFlushes}
-use Rattle.lite_theorems.specs.Uses.{taken_both}
-use Rattle.lite_theorems.proofs.BothWriters.{flushes_both, once_flushes}
+use Rattle.framed.specs.Uses.{EndsFlushed, MarkLaws, ReadMark, Ready, Runs, ToldStripped, WriteMark, WritesAndFlushes}
+use Rattle.framed.specs.Uses.{bytes, bytes_taken, flushes_both, once_flushes, taken_both}
 use Rattle.tokio_util.specs.Codec.Next.{Gives, PartialHasNoFrame}
 use Rattle.tokio_util.specs.Codec.Whole.{EncodesAll}
 use Rattle.framed.specs.DialogueLaws.{FramesRead, all_read, goes_on_each, none_read, so_far, to_the_end, told_each}

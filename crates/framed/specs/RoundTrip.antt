@@ -4,7 +4,7 @@ use Rattle.std.specs.List.{AllZip}
 use Rattle.std.specs.declared.alloc.Global.{Global}
 use Rattle.std.specs.declared.io.Error.{Error}
 use Rattle.std.specs.declared.vec.Vec.{Vec}
-use Rattle.futures_lite.specs.Marks.{ReadMark, bytes}
+use Rattle.framed.specs.Uses.{ReadMark, bytes}
 use Rattle.tokio_util.specs.Codec.Next.{Gives, Next, at_end, decoded, partial}
 use Rattle.tokio_util.specs.Codec.Whole.{EncodesAll}
 use Rattle.framed.specs.Whole.{Collects, LacksMemory}

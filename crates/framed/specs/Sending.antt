@@ -1,9 +1,8 @@
 -- What a writer is given of the frames of an encoder.
 use Rattle.std.specs.Prelude.{◌≡◌, ◌⊎◌, ℕ, List, [], ◌∷◌, ◌++◌, Result, Ok, Err}
 use Rattle.std.specs.declared.io.Error.{Error}
-use Rattle.futures_lite.specs.Marks.{WriteMark, bytes_taken}
-use Rattle.futures_lite.specs.Own.{Runs}
-use Rattle.futures_lite.specs.Writers.{FlushedUp, HandedUp, TakesFront}
+use Rattle.framed.specs.Uses.{Runs, WriteMark, bytes_taken}
+use Rattle.lite_theorems.specs.BothWriters.{FlushedUp, HandedUp, TakesFront}
 use Rattle.tokio_util.specs.Codec.Whole.{EncodesAll}
 
 module _ {O : Type 0} (writes : Runs WriteMark O) where

@@ -2,10 +2,7 @@
 use Rattle.std.specs.Prelude.{◌≡◌, ◌⊎◌, ℕ, Bool, true, false, List, [], Option, Some, None, Result, Ok, Err}
 use Rattle.std.specs.List.{FoldsTo}
 use Rattle.std.specs.declared.io.Error.{Error}
-use Rattle.futures_lite.specs.Answers.{Pending, Ready}
-use Rattle.futures_lite.specs.Marks.{ReadMark, WriteMark}
-use Rattle.futures_lite.specs.Own.{Runs}
-use Rattle.futures_lite.specs.Readers.{ToldStripped}
+use Rattle.framed.specs.Uses.{Pending, ReadMark, Ready, Runs, ToldStripped, WriteMark}
 use Rattle.tokio_util.specs.Codec.Next.{Gives}
 use Rattle.tokio_util.specs.Codec.Whole.{EncodesAll}
 use Rattle.framed.specs.Frames.{FrameStep, Framed, InHand}

@@ -3,13 +3,9 @@ use Rattle.std.specs.Prelude.{◌≡◌, ℕ, Bool, false, List, [], ◌∷◌, 
 use Rattle.std.specs.List.{FoldsTo}
 use Rattle.std.specs.declared.io.Error.{Error}
 use Rattle.std.proofs.Common.{◌∙◌, append-nil, append_assoc, ap, inl, inr, sym}
-use Rattle.futures_lite.specs.Answers.{Ready}
-use Rattle.futures_lite.specs.Marks.{ReadMark, WriteMark, bytes_taken}
-use Rattle.futures_lite.specs.Own.{MarkLaws, Runs}
-use Rattle.futures_lite.specs.Readers.{ToldStripped}
-use Rattle.futures_lite.specs.Writers.{EndsFlushed, WritesAndFlushes}
-use Rattle.lite_theorems.specs.Uses.{taken_both}
-use Rattle.lite_theorems.proofs.BothWriters.{flushes_both, once_flushes, only_flushes}
+use Rattle.framed.specs.Uses.{EndsFlushed, MarkLaws, ReadMark, Ready, Runs, ToldStripped, WriteMark, WritesAndFlushes}
+use Rattle.framed.specs.Uses.{bytes_taken, flushes_both, once_flushes, taken_both}
+use Rattle.lite_theorems.proofs.BothWriters.{only_flushes}
 use Rattle.tokio_util.specs.Codec.Next.{Gives, PartialHasNoFrame}
 use Rattle.tokio_util.specs.Codec.Whole.{EncodesAll}
 use Rattle.framed.specs.Frames.{FrameStep, Framed}

@@ -3,12 +3,10 @@ use Rattle.std.specs.Prelude.{◌≡◌, ℕ, List, [], ◌∷◌, ◌++◌, Opt
 use Rattle.std.specs.List.{FoldsTo}
 use Rattle.std.specs.declared.io.Error.{Error}
 use Rattle.std.proofs.Common.{◌∙◌, append-nil, ap, inl, inr}
-use Rattle.futures_lite.specs.Answers as answers
-use Rattle.futures_lite.specs.Answers.{Answer, Pending, Ready}
-use Rattle.futures_lite.specs.Marks.{ReadMark, bytes}
-use Rattle.futures_lite.specs.Own.{MarkLaws, Runs}
-use Rattle.futures_lite.specs.Ranks.{Ranks, ReadCounting}
-use Rattle.futures_lite.specs.Readers.{ToldStripped, strip_marks}
+use Rattle.lite_base.specs.Answers as answers
+use Rattle.framed.specs.Uses.{Answer, MarkLaws, Pending, Ranks, ReadCounting, ReadMark, Ready, Runs, ToldStripped}
+use Rattle.framed.specs.Uses.{bytes}
+use Rattle.lite_io_base.specs.Steady.{strip_marks}
 use Rattle.lite_theorems.specs.Laws.Told.{told_follow, told_none}
 use Rattle.tokio_util.specs.Codec.Next.{Gives, PartialHasNoFrame}
 use Rattle.framed.specs.Frames.{FrameStep, Framed, InHand, PollGives, NoFrame, reading}

@@ -5,7 +5,7 @@ use Rattle.std.specs.declared.alloc.Global.{Global}
 use Rattle.std.specs.declared.io.Error.{Error}
 use Rattle.std.specs.declared.io.ErrorKind.TheVariants.{OutOfMemory}
 use Rattle.std.specs.declared.vec.Vec.{Vec}
-use Rattle.futures_lite.specs.Marks.{ReadMark, bytes}
+use Rattle.framed.specs.Uses.{ReadMark, bytes}
 use Rattle.tokio_util.specs.Codec.Next.{Gives, Resumes, at_end, decoded}
 use Rattle.tokio_util.specs.Codec.Whole.{ReadsAll}
 use Rattle.framed.specs.Frames.{ReadFails}

@@ -1,15 +1,14 @@
 //! All frames of a reader.
 ghost use Rattle.std.specs.Prelude.{◌≡◌, List};
-ghost use Rattle.futures_lite.specs.Marks.{ReadMark};
-ghost use Rattle.futures_lite.specs.Readers.{ToldStripped};
+ghost use Rattle.framed.specs.Uses.{ReadMark, ToldStripped};
 ghost use Rattle.framed.specs.Frames.{ended, ending, reading};
 ghost use Rattle.framed.specs.Whole.{Collects, CollectsLast, CollectsNone};
 
 use crate::framed_read::FramedRead;
 use crate::next_frame::wait_frame;
 use crate::prompt_decoder::PromptDecoder;
-use futures_lite::future::BlockOn;
-use futures_lite::io::{AsyncBufRead, CountedRead};
+use lite_base::future::block_on::BlockOn;
+use lite_io_base::{AsyncBufRead, CountedRead};
 use std::alloc::AllocGlobal;
 use std::io;
 use std::sync::Wait;

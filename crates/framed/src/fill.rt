@@ -1,11 +1,9 @@
 //! One fill of a reader's buffer.
 ghost use Rattle.std.specs.Prelude.{◌≡◌, ◌==◌, IfOk, length};
-ghost use Rattle.futures.specs.Poll.{IfReady};
-ghost use Rattle.futures_lite.specs.Contexts.{Keeps, Registered};
-ghost use Rattle.futures_lite.specs.Marks.{fill_marks};
+ghost use Rattle.framed.specs.Uses.{IfReady, Keeps, Registered, fill_marks};
 
-use futures_lite::io::AsyncBufRead;
-use futures_lite::{Context, Poll};
+use lite_base::{Context, Poll};
+use lite_io_base::AsyncBufRead;
 use std::io;
 
 /// Fills the buffer of a reader. Returns whether it is at end of file.

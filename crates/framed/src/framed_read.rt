@@ -1,19 +1,19 @@
 //! A stream of the frames that a decoder finds in a reader.
 ghost use Rattle.std.specs.Prelude.{◌≡◌, ◌⊎◌, ◌==◌, ◌↔◌, ◌++◌, [], Err, IfOk, IsTrue, List, None, OnErr, OnOk, Some, length, ℕ};
 ghost use Rattle.std.specs.List.{FoldsTo};
-ghost use Rattle.futures.specs.Poll.{IfReady};
-ghost use Rattle.futures_lite.specs.Contexts.{Keeps, Registered};
-ghost use Rattle.futures_lite.specs.Marks.{bytes, fill_marks};
-ghost use Rattle.futures_lite.specs.Own.{NoHint, OneStep, Terminates-map, stream_by_keeping_steps};
+ghost use Rattle.framed.specs.Uses.{IfReady, Keeps, Registered, bytes, fill_marks};
+ghost use Rattle.lite_base.specs.Chain.{OneStep};
+ghost use Rattle.lite_base.specs.Laws.Ranks.{Terminates-map};
+ghost use Rattle.lite_base.specs.Runs.{NoHint};
+ghost use Rattle.lite_theorems.specs.Laws.Streams.{stream_by_keeping_steps};
 ghost use Rattle.framed.specs.Frames.{FrameStep, InHand, Last, ended, ending, frame_ranks, held_at, reading};
 ghost use Rattle.framed.specs.FrameLaws.{TakesMore, frame_counts, frames_counting, takes_given};
 
 use crate::fill::fill;
 use crate::prompt_decoder::PromptDecoder;
 use bytes::BytesMut;
-use futures_lite::io::{AsyncBufRead, CountedRead};
-use futures_lite::stream::OkCounted;
-use futures_lite::{Context, Poll, PollSteps, Stream, drive};
+use lite_base::{Context, OkCounted, Poll, PollSteps, Stream, drive};
+use lite_io_base::{AsyncBufRead, CountedRead};
 use std::alloc::{AllocError, Global};
 use std::io;
 use std::marker::Model;

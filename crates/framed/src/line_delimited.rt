@@ -1,7 +1,7 @@
 //! Lines that end with a newline.
 ghost use Rattle.std.specs.Prelude.{◌≡◌, ◌≤◌, ◌<◌, ◌↔◌, IfNone, IfOk, IfSome, IsTrue, length, take};
 ghost use Rattle.bytes.specs.Filled.{Filled};
-ghost use Rattle.futures_lite.specs.Lines.{without_return};
+ghost use Rattle.framed.specs.Uses.{without_return};
 ghost use Rattle.tokio_util.specs.Codec.Next.{Decodes};
 ghost use Rattle.framed.specs.FrameErrors.{SaysOutOfMemory};
 ghost use Rattle.framed.specs.LineBack.{line_back};

@@ -1,14 +1,14 @@
 //! Waiting for the next frame.
 ghost use Rattle.std.specs.Prelude.{◌≡◌};
-ghost use Rattle.futures_lite.specs.Answers.{Ready};
-ghost use Rattle.futures_lite.specs.Readers.{ToldStripped};
+ghost use Rattle.framed.specs.Uses.{Ready, ToldStripped};
 ghost use Rattle.framed.specs.Frames.{FrameStep};
 
 use crate::framed_read::FramedRead;
 use crate::prompt_decoder::PromptDecoder;
-use futures_lite::future::{BlockOn, Waits};
-use futures_lite::io::{AsyncBufRead, CountedRead};
+use lite_base::future::Waits;
+use lite_base::future::block_on::BlockOn;
 use lite_consume::make::next;
+use lite_io_base::{AsyncBufRead, CountedRead};
 use std::sync::Wait;
 
 /// Blocks this thread, by `on` and the runtime `rt`, until the next frame is known, and returns it.

@@ -2,8 +2,9 @@
 ghost use Rattle.framed.specs.Sending.{FlushesOnce, HandsBytes, SendsOne};
 
 use bytes::BytesMut;
-use futures_lite::future::{BlockOn, Waits};
-use futures_lite::io::AsyncWrite;
+use lite_base::future::Waits;
+use lite_base::future::block_on::BlockOn;
+use lite_io_base::AsyncWrite;
 use lite_write::make::{flush, write_all};
 use std::io;
 use std::sync::Wait;

@@ -2,7 +2,7 @@ use Rattle.std.specs.Prelude.{◌≡◌, Err, None, Ok, Some}
 use Rattle.std.specs.IoError.{error_kind}
 use Rattle.std.specs.declared.io.ErrorKind.TheVariants.{OutOfMemory}
 use Rattle.std.proofs.Common.{refl, rules}
-use Rattle.futures_lite.specs.Readers.{ToldStripped}
+use Rattle.framed.specs.Uses.{ToldStripped}
 use Rattle.framed.proofs.Collecting.{all_frames, all_left, last_more, last_refused, last_stops, more, none_left, none_yet, nothing_left, refused, stops}
 use Rattle.framed.specs.ToldLaws.{stripped_laws}
 use Rattle.framed.proofs.collect.collect_frames.Goals as goal

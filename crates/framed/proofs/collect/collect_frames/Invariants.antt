@@ -1,5 +1,5 @@
 use Rattle.std.proofs.Common.{◌≡◌, []}
-use Rattle.futures_lite.specs.Readers.{ToldStripped}
+use Rattle.framed.specs.Uses.{ToldStripped}
 use Rattle.framed.proofs.Collecting.{Collected, LastCollected}
 use Rattle.framed.specs.Frames.{ended, ending, reading}
 use Rattle.framed.proofs.collect.collect_frames.Given as goal

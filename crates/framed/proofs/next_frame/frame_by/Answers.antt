@@ -1,6 +1,5 @@
 use Rattle.std.proofs.Common.{rules}
-use Rattle.futures_lite.specs.Answers.{Ready}
-use Rattle.futures_lite.specs.Readers.{ToldStripped}
+use Rattle.framed.specs.Uses.{Ready, ToldStripped}
 use Rattle.framed.specs.Frames.{FrameStep}
 use Rattle.framed.specs.ToldLaws.{told_counting}
 use Rattle.framed.proofs.Waits.{at_value, frame_waited}

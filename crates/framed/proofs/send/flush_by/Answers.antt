@@ -1,5 +1,5 @@
 use Rattle.std.proofs.Common.{rules}
-use Rattle.lite_theorems.proofs.Waited.{done}
+use Rattle.framed.specs.Uses.{done}
 use Rattle.lite_theorems.proofs.BothWriters.{flush_lent, flush_up}
 use Rattle.framed.proofs.send.flush_by.Goals as goal
 

@@ -1,5 +1,5 @@
 use Rattle.std.proofs.Common.{rules}
-use Rattle.lite_theorems.proofs.Waited.{done}
+use Rattle.framed.specs.Uses.{done}
 use Rattle.lite_theorems.proofs.BothWriters.{hand_up, writer_lent}
 use Rattle.framed.proofs.send.hand.Goals as goal
 

@@ -1,6 +1,6 @@
 use Rattle.std.specs.Prelude.{◌≡◌, Ok}
 use Rattle.std.proofs.Common.{inr, rules}
-use Rattle.futures_lite.specs.Answers.{Pending}
+use Rattle.framed.specs.Uses.{Pending}
 use Rattle.framed.proofs.server.take.Goals as goal
 
 pub returns-clause-taken : goal.returns-clause-taken

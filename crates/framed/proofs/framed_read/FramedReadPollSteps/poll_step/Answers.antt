@@ -1,6 +1,6 @@
 use Rattle.std.specs.Prelude.{◌≡◌, Err, Ok, false, true}
 use Rattle.std.proofs.Common.{rules}
-use Rattle.futures_lite.specs.Answers.{Pending, Ready}
+use Rattle.framed.specs.Uses.{Pending, Ready}
 use Rattle.framed.proofs.Steps.{answered, at_end, failed, no_mark, none_shown, pended, some_shown, took}
 use Rattle.framed.proofs.framed_read.FramedReadPollSteps.poll_step.Goals as goal
 

@@ -1,7 +1,7 @@
 use Rattle.std.specs.Prelude.{◌≡◌, ◌+◌, drop, refl, take}
 use Rattle.std.proofs.Common.{◌∙◌, ap, arith, rules, sym, take-append-drop}
 use Rattle.std.proofs.lemmas.List.{take-take}
-use Rattle.futures_lite.specs.Lines.{without_return}
+use Rattle.framed.specs.Uses.{without_return}
 use Rattle.framed.proofs.Lines.{line_found, line_lacks_memory}
 use Rattle.framed.specs.Heads.{FindsDelimiter}
 use Rattle.framed.specs.declared.delimiter.Delimiter.TheVariants.{At}
