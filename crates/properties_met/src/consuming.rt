@@ -125,7 +125,7 @@ where
 {}
 
 /// Collections of the items of alike streams are alike.
-pub fn collections_are_alike<S, C, B, P>(x: &S, y: &S, c: &C, d: &C, p: &P)
+pub fn collections_are_alike<S, C, P>(x: &S, y: &S, c: &C, d: &C, p: &P)
 where
     S: SteadyStream + Counted,
     C: Gather<S::Item>,
