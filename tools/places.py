@@ -76,7 +76,7 @@ NO_OTHER_BODY = {
 }
 # Functions whose results no clause tells (docs/PROVED.md says what is known of them), and adapters that hand on the stream itself at an error.
 NO_CONTRACT, NO_PARTS = {"future::BlockOn::new", "future::BlockOn::waits", "io::NewCounters::new", "io::split"}, {"StreamExt::cycle", "StreamExt::drain"}
-# Calls whose items their example does not prove: a lemma of lists would have to.
+# Calls whose example proves no clause: theirs on items takes a function or results, which the example would have to name in a proof.
 NO_PROVED_EXAMPLE = {"StreamExt::flatten", "script", "try_unfold", "unfold"}
 # What a contract of properties asks of closures, and the source that shows that such closures are there.
 OF_CLOSURES, CONDITIONS = re.compile(r"requires \w+ \{[^{]*(?:Agree|\.FnMut)"), "conditions.rt"
