@@ -30,7 +30,7 @@ BLOCKING, NO_METHOD = "crates/lite_consume/src/block_on.rt", set("collect partit
 # Methods of streams that cases know by another word.
 OTHER_WORD = {"with_budget"}
 # What a case of each adapter shows, besides its results; and words of adapters that others show already.
-SHOWN = {"the hint": r"\d+ hint {} ", "polls after an end": r"\d+ poll {} .*(?:E,){{8}}$", "which polls wake the task": r"\d+ wakes {} "}
+SHOWN = {"results": r"\d+ poll {} ", "the hint": r"\d+ hint {} ", "polls after an end": r"\d+ poll {} .*(?:E,){{8}}$", "which polls wake the task": r"\d+ wakes {} "}
 SHOWN_BY_OTHERS = {"flat_map_calls", "or_pending", "race_pending", "then_calls"}
 # Adapters without a table of polls: their sources are no scripts, or they never end.
 NO_POLLS = {"StreamExt::cloned", "StreamExt::copied", "StreamExt::cycle"}
@@ -78,8 +78,9 @@ NO_OTHER_BODY = {
 NO_CONTRACT, NO_PARTS = {"future::BlockOn::new", "future::BlockOn::waits", "io::NewCounters::new", "io::split"}, {"StreamExt::cycle", "StreamExt::drain"}
 # Calls whose example proves no clause: theirs on items takes a function or results, which the example would have to name in a proof.
 NO_PROVED_EXAMPLE = {"StreamExt::flatten", "script", "try_unfold", "unfold"}
-# What a contract of properties asks of closures, and the source that shows that such closures are there.
-OF_CLOSURES, CONDITIONS = re.compile(r"requires \w+ \{[^{]*(?:Agree|\.FnMut)"), "conditions.rt"
+# What a contract of properties of streams asks besides the property of a part, and the source that shows that it can be met.
+ASKED, OF_A_PART, CONDITIONS = re.compile(r"^    requires .*(?:\n     .*)*", re.M), re.compile(r"\.(?:alike|is_calm|holds|agree) "), "conditions.rt"
+OF_STREAMS = ("consuming", "future_properties", "merges", "sources", "streams")
 # An item of a source, by its name; and the page that names what is new since the file last changed that has the number.
 ITEM, CHANGES, NUMBER = r"(fn|struct|enum|trait|type) \w+", "CHANGELOG.md", "VERSION"
 # The impl of a type that is polled, reads, writes, decodes or encodes; and the sources with one that have no wrong body, since they only hand calls on.
@@ -197,12 +198,12 @@ def words_importable():
 
 
 def conditions():
-    """What a contract of properties asks of closures is met by closures that catch nothing."""
+    """What a contract of properties of streams asks, besides a property of a part, is met by closures that catch nothing and by values that are there."""
     there = names_called_in([f"{MARKS_MET}/src"])
-    for file in sorted(glob.glob(f"{TOP}/{MARKS_MET}/src/*.rt")):
+    for file in (f"{TOP}/{MARKS_MET}/src/{it}.rt" for it in OF_STREAMS):
         for name, said in re.findall(r"^pub fn (\w+)(.*?)^\{", read_text(file), re.M | re.S):
-            if OF_CLOSURES.search(said) and name not in there:
-                yield f"{MARKS_MET}/src/{CONDITIONS}", f"nothing calls `{name}`, which asks something of closures"
+            if name not in there and not all(OF_A_PART.search(it) for it in ASKED.findall(said)):
+                yield f"{MARKS_MET}/src/{CONDITIONS}", f"nothing calls `{name}`, which asks something of a closure or a value"
 
 
 def at_hand(*words):
@@ -229,7 +230,8 @@ def properties_had(kinds):
 
 
 def documented():
-    """Each public item of the library has a doc comment."""
+    """Each public item of the library has a doc comment, with more than an example."""
+    yield from ((it.path, f"the doc comment of `{it.title}` says nothing") for of_module in items().values() for it in of_module if not it.says)
     for crate in with_below(crates_in(TOP), [FACADE, *BESIDE]):
         for file in files_of(f"{TOP}/crates/{crate}/src"):
             lines = [it.strip() for it in read_text(f"{TOP}/crates/{crate}/src/{file}").split("\n")]
@@ -329,6 +331,7 @@ def measured():
     checked = {it for it in cases_measured() if text.count(f'"{it}"') > 1}
     yield from lacking(f"{THROUGHPUT}/src", cases_measured(), checked, set(), "the check has no number of the case")
     yield from lacking(f"{THROUGHPUT}/measured.txt", cases_measured(), cases_measured() & rows_of, set(), "there is no row of")
+    yield from lacking(f"{THROUGHPUT}/measured.txt", rows_of, rows_of & cases_measured(), set(), "there is no case of the row")
 
 
 def counting_as_their_sources():
