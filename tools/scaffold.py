@@ -104,13 +104,20 @@ def with_items(text, names):
     return "\n".join(found)
 
 
+def both_names(listed, names):
+    """Returns the names of an import with the new ones, each behind the old one, or where the order of names puts it."""
+    old = [it.strip() for it in listed.split(",") if it.strip()]
+    new = [name for it in old for name in dict.fromkeys((it, names.told(it)))]
+    return listed[: len(listed) - len(listed.lstrip())] + ", ".join(sorted(new) if old == sorted(old) else new) + listed[len(listed.rstrip()) :]
+
+
 def with_imports(text, names):
     """Returns a source in which each import of the old name is one of the new name too, and the rest by `with_items`."""
 
     def both(use):
         if names.old.search(use[1]) or use[2] is None:
             return use[0] + names.told(use[0])
-        return use[0].replace(use[2], names.old.sub(lambda it: f"{it[0]}, {names.forms[it[0]]}", use[2]))
+        return use[0].replace(use[2], both_names(use[2], names))
 
     parts, last = [], 0
     for use in USE.finditer(text):

@@ -295,13 +295,17 @@ def list_of_calls():
 
 
 def faults():
-    """Yields what is wrong with the words: a definition without a comment, and a name that two have."""
-    there = {}
+    """Yields what is wrong with the words: a file or a definition without a comment, and a name that two have."""
+    there, files = {}, {}
     for crate in crates_in(TOP):
         for word in definitions(crate):
             there.setdefault(word.name, []).append(word)
+            if word.path not in files:
+                files[word.path] = read_text(f"{TOP}/{word.path}").startswith("--")
             if not word.says:
                 yield word.path, f"{word.name} has no comment"
+    for path in sorted(it for it, has_comment in files.items() if not has_comment):
+        yield path, "no comment says what the file has"
     for name, words in sorted(there.items()):
         if len(words) > 1:
             yield words[0].path, f"{name} stands in {', '.join(it.path for it in words[1:])} too"
