@@ -20,7 +20,7 @@ LINE = f"{NAME} tests_may=Threads+Wait: futures_lite framed futures bytes tokio_
 # The crates in crates.txt that have the functions with clauses, which are proved side by side. A part is a module of the library, or is of the methods of
 # `StreamExt`.
 EXTENSION, ADAPTERS, CONSUMING = "StreamExt", "adapters", "consuming"
-PROVED = {it: f"proved_examples_{it}" for it in (*MODULES, ADAPTERS)} | dict.fromkeys(("future", "stream", CONSUMING), "proved_examples_others")
+PROVED = dict.fromkeys(MODULES, "proved_examples_others") | dict.fromkeys((ADAPTERS, CONSUMING), "proved_examples_stream_ext")
 ABOUT = {ADAPTERS: f"`{EXTENSION}` that return a stream", CONSUMING: f"`{EXTENSION}` that consume a stream"}
 # What an example may name with no import of its own: the words of a clause, and what a function that waits takes.
 GHOST = {

@@ -69,7 +69,7 @@ ABOUT_EXAMPLES = (
     "An example is the body of a function `fn example(rt: HostRuntime) -> Result<(), Fail>`: `rt` is the runtime that `main` is given, `Poll` is `futures_lite::Poll`, and `?` returns"
     " an allocation failure or an I/O error. `tools/tests` runs each of them. A function of an example that has an `ensures` is proved with no proof"
     " file, in a crate that begins with `#![tactic(auto)]`. It needs the imports of that crate, as those of"
-    " [proved_examples_io](../../crates/proved_examples_io/src/io.rt)."
+    " [proved_examples_others](../../crates/proved_examples_others/src/io.rt)."
 )
 
 

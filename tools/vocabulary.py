@@ -74,14 +74,15 @@ def comment_over(lines, at):
     return " ".join(line.lstrip(" -") for line in lines[start:at])
 
 
+@functools.cache
 def definitions(crate):
-    """Yields the definitions of a crate, those of its laws too."""
+    """Returns the definitions of a crate, those of its laws too."""
+    words = []
     for file in files_of(f"{TOP}/crates/{crate}/specs"):
         lines = read_text(f"{TOP}/crates/{crate}/specs/{file}").splitlines()
-        for at, line in enumerate(lines):
-            found = DEFINED.match(line)
-            if found:
-                yield Word(found["word"], crate, os.path.splitext(file)[0].replace("/", "."), comment_over(lines, at))
+        found = ((at, it["word"]) for at, it in enumerate(map(DEFINED.match, lines)) if it)
+        words += [Word(name, crate, os.path.splitext(file)[0].replace("/", "."), comment_over(lines, at)) for at, name in found]
+    return words
 
 
 @functools.cache

@@ -1,6 +1,6 @@
 //! Functions with clauses in the examples of doc comments.
 #![tactic(auto)]
 
-pub mod consuming;
 pub mod future;
+pub mod io;
 pub mod stream;

@@ -9,32 +9,46 @@ use test_support::answers;
 
 const SENT: [&[u8]; 4] = [b"one", b"", b"three", b"\0\0\0\x01"];
 
-#[test]
-fn the_frames_come_whatever_the_chunks(rt: HostRuntime) -> Result<(), Fail> {
+/// Reads the frames through a buffer of this capacity, from readers that hand out chunks of each size.
+fn frames_come(rt: &HostRuntime, capacity: usize) -> Result<(), Fail> {
     let input = encoded(rt.alloc(), &SENT)?;
     for size in 1..30 {
-        for capacity in [1, 3, 64] {
-            let mut marks = Marks::new(rt.alloc());
-            for piece in input.as_slice().chunks(size) {
-                marks.pending()?;
-                marks.chunk(piece)?;
-            }
-            let mut frames = frames_of(rt.alloc(), capacity, marks)?;
-            let mut came = 0;
-            for answer in answers(&rt, &mut frames, 36)? {
-                match polled(rt.alloc(), answer)? {
-                    Polled::Pending => {}
-                    Polled::Frame(frame) => {
-                        assert_eq!(rt; frame.as_slice(), SENT[came]);
-                        came += 1;
-                    }
-                    other => assert_eq!(rt; (other, came), (Polled::Ended, 4)),
-                }
-            }
-            assert_eq!(rt; came, 4);
+        let mut marks = Marks::new(rt.alloc());
+        for piece in input.as_slice().chunks(size) {
+            marks.pending()?;
+            marks.chunk(piece)?;
         }
+        let mut frames = frames_of(rt.alloc(), capacity, marks)?;
+        let mut came = 0;
+        for answer in answers(rt, &mut frames, 36)? {
+            match polled(rt.alloc(), answer)? {
+                Polled::Pending => {}
+                Polled::Frame(frame) => {
+                    assert_eq!(rt; frame.as_slice(), SENT[came]);
+                    came += 1;
+                }
+                other => assert_eq!(rt; (other, came), (Polled::Ended, 4)),
+            }
+        }
+        assert_eq!(rt; came, 4);
     }
     Ok(())
+}
+
+// (a test for each capacity, since tools/refuse-memory runs each once for each request for memory)
+#[test]
+fn the_frames_come_through_a_buffer_of_a_byte(rt: HostRuntime) -> Result<(), Fail> {
+    frames_come(&rt, 1)
+}
+
+#[test]
+fn the_frames_come_through_a_buffer_of_three_bytes(rt: HostRuntime) -> Result<(), Fail> {
+    frames_come(&rt, 3)
+}
+
+#[test]
+fn the_frames_come_through_a_buffer_of_all_bytes(rt: HostRuntime) -> Result<(), Fail> {
+    frames_come(&rt, 64)
 }
 
 #[test]

@@ -2,3 +2,4 @@
 #![tactic(auto)]
 
 pub mod adapters;
+pub mod consuming;

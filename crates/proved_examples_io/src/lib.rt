@@ -1,4 +1,0 @@
-//! Functions with clauses in the examples of doc comments.
-#![tactic(auto)]
-
-pub mod io;
