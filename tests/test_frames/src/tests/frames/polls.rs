@@ -3,14 +3,20 @@ use framed::FramedRead;
 use futures_lite::io::AsyncReadExt;
 use futures_lite::{StreamExt, future};
 use lite_mock::Marks;
+use std::alloc::AllocGlobal;
 use std::io::ErrorKind;
+use std::process::Abort;
+use std::random::RandomSource;
 use std::test::Fail;
 use test_support::answers;
 
 const SENT: [&[u8]; 4] = [b"one", b"", b"three", b"\0\0\0\x01"];
 
 /// Reads the frames through a buffer of this capacity, from readers that hand out chunks of each size.
-fn frames_come(rt: &HostRuntime, capacity: usize) -> Result<(), Fail> {
+fn frames_come<R: Abort + RandomSource + AllocGlobal + Copy>(
+    rt: R,
+    capacity: usize,
+) -> Result<(), Fail> {
     let input = encoded(rt.alloc(), &SENT)?;
     for size in 1..30 {
         let mut marks = Marks::new(rt.alloc());
@@ -20,7 +26,7 @@ fn frames_come(rt: &HostRuntime, capacity: usize) -> Result<(), Fail> {
         }
         let mut frames = frames_of(rt.alloc(), capacity, marks)?;
         let mut came = 0;
-        for answer in answers(rt, &mut frames, 36)? {
+        for answer in answers(&rt, &mut frames, 36)? {
             match polled(rt.alloc(), answer)? {
                 Polled::Pending => {}
                 Polled::Frame(frame) => {
@@ -38,17 +44,17 @@ fn frames_come(rt: &HostRuntime, capacity: usize) -> Result<(), Fail> {
 // (a test for each capacity, since tools/refuse-memory runs each once for each request for memory)
 #[test]
 fn the_frames_come_through_a_buffer_of_a_byte(rt: HostRuntime) -> Result<(), Fail> {
-    frames_come(&rt, 1)
+    frames_come(rt, 1)
 }
 
 #[test]
 fn the_frames_come_through_a_buffer_of_three_bytes(rt: HostRuntime) -> Result<(), Fail> {
-    frames_come(&rt, 3)
+    frames_come(rt, 3)
 }
 
 #[test]
 fn the_frames_come_through_a_buffer_of_all_bytes(rt: HostRuntime) -> Result<(), Fail> {
-    frames_come(&rt, 64)
+    frames_come(rt, 64)
 }
 
 #[test]
