@@ -74,7 +74,7 @@ NO_OTHER_BODY = {
     *("future::block_on", "io::AsyncBufReadExt::fill_buf", "io::AsyncReadExt::chain"),
     *("stream::empty", "stream::StreamExt::drain", "stream::StreamExt::for_each"),
 }
-# Functions whose results no clause tells (docs/PROVED.md says what is known of them), and adapters that hand on the stream itself at an error.
+# Functions whose results no clause tells (docs/PROVED.md says what is known of them), and adapters whose only clause, on their parts, has no name.
 NO_CONTRACT, NO_PARTS = {"future::BlockOn::new", "future::BlockOn::waits", "io::NewCounters::new", "io::split"}, {"StreamExt::cycle", "StreamExt::drain"}
 # Calls whose example proves no clause: theirs on items takes a function or results, which the example would have to name in a proof.
 NO_PROVED_EXAMPLE = {"StreamExt::flatten", "script", "try_unfold", "unfold"}
@@ -206,15 +206,15 @@ def conditions():
                 yield f"{MARKS_MET}/src/{CONDITIONS}", f"nothing calls `{name}`, which asks something of a closure or a value"
 
 
-def at_hand(*words):
+def git(*words):
     """Returns what git prints, or nothing where there is no history."""
     return subprocess.run(["git", "-C", TOP, *words], capture_output=True, encoding="utf-8", check=False).stdout
 
 
 def new_names_told():
     """Each public item that was not there when the number of the version changed is named on the page of changes. Without the history none is missed."""
-    since = at_hand("log", "-1", "--format=%H", "--", NUMBER).strip()
-    then = {it.split()[-1] for it in at_hand("grep", "-hoE", ITEM, since, "--", "crates/*/src/*.rt").splitlines()} if since else set()
+    since = git("log", "-1", "--format=%H", "--", NUMBER).strip()
+    then = {it.split()[-1] for it in git("grep", "-hoE", ITEM, since, "--", "crates/*/src/*.rt").splitlines()} if since else set()
     new = {it.name for of_module in items().values() for it in of_module} - then if then else set()
     yield from lacking(CHANGES, new, new & set(re.findall(r"\w+", read_text(f"{TOP}/{CHANGES}"))), set(), "it does not name the new")
 
