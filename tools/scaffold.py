@@ -31,12 +31,18 @@ def beginning(form, longer):
     return rf"(?<![A-Za-z0-9]){form}(?:{form[-1]}(?=ed|ing))?" + (f"(?!{'|'.join(rests)})" if rests else "")
 
 
+def whole_word(text):
+    """Returns what finds this text, but not as a part of a word."""
+    return re.compile(r"(?:(?<!\w)|(?!\w))" + re.escape(text) + r"(?:(?!\w)|(?<!\w))")
+
+
 class Names:
     """How the names of the new call are made of those of the old one."""
 
-    def __init__(self, old, new, calls, others=()):
-        """`calls` are all calls that are there, and `others` the definitions of other files."""
+    def __init__(self, old, new, calls, others=(), words=()):
+        """`calls` are all calls that are there, `others` the definitions of other files, and `words` pairs: what a copy has in the place of what."""
         self.new, self.renamed = new, {}
+        self.words = [(whole_word(was), to) for was, to in words]
         forms = {make(old): make(new) for make in FORMS}
         longer = {*others, *(make(it) for it in calls for make in FORMS)} - {*forms}
         begins = "|".join(beginning(it, longer) for it in sorted(forms, key=len, reverse=True))
@@ -51,7 +57,10 @@ class Names:
 
     def told(self, text):
         text = self.old.sub(lambda it: self.forms[it[0]], text)
-        return re.sub(r"[\w-]+", lambda it: self.renamed.get(it[0], it[0]), text)
+        text = re.sub(r"[\w-]+", lambda it: self.renamed.get(it[0], it[0]), text)
+        for was, to in self.words:
+            text = was.sub(lambda _, to=to: to, text)
+        return text
 
 
 def indent(line):
