@@ -31,18 +31,17 @@ def beginning(form, longer):
     return rf"(?<![A-Za-z0-9]){form}(?:{form[-1]}(?=ed|ing))?" + (f"(?!{'|'.join(rests)})" if rests else "")
 
 
-def whole_word(text):
-    """Returns what finds this text, but not as a part of a word."""
-    return re.compile(r"(?:(?<!\w)|(?!\w))" + re.escape(text) + r"(?:(?!\w)|(?<!\w))")
+def as_word(was, to):
+    """Returns the pair of a pattern that finds this text, but not as a part of a word, and of what is put in its place."""
+    return re.compile(r"(?:(?<!\w)|(?!\w))" + re.escape(was) + r"(?:(?!\w)|(?<!\w))"), to.replace("\\", r"\\")
 
 
 class Names:
     """How the names of the new call are made of those of the old one."""
 
     def __init__(self, old, new, calls, others=(), words=()):
-        """`calls` are all calls that are there, `others` the definitions of other files, and `words` pairs: what a copy has in the place of what."""
-        self.new, self.renamed = new, {}
-        self.words = [(whole_word(was), to) for was, to in words]
+        """`calls` are all calls that are there, `others` the definitions of other files, and `words` pairs: a pattern, and what a copy has in its place."""
+        self.new, self.renamed, self.words, self.used = new, {}, list(words), set()
         forms = {make(old): make(new) for make in FORMS}
         longer = {*others, *(make(it) for it in calls for make in FORMS)} - {*forms}
         begins = "|".join(beginning(it, longer) for it in sorted(forms, key=len, reverse=True))
@@ -59,8 +58,13 @@ class Names:
         text = self.old.sub(lambda it: self.forms[it[0]], text)
         text = re.sub(r"[\w-]+", lambda it: self.renamed.get(it[0], it[0]), text)
         for was, to in self.words:
-            text = was.sub(lambda _, to=to: to, text)
+            text, count = was.subn(to, text)
+            self.used |= {was.pattern} if count else set()
         return text
+
+    def unused(self):
+        """Returns the patterns of words that no copy had."""
+        return [was.pattern for was, _ in self.words if was.pattern not in self.used]
 
 
 def indent(line):
