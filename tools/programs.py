@@ -43,6 +43,8 @@ BESIDE = {
 KEPT_FOR = 3 * 24 * 3600
 # How many seconds a program may run that nothing goes wrong in, on a busy machine.
 PATIENCE = 600
+# The status of a run that uses memory wrongly or keeps some at its end. No program and no test ends so by itself.
+MISUSED = 99
 
 
 def place():
@@ -151,7 +153,7 @@ def build(names):
 
 def environment(program, fault="none:0:0"):
     """The environment of a run; a fault is as tools/faults.c has it."""
-    return {"FAULT": fault, "TMPDIR": os.path.dirname(program), "ASAN_OPTIONS": "detect_leaks=1"}
+    return {"FAULT": fault, "TMPDIR": os.path.dirname(program), "ASAN_OPTIONS": f"detect_leaks=1:exitcode={MISUSED}"}
 
 
 def run(program, words=(), given=""):
