@@ -100,12 +100,6 @@ def read_text(path):
         return file.read()
 
 
-def as_many_as_fit(memory):
-    """Returns how many things that take so much memory may run side by side: one on each processor, as far as the free memory holds them, but at least one."""
-    free = 1024 * int(re.search(r"^MemAvailable: +(\d+)", read_text("/proc/meminfo"), re.M)[1])
-    return max(1, min(len(os.sched_getaffinity(0)), free // memory))
-
-
 def version():
     """Returns the number of this version."""
     return read_text(f"{TOP}/VERSION").strip()
