@@ -52,9 +52,6 @@ static off_t copy_to(int to, int from) {
   return done;
 }
 
-/* A file for what the copy prints. */
-static int own_output(void) { return memfd_create("output", 0); }
-
 /* Puts the standard input in its place, as far as it was read. */
 static void open_input_again(void) {
   int again = open("/proc/self/fd/0", O_RDONLY);
@@ -65,7 +62,7 @@ static void open_input_again(void) {
 
 /* Copies the process; returns whether this is the copy. The other one waits until the copy has ended, and tells how. */
 static int is_the_copy(void) {
-  int streams[] = {own_output(), own_output()}, status;
+  int streams[] = {memfd_create("output", 0), memfd_create("errors", 0)}, status;
   pid_t copy = fork();
   if (copy == 0) {
     for (int it = 0; it < 2; it++) {
@@ -79,7 +76,7 @@ static int is_the_copy(void) {
     return 1;
   }
   struct stat out, err;
-  if (waitpid(copy, &status, 0) != copy || fstat(streams[0], &out) || fstat(streams[1], &err))
+  if (copy < 0 || waitpid(copy, &status, 0) != copy || fstat(streams[0], &out) || fstat(streams[1], &err))
     _exit(3);
   dprintf(told, "%d %ld %ld\n", WIFEXITED(status) ? WEXITSTATUS(status) : -WTERMSIG(status), (long)out.st_size, (long)err.st_size);
   for (int it = 0; it < 2; it++) {
