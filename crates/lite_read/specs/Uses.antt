@@ -12,7 +12,7 @@ pub use Rattle.lite_base.specs.Laws.Answers.{up_to_once, up_to_one}
 pub use Rattle.lite_base.specs.Laws.Ranks.{Terminates-map}
 pub use Rattle.lite_base.specs.Laws.FutureLaws.{future_laws_of}
 pub use Rattle.lite_base.specs.Laws.Segments.{segment_alone, segments_one}
-pub use Rattle.lite_base.specs.Laws.StreamLaws.{laws_of, runs_of}
+pub use Rattle.lite_base.specs.Laws.StreamLaws.{laws_of}
 pub use Rattle.lite_base.specs.Ranks.{Below, Lowers, Ranks, ranks_of}
 pub use Rattle.lite_base.specs.Registered.{Registered, HoldsWoken}
 pub use Rattle.lite_base.specs.Runs.{NoHint, Runs}

@@ -1,6 +1,6 @@
 -- Adapters that leave some items of their source out.
-use Rattle.std.specs.Prelude.{◌≡◌, [], ◌∷◌, Option, Some, None}
-use Rattle.lite_reshape.specs.Uses.{Ready, Pending, Answer, end, item, Question, Runs, Segment, Relates}
+use Rattle.std.specs.Prelude.{◌≡◌, [], ◌∷◌, Option, Some, None, Bool}
+use Rattle.lite_reshape.specs.Uses.{Ready, Pending, Accepts, Answer, end, item, Question, Runs, Segment, Relates}
 use Rattle.lite_base.specs.Segments.{OneAnswer, Segments}
 
 -- `call p x o q`: the call with the item `x` returns `o`, and takes the closure from `p` to `q`. The item is kept if
@@ -31,3 +31,8 @@ module _ {F A B : Type 0} (call : Question F A (Option B)) where
   abbrev pub Sifts : {T S : Type 0} → Runs (Answer A) S → (T → Type 0) → (T → S) → (T → F) → T → Option (Answer B) → T
       → Type 0
   Sifts run can_step source asked x r y = can_step y × LeaveStep run (source x) (asked x) r (source y) (asked y)
+
+-- The adapter's own state decides: `keeps p x` says whether the item `x` is kept in the state `p`, and `next p x` is the
+-- state after it. A kept item is yielded as it is.
+abbrev pub Selects : {F A : Type 0} → (F → A → Bool) → (F → A → F) → Question F A (Option A)
+Selects keeps next = Accepts (λ p x kept q. (keeps p x ≡ kept) × (q ≡ next p x))

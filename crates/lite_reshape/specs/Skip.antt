@@ -1,13 +1,12 @@
 -- `skip`: the first `n` items are left out.
-use Rattle.std.specs.Prelude.{◌≡◌, ℕ, ◌+◌, Option, Some, None}
+use Rattle.std.specs.Prelude.{ℕ, ◌==◌, ◌-◌, Option}
 use Rattle.lite_reshape.specs.Uses.{Answer, Runs, AdapterParts, Through, parts_of}
-use Rattle.lite_reshape.specs.Leaving.{LeavesOut}
+use Rattle.lite_reshape.specs.Leaving.{LeavesOut, Selects}
 use Rattle.lite_reshape.specs.declared.skip.Skip.{Skip}
 
--- An item is left out as long as `n` is above 0, and `n` is then one less. Otherwise the item is kept.
+-- An item is kept if `n` is 0. Otherwise it is left out, and `n` is one less.
 abbrev pub Skips : {A : Type 0} → ℕ → A → Option A → ℕ → Type 0
-Skips n x None m = n ≡ m + 1
-Skips n x (Some y) m = (n ≡ 0) × (y ≡ x) × (m ≡ 0)
+Skips = Selects (λ n x. n == 0) (λ n x. n - 1)
 
 -- The source's results without its first `n` items.
 abbrev pub SkipsFirst : {S A : Type 0} → Runs (Answer A) S → Runs (Answer A) (Skip S)

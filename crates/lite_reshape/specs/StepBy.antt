@@ -1,15 +1,14 @@
 -- `step_by`: the source's items are numbered, across `Pending`s and ends of stream, and those whose number is a
 -- multiple of the step are kept.
-use Rattle.std.specs.Prelude.{◌≡◌, ℕ, ◌+◌, ◌%◌, ◌<◌, List, [], ◌∷◌, Option, Some, None}
+use Rattle.std.specs.Prelude.{◌≡◌, ◌==◌, ℕ, ◌+◌, ◌%◌, ◌<◌, List, [], ◌∷◌, Option}
 use Rattle.lite_reshape.specs.Uses.{Answer, Runs, AdapterParts, Through, parts_of}
-use Rattle.lite_reshape.specs.Leaving.{LeavesOut}
+use Rattle.lite_reshape.specs.Leaving.{LeavesOut, Selects}
 use Rattle.lite_reshape.specs.declared.step_by.StepBy.{StepBy}
 
 -- The item with the number `n` is kept if `n` is a multiple of the step, and is left out otherwise. The next item has
 -- the number `n + 1`.
 abbrev pub Numbered : {A : Type 0} → ℕ → ℕ → A → Option A → ℕ → Type 0
-Numbered step n x None m = (m ≡ n + 1) × (n % step ≡ 0 → ⊥)
-Numbered step n x (Some y) m = (m ≡ n + 1) × (n % step ≡ 0) × (y ≡ x)
+Numbered step = Selects (λ n x. n % step == 0) (λ n x. n + 1)
 
 -- The next item may have the number `n`, if `p.1` more items are left out before the next is kept: `n + p.1` is a
 -- multiple of the step `p.0`, and `p.1` is less than that.

@@ -14,7 +14,7 @@ pub use Rattle.lite_base.specs.Laws.Answers.{all_any, all_split, strip_join, end
 pub use Rattle.lite_base.specs.Laws.Calling.{MatchesFrom, agree_from_matches, makes_on}
 pub use Rattle.lite_base.specs.Laws.Calm.{calm_both, no_pending_join}
 pub use Rattle.lite_base.specs.Laws.Chain.{Reaches-back}
-pub use Rattle.lite_base.specs.Laws.Ranks.{AtMost-then_below, Lowers-after, one_less, own_lowers, zeros_least}
+pub use Rattle.lite_base.specs.Laws.Ranks.{AtMost-then_below, Lowers-after, own_lowers, zeros_least}
 pub use Rattle.lite_base.specs.Laws.Ranks.{Terminates-count, Terminates-map, AtMost-both, Below-after, Below-first}
 pub use Rattle.lite_base.specs.Laws.Ranks.{Lowers-at_most, Lowers-below, ok_counting}
 pub use Rattle.lite_base.specs.Laws.StreamLaws.{same_hint, runs_of}

@@ -1,10 +1,12 @@
 ghost use Rattle.std.specs.Prelude.{◌≡◌, None};
+ghost use Rattle.std.proofs.Common.{arith};
+ghost use Rattle.std.proofs.lemmas.Bool.Decides.{nat_tests};
 ghost use Rattle.lite_reshape.specs.Uses.{NoHint, Terminates-count, laws_unhinted, ok_counting, ranks_of};
-ghost use Rattle.lite_reshape.specs.Uses.{through_counting, through_on, through_steady_over, one_less};
+ghost use Rattle.lite_reshape.specs.Uses.{through_counting, through_on, through_steady_over, refl};
 ghost use Rattle.lite_reshape.specs.Uses.{through_calm};
 ghost use Rattle.lite_reshape.specs.Leaving.{Sifts};
 ghost use Rattle.lite_reshape.specs.Skip.{Skips, SkipsFirst, skip_parts};
-ghost use Rattle.lite_reshape.specs.Laws.Agreeing.{leaves_showing, skips_match};
+ghost use Rattle.lite_reshape.specs.Laws.Agreeing.{leaves_selecting};
 ghost use Rattle.lite_reshape.specs.Laws.Leaving.{leaves_calming, leaves_relating};
 
 use lite_base::{
@@ -32,7 +34,7 @@ impl<S: Stream<Item: Drop>> PollSteps for Skip<S> {
 
     ghost goes_on = { λ x y c h. h.0 };
 
-    ghost finite = { λ x c. Terminates-count (λ m. m.n) (λ m n h. one_less h.1.2) x };
+    ghost finite = { λ x c. Terminates-count (λ m. m.n) (λ m n h. Prim.grind (arith, nat_tests, h.1.2)) x };
 
     fn poll_step(&mut self, cx: &mut Context<'_>) -> Option<Poll<Option<S::Item>>> {
         let answer = self.stream.poll_next(cx);
@@ -94,7 +96,7 @@ impl<S: SteadyStream<Item: Drop>> SteadyStream for Skip<S> {
     ghost alike = { λ x y. S.alike x.stream y.stream × (y.n ≡ x.n) };
 
     ghost steady = { through_steady_over skip_parts S.same S.same S.steady (leaves_relating Skips).following
-        (leaves_showing Skips skips_match S.same) };
+        (leaves_selecting _ _ S.same (λ n m. m ≡ n) (λ n m x w e s. rw e (refl, refl))) };
 }
 
 impl<S: CalmStream<Item: Drop>> CalmStream for Skip<S> {

@@ -1,6 +1,7 @@
 ghost use Rattle.std.specs.Prelude.{◌≡◌, None};
 ghost use Rattle.lite_reshape.specs.Uses.{ranks_of, Terminates-count, NoHint, laws_unhinted, through_counting};
-ghost use Rattle.lite_reshape.specs.Uses.{ok_counting, through_steady_over, through_calm, one_less};
+ghost use Rattle.lite_reshape.specs.Uses.{ok_counting, through_steady_over, through_calm};
+ghost use Rattle.lite_base.specs.Laws.Ranks.{one_less};
 ghost use Rattle.lite_reshape.specs.Leaving.{Sifts};
 ghost use Rattle.lite_reshape.specs.StepBy.{CanStep, StepsBy, step_by_parts};
 ghost use Rattle.lite_reshape.specs.Laws.StepBy.{Countdown, steps_agreeing, steps_calming, steps_on, steps_relating};

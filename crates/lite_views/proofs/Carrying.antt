@@ -1,6 +1,7 @@
 -- What an adapter makes of items, for the relations that exchange items or leave some out.
-use Rattle.std.specs.Prelude.{◌≡◌, List, [], ◌∷◌, refl, Option, Some, None, ℕ}
+use Rattle.std.specs.Prelude.{◌≡◌, List, [], ◌∷◌, refl, ⊤, Bool, true, false, cond, Option, Some, None, ℕ}
 use Rattle.lite_views.specs.Uses.{Ready, Pending, Answer, item, Question, Exchanges, leaves_steps, LeavesOut, suc, length, arith, cons_option}
+use Rattle.lite_reshape.specs.Leaving.{Selects}
 use Rattle.lite_views.proofs.Views.{Carries}
 use Rattle.lite_views.specs.Views.{Fits}
 use Rattle.std.proofs.Common.{◌≤◌}
@@ -47,6 +48,27 @@ module _ {F A B : Type 0} (call : Question F A (Option B)) (Good : F → Type 0)
       left_fits p xs g i o q e h =
           leaves_steps call Left one_rejected (λ p i o k. k) (λ p i o k xs g e. rw e (nothing p g)) one_kept p q i o
           (λ xs g e. tt) h xs g e
+
+-- where the adapter's own state decides
+module _ {F A : Type 0} (keeps : F → A → Bool) (next : F → A → F) where
+  -- the items that are kept
+  abbrev pub selected : F → List A → List A
+  selected p [] = []
+  selected p (x ∷ xs) = cond (keeps p x) (x ∷ selected (next p x) xs) (selected (next p x) xs)
+
+  pub selected_fits : (p : F) (xs : List A) → Carries (LeavesOut (Selects keeps next)) p xs (selected p xs)
+  selected_fits p xs =
+      left_fits (Selects keeps next) (λ p. ⊤) selected (λ p g. refl) (λ p q x y l g c. rw (c.0, c.1.0, c.1.1) (refl, tt))
+      (λ p q x l g c. rw (c.0, c.1) (refl, tt)) p xs tt
+
+  -- no more items come out than go in
+  pub selected_fewer : (p : F) (xs : List A) → length (selected p xs) ≤ length xs
+  selected_fewer p [] = omega arith
+  selected_fewer p (x ∷ xs) = by (keeps p x) (selected (next p x) xs) (selected_fewer (next p x) xs)
+    where
+      by : (b : Bool) (l : List A) → length l ≤ length xs → length (cond b (x ∷ l) l) ≤ suc (length xs)
+      by true l h = omega arith
+      by false l h = omega arith
 
 -- No more items come out of an adapter than go in: what `map_while`, `scan` and `filter_map` share.
 

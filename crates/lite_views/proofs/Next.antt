@@ -1,9 +1,9 @@
 -- The value of `next`, by the items of the stream, and what is left of the stream.
-use Rattle.std.specs.Prelude.{◌≡◌, ℕ, List, [], ◌∷◌, ◌++◌, refl, Option, Some, None, IfSome}
+use Rattle.std.specs.Prelude.{◌≡◌, ℕ, List, [], ◌∷◌, ◌++◌, refl, Option, Some, None}
 use Rattle.std.proofs.Common.{◌≤◌}
 use Rattle.lite_views.specs.Uses.{Lent, MutBor, ◌∙◌, suc, length, inl, inr, ap, arith, slice_get, Poll, Ready, Answer}
 use Rattle.lite_views.specs.Uses.{Gives, item, Runs, Folds, Consume, Pending, Hints, StreamLaws, Waiting}
-use Rattle.lite_views.specs.Uses.{consumes_steps, drop, end, items_in, replicate, until_end, zero}
+use Rattle.lite_views.specs.Uses.{consumes_steps, end, items_in, replicate, until_end, zero}
 use Rattle.lite_consume.specs.Next.{nexts}
 use Rattle.lite_consume.specs.declared.next.Next.{Next}
 use Rattle.lite_views.proofs.Futures.{when_left}

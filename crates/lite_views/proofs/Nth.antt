@@ -1,5 +1,5 @@
 -- The value of `nth`, by the items of the stream, and what is left of the stream.
-use Rattle.std.specs.Prelude.{◌≡◌, ℕ, List, [], ◌∷◌, ◌++◌, refl, Option, Some, None, IfSome}
+use Rattle.std.specs.Prelude.{◌≡◌, ℕ, List, [], ◌∷◌, ◌++◌, refl, Option}
 use Rattle.lite_views.specs.Uses.{Lent, MutBor, Nth, suc, inl, inr, arith, slice_get, Answer, Runs, fold_of, nths}
 use Rattle.lite_views.specs.Uses.{Consume, Gives, Hints, Poll, StreamLaws, ap, drop, zero}
 use Rattle.lite_views.specs.Futures.{NthRuns}

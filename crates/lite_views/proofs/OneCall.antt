@@ -1,8 +1,8 @@
 -- `read`, `write`, `flush` and `close`, which are polled by calls: what the whole wait did to the reader or the writer.
-use Rattle.std.specs.Prelude.{◌≡◌, ◌≤◌, ◌⊎◌, ℕ, zero, suc, List, [], ◌∷◌, ◌++◌, refl, drop, length, take, Result, Ok, Err, IfOk, ⊤}
+use Rattle.std.specs.Prelude.{◌≡◌, ◌≤◌, ◌⊎◌, ℕ, zero, suc, List, [], ◌∷◌, ◌++◌, refl, drop, length, take, Result, Ok, Err, IfOk}
 use Rattle.lite_views.specs.Uses.{Error, Gives, Known, Knows, MutBor, Poll, ReadMark, Ready, Pending, Runs, Stored}
 use Rattle.lite_views.specs.Uses.{Stores, ReadsKnown, WriteMark, bytes_taken, replicate, knows_spends, spends_bytes}
-use Rattle.lite_views.specs.Uses.{stores_kept, taken_both, ap, append-nil, arith, inl, inr, sym, ◌∙◌, drop-append_seam}
+use Rattle.lite_views.specs.Uses.{stores_kept, taken_both, ap, append-nil, inl, inr, sym, ◌∙◌, drop-append_seam}
 use Rattle.lite_views.specs.Uses.{take-append_seam}
 use Rattle.lite_io_base.specs.Marks.{moved_marks, read_marks}
 use Rattle.lite_io_base.specs.Runs.{MarkLaws}

@@ -1,10 +1,10 @@
 -- `read_exact` of a reader of which it is known what bytes are to come.
 use Rattle.std.specs.Prelude.{◌≡◌, ◌≤◌, ◌+◌, ℕ, zero, suc, List, [], ◌∷◌, refl, replicate, Result, Ok, Err, IfOk}
-use Rattle.lite_views.specs.Uses.{take_all, take-append_seam, drop-append_seam, ◌∙◌, length, take, drop, ap, sym, arith, Error, ReadsKnown, ReadMark, Runs}
+use Rattle.lite_views.specs.Uses.{take-append_seam, drop-append_seam, ◌∙◌, length, take, drop, ap, sym, arith, Error, ReadsKnown, ReadMark, Runs}
 use Rattle.lite_read.specs.ReadExact.{Filling, filling_of, Fulfils, ReadsExactly, fills}
 use Rattle.lite_read.specs.Laws.ReadExact.{filled_by}
 use Rattle.lite_read.specs.declared.read_exact.ReadExactFuture.{ReadExactFuture}
-use Rattle.std.proofs.lemmas.List.{length-take, take-replicate}
+use Rattle.std.proofs.lemmas.List.{length-take, take-replicate, take_all}
 use Rattle.lite_views.specs.Answering.{WhenLeft}
 use Rattle.lite_views.specs.OneCall.{EachByte, YieldsOn}
 use Rattle.lite_views.proofs.Futures.{TakenUp, taken_up, when_left}

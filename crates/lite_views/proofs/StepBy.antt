@@ -1,26 +1,24 @@
 -- The items of `step_by`, by those of its source.
-use Rattle.std.specs.Prelude.{◌≡◌, ◌==◌, ℕ, ◌%◌, List, [], ◌∷◌, map, refl, ⊤, Bool, true, false, cond}
+use Rattle.std.specs.Prelude.{◌≡◌, ◌==◌, ℕ, ◌%◌, List, [], ◌∷◌, map, refl, Bool, true, false, cond}
 use Rattle.std.proofs.Common.{◌≤◌, ◌+◌}
 use Rattle.lite_views.specs.Uses.{◌∙◌, length, ap, sym, arith, enumerate_from, filter, Answer, Runs, LeavesOut}
 use Rattle.lite_reshape.specs.StepBy.{Numbered, StepsBy, StepsOn, step_by_parts}
 use Rattle.lite_reshape.specs.declared.step_by.StepBy.{StepBy}
 use Rattle.std.proofs.Math.Nat.{mod-add-mod, zero-mod}
-use Rattle.std.proofs.lemmas.List.{length-map}
-use Rattle.std.proofs.lemmas.List.FromFn.{length-enumerate_from}
 use Rattle.lite_views.proofs.Views.{Carries, listed_through}
 use Rattle.lite_views.specs.Lists.{step_from}
 use Rattle.lite_views.specs.Views.{Lists, ListsAs}
-use Rattle.lite_views.proofs.Carrying.{left_fits}
-use Rattle.lite_views.proofs.Filter.{filter_fewer}
-use Rattle.lite_views.proofs.Equal.{not_equal}
+use Rattle.lite_views.proofs.Carrying.{selected, selected_fewer, selected_fits}
 
 module _ {A : Type 0} (step : ℕ) where
-  module _ (n : ℕ) (x : A) (l : List A) where
-    left_out : (n % step ≡ 0 → ⊥) → step_from step n (x ∷ l) ≡ step_from step (n + 1) l
-    left_out h = rw not_equal
-
-    kept_on : n % step ≡ 0 → step_from step n (x ∷ l) ≡ x ∷ step_from step (n + 1) l
-    kept_on h = cc
+  numbered : (n : ℕ) (xs : List A) → selected (λ n x. n % step == 0) (λ n x. n + 1) n xs ≡ step_from step n xs
+  numbered n [] = refl
+  numbered n (x ∷ xs) = rw (numbered (n + 1) xs) (by (n % step == 0) (filter (λ p. p.0 % step == 0) (enumerate_from (n + 1) xs)))
+    where
+      by : (b : Bool) (l : List (ℕ × A)) → cond b (x ∷ map (λ p. p.1) l) (map (λ p. p.1) l)
+          ≡ map (λ p. p.1) (cond b ((n, x) ∷ l) l)
+      by true l = refl
+      by false l = refl
 
   -- the numbers may begin at any multiple of the step
   from_multiple : (n k : ℕ) (xs : List A) → n % step ≡ k % step → step_from step n xs ≡ step_from step k xs
@@ -36,10 +34,7 @@ module _ {A : Type 0} (step : ℕ) where
       by false l m e = e
 
   numbered_fits : (n : ℕ) (xs : List A) → Carries (LeavesOut (Numbered step)) n xs (step_from step n xs)
-  numbered_fits n xs =
-      left_fits (Numbered step) (λ p. ⊤) (step_from step) (λ p g. refl)
-      (λ p q x y l g c. (rw (c.0, c.2) (kept_on p x l c.1), tt))
-      (λ p q x l g c. (rw c.0 (left_out p x l c.1), tt)) n xs tt
+  numbered_fits n xs = rw (← numbered n xs) (selected_fits _ _ n xs)
 
   stepped_fits : (xs : List A) → Carries StepsOn (step, 0) xs (step_from step 0 xs)
   stepped_fits xs i [] q e h = tt
@@ -54,10 +49,4 @@ stepped_lists run x xs first lists =
 
 -- no more items come out than go in
 pub step_fewer : {A : Type 0} (step n : ℕ) (xs : List A) → length (step_from step n xs) ≤ length xs
-step_fewer step n xs =
-    omega (
-      arith,
-      length-map (filter (λ p. p.0 % step == 0) (enumerate_from n xs)) (λ p. p.1),
-      filter_fewer (λ p. p.0 % step == 0) (enumerate_from n xs),
-      length-enumerate_from n xs,
-    )
+step_fewer step n xs = rw (← numbered step n xs) (selected_fewer _ _ n xs)

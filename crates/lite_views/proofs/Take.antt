@@ -1,8 +1,7 @@
 -- The items of `take`, by those of its source.
 use Rattle.std.specs.Prelude.{◌≡◌, ℕ, List, [], ◌∷◌, refl, Some, None}
-use Rattle.std.proofs.Common.{◌-◌, ◌≤◌}
+use Rattle.std.proofs.Common.{◌-◌}
 use Rattle.lite_views.specs.Uses.{zero, suc, take, inl, inr, replicate, arith, Ready, Pending, Answer, item, Runs, Cuts, is_none_left, left_after}
-use Rattle.lite_views.specs.Uses.{length, take_all}
 use Rattle.lite_stream.specs.Take.{Takes, take_parts}
 use Rattle.lite_stream.specs.declared.take.Take.{Take}
 use Rattle.lite_views.proofs.Views.{Carries, listed, listed_through, seen}

@@ -1,6 +1,6 @@
 -- The value of `try_next`, by the items of the stream, and what is left of the stream.
-use Rattle.std.specs.Prelude.{List, [], ◌∷◌, Result, Ok, Err, ◌≡◌, ◌++◌, refl, Option, Some, None, IfSome, MatchResult}
-use Rattle.lite_views.specs.Uses.{Lent, MutBor, inl, inr, slice_get, Answer, Runs, Folds, Consume, Gives, Hints, Poll, StreamLaws, ap, drop}
+use Rattle.std.specs.Prelude.{List, [], ◌∷◌, Result, Ok, Err, ◌≡◌, ◌++◌, refl, Option}
+use Rattle.lite_views.specs.Uses.{Lent, MutBor, inl, inr, slice_get, Answer, Runs, Folds, Consume, Gives, Hints, Poll, StreamLaws, ap}
 use Rattle.lite_consume.specs.TryNext.{tries_next}
 use Rattle.lite_consume.specs.declared.try_next.TryNext.{TryNext}
 use Rattle.std.specs.Option.{option_transpose}

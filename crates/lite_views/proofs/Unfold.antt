@@ -1,5 +1,5 @@
 -- The items of `unfold` and `try_unfold`.
-use Rattle.std.specs.Prelude.{◌≡◌, List, [], ◌∷◌, ◌++◌, map, flat_map, refl, Option, Some, None, MatchOption, Result, Ok}
+use Rattle.std.specs.Prelude.{◌≡◌, List, [], ◌∷◌, ◌++◌, map, flat_map, refl, Option, Some, None, MatchOption, Result}
 use Rattle.lite_views.specs.Uses.{Answer, Called, Finishes, FoldsTo, Gives, Mut, Pending, Poll, Ready, Runs, Waiting, handed, inl, inr, subst, sym}
 use Rattle.lite_base.specs.FutureLaws.{FutureRunLaws}
 use Rattle.lite_base.specs.Laws.Future.Spent.{finishes_later}

@@ -64,7 +64,7 @@ pub use Rattle.lite_stream.specs.declared.fuse.Fuse.{Fuse}
 pub use Rattle.rand_core.specs.Stream.{Stream}
 pub use Rattle.std.proofs.Common.{ap, append-nil, append_assoc, arith, drop, inl, inr, length, replicate, subst, suc, sym, take, zero, ◌∙◌}
 pub use Rattle.std.proofs.Math.Seq.{drop-append_seam, take-append_seam}
-pub use Rattle.std.proofs.lemmas.List.{map-append, take_all}
+pub use Rattle.std.proofs.lemmas.List.{map-append}
 pub use Rattle.std.proofs.lemmas.List.Elements.{filter-append}
 pub use Rattle.std.specs.Fn.{Called, Mut}
 pub use Rattle.std.specs.Iterator.{Count}

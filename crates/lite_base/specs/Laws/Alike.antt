@@ -67,12 +67,6 @@ module _ {A : Type 0} where
   answer_items Sameness.equal x y e = equal_options x y e
   answer_items (Sameness.by same) x y e = e
 
-  -- Options whose items are the same are results that are the same.
-  pub item_answers : (same : Sameness A) (x y : Option A) → OptionBy (SameItem same) x y
-      → SameAnswer same x y
-  item_answers Sameness.equal x y e = options_equal x y e
-  item_answers (Sameness.by same) x y e = e
-
   -- Two ends of a stream are the same.
   pub ends_same : (same : Sameness A) → SameAnswer same None None
   ends_same Sameness.equal = refl

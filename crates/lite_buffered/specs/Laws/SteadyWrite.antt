@@ -1,6 +1,6 @@
 -- A `BufWriter` is steady over a steady writer, and calm over a calm one.
 use Rattle.std.specs.Prelude.{◌≡◌, ℕ, List, [], ◌∷◌, ◌++◌}
-use Rattle.lite_buffered.specs.Uses.{◌∙◌, inl, inr, refl, sym, ap, subst, append_assoc, append-nil, CalmWriteLaws}
+use Rattle.lite_buffered.specs.Uses.{◌∙◌, inl, inr, refl, sym, subst, append-nil, CalmWriteLaws}
 use Rattle.lite_buffered.specs.Uses.{SteadyWriteLaws, WriteMark, bytes_taken, Runs, calm_part, steady_write_part}
 use Rattle.lite_io_base.specs.Laws.Steady.{never_waits_parts}
 use Rattle.lite_io_base.specs.Steady.{EndsFlushed, NoError, NoPendingWrite}

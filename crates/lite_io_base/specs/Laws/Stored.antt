@@ -5,7 +5,7 @@ use Rattle.std.proofs.Common.{append_assoc}
 use Rattle.lite_io_base.specs.WriteMarks.{WriteMark, bytes_taken}
 use Rattle.lite_io_base.specs.Runs.{MarkLaws}
 use Rattle.lite_io_base.specs.Steady.{CalmWriteLaws, NoPendingWrite, SteadyWriteLaws}
-use Rattle.lite_io_base.specs.Stored.{Grows, GrowsWhere, IsRefusal, Arrives, Stored, Stores}
+use Rattle.lite_io_base.specs.Stored.{Grows, GrowsWhere, IsRefusal, Stored, Stores}
 
 -- Laws of a vector as a writer. Two vectors are alike if their bytes are equal.
 

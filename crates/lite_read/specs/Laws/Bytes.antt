@@ -4,7 +4,7 @@ use Rattle.lite_read.specs.Uses.{suc, refl, ap, subst, add-one, Error, Ready, Pe
 use Rattle.lite_read.specs.Uses.{Ranks, ranks_of, RunLaws, StreamLaws, laws_of, NoHint, Runs, ReadCounting, Falls}
 use Rattle.lite_read.specs.Uses.{ReadMark, given_count, MarkLaws, CalmReadLaws, SteadyReadLaws, ◌∙◌, inl, inr, sym}
 use Rattle.lite_read.specs.Uses.{error_kind, ErrorKind, Interrupted, OptionBy, Sameness, Comparable, ComparableBy}
-use Rattle.lite_read.specs.Uses.{strip, SteadyLawsBy, runs_of, strip_marks}
+use Rattle.lite_read.specs.Uses.{strip, SteadyLawsBy, strip_marks}
 use Rattle.lite_base.specs.Laws.Calm.{calm_part}
 use Rattle.lite_base.specs.Laws.Ranks.{Lowers-below}
 use Rattle.lite_base.specs.Laws.StreamLaws.{same_hint}

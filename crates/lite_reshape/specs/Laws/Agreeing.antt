@@ -1,16 +1,14 @@
 -- Laws about adapters that leave items out: their results, `Pending`s aside, do not depend on when the source was
 -- pending.
 use Rattle.std.specs.Prelude.{◌≡◌, List, ◌∷◌, Option, Some, None, Bool, true, false, ⊤}
-use Rattle.lite_reshape.specs.Uses.{refl, arith, OptionBy, SameAnswer, SameItem, Sameness, strip, Accepts, AgreeFrom}
+use Rattle.lite_reshape.specs.Uses.{refl, OptionBy, SameAnswer, SameItem, Sameness, strip, Accepts, AgreeFrom}
 use Rattle.lite_reshape.specs.Uses.{AgreeKeeping, Keeping, both_items, ends_same, same_answer, MatchesFrom}
 use Rattle.lite_reshape.specs.Uses.{agree_from_matches, Question, AgreeingOver, Entails, AllByRecursion, Ready, Pending}
 use Rattle.lite_reshape.specs.Uses.{Answer, ComparableBy, OfItem}
-use Rattle.lite_base.specs.Laws.Alike.{item_answers}
-use Rattle.lite_base.specs.Laws.Calling.{accepts_matches, keeping_matches}
+use Rattle.lite_base.specs.Laws.Calling.{accepts_matches, keeping_matches, matches_agree_from}
 use Rattle.lite_stream.specs.Laws.Placed.{AlikeInPlace, Placed, placed_agreeing}
 use Rattle.lite_reshape.specs.Laws.Leaving.{leaves_steps}
-use Rattle.lite_reshape.specs.Leaving.{LeavesOut}
-use Rattle.lite_reshape.specs.Skip.{Skips}
+use Rattle.lite_reshape.specs.Leaving.{LeavesOut, Selects}
 use Rattle.lite_reshape.specs.SkipWhile.{SkipsUntil}
 use Rattle.lite_reshape.specs.Cloned.{Refers}
 
@@ -44,23 +42,22 @@ module _ {F A B : Type 0} (call : Question F A (Option B)) where
 
 -- The case of items that are yielded as the source yields them, or left out.
 module _ {F A : Type 0} where
-  pub leaves_showing : (call : Question F A (Option A)) {agree : F → F → Type 0}
-      → ((like : A → A → Type 0) → MatchesFrom like (OptionBy like) call agree) → (like : Sameness A)
-      → AgreeingOver like like (LeavesOut call) agree
-  leaves_showing call m like =
-      leaves_agreeing call like like
-      (λ f k g l x w y z a e c d. let s = m _ f k g l x w y z a e c d in (item_answers like y z s.0, s.1))
-
-  -- The same, by a test.
+  -- By a test.
   pub leaves_testing : (test : Question F A Bool) (like : Sameness A)
       → AgreeingOver like like (LeavesOut (Accepts test)) (AgreeFrom (SameItem like) (λ y z. y ≡ z) test)
   leaves_testing test like = leaves_agreeing _ like like (accepts_matches like test)
 
--- Equal counts skip the same items.
-pub skips_match : {A : Type 0} (like : A → A → Type 0) → MatchesFrom like (OptionBy like) Skips (λ n m. m ≡ n)
-skips_match like n m p q x w (Some y) (Some z) e s a c = (rw (a.1, c.1) s, rw (a.2, c.2))
-skips_match like n m p q x w None None e s a c = omega arith
-skips_match like n m p q x w y z e s a c = omega arith
+  -- By states that agree: both keep items that are the same, or neither does, and then the states agree again.
+  pub leaves_selecting : (keeps : F → A → Bool) (next : F → A → F) (like : Sameness A) (agree : F → F → Type 0)
+      → ((p q : F) (x w : A) → agree p q → SameItem like x w → (keeps p x ≡ keeps q w) × agree (next p x) (next q w))
+      → AgreeingOver like like (LeavesOut (Selects keeps next)) agree
+  leaves_selecting keeps next like agree both f k g l i j o p a =
+      leaves_testing test like f k g l i j o p
+      (matches_agree_from (SameItem like) (λ y z. y ≡ z) test agree
+      (λ f k g l x w y z a e c d. rw (← c.0, ← d.0, c.1, d.1) (both f k x w a e)) f k a)
+    where
+      test : Question F A Bool
+      test p x kept q = (keeps p x ≡ kept) × (q ≡ next p x)
 
 -- The case of `skip_while`: the predicates agree, or both are gone.
 module _ {F A : Type 0} (test : Question F A Bool) (like : Sameness A) where

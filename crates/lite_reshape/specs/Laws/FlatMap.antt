@@ -1,5 +1,5 @@
 -- Laws about `flat_map`, whose function makes streams.
-use Rattle.std.specs.Prelude.{◌≡◌, List, ◌∷◌, Option, Some, None}
+use Rattle.std.specs.Prelude.{◌≡◌, List, Option, Some, None}
 use Rattle.lite_reshape.specs.Uses.{Mut, AllByRecursion, refl, subst, Ready, OptionBy, SameItem, Sameness, Answer, CalmLaws, calm_both, Terminates}
 use Rattle.lite_reshape.specs.Uses.{ItemRun, Counting, Ranks, ranks_of, SteadyLawsBy, StreamLaws, runs_of, AgreeFrom, Calls, MakesAlways, all_split}
 use Rattle.lite_reshape.specs.Uses.{OfItem, agree_from_matches, makes_on, Hints, NoHint, Runs, through_alike, through_steady_over, through_calm}

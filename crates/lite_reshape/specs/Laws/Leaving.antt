@@ -8,6 +8,7 @@ use Rattle.lite_reshape.specs.Uses.{Entails, FoldsTo, Hints, PollsOn, Ranks, Rel
 use Rattle.lite_reshape.specs.Uses.{items_in}
 use Rattle.lite_base.specs.Laws.Answers.{first_item}
 use Rattle.lite_base.specs.Laws.Segments.{answers_by, segments_join}
+use Rattle.lite_stream.specs.Laws.Through.{counted_on}
 use Rattle.lite_reshape.specs.Leaving.{LeavesOut, Passes}
 
 -- A fact that holds of each result and of each rejected item holds of each result of the source.
@@ -126,8 +127,6 @@ module _ {F A B O : Type 0} (call : Question F A (Option B)) (other : Question F
       {hints : Hints S} {r : Ranks S} {P : F → A → Type 0} → StreamLaws can_poll run hints → Counting run r
       → PollsOn (λ m. can_poll (p.source m) × r.counts (p.source m) × AtEachItem run other P (p.source m) (p.held m))
       (Adapts p run (LeavesOut call))
-  leaves_on p laws c x y l k h = (
-    laws.polls_on _ _ h.ins k.0 h.came,
-    c.counts_on _ _ h.ins k.1 h.came,
-    each_along laws h.ins k.2 h.came (leaves_calls _ _ h.ins l h.related),
-  )
+  leaves_on p laws c x y l k h =
+      let again = counted_on p laws c x y l (k.0, k.1) h in
+      (again.0, again.1, each_along laws h.ins k.2 h.came (leaves_calls _ _ h.ins l h.related))

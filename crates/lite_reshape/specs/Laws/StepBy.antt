@@ -1,10 +1,11 @@
 -- Laws about `step_by`. Its count of items to leave out says which number comes next.
-use Rattle.std.specs.Prelude.{◌≡◌, ℕ, ◌+◌, ◌%◌, ◌<◌, ◌-◌, List, [], ◌∷◌, ◌++◌, Option, Some, None}
+use Rattle.std.specs.Prelude.{◌≡◌, ◌==◌, ℕ, ◌+◌, ◌%◌, ◌<◌, ◌-◌, List, [], ◌∷◌, ◌++◌, Option, Some, None}
 use Rattle.std.proofs.Common.{◌≤◌}
-use Rattle.lite_reshape.specs.Uses.{◌∙◌, refl, ap, subst, sym, append-nil, arith, OptionBy, Sameness, Answer, before_end, Lowers, comparable_nil}
-use Rattle.lite_reshape.specs.Uses.{MatchesFrom, Runs, AgreeingOver, Calming, Relating, Through, Hints, PollsOn, StreamLaws}
+use borrow.Author.Tests.{ne_eqb}
+use Rattle.lite_reshape.specs.Uses.{◌∙◌, refl, ap, subst, sym, append-nil, arith, Sameness, Answer, before_end, Lowers, comparable_nil}
+use Rattle.lite_reshape.specs.Uses.{Runs, AgreeingOver, Calming, Relating, Through, Hints, PollsOn, StreamLaws}
 use Rattle.std.proofs.Math.Nat.{add-mod-mod, mod-add-mod, mod-eq_of_lt, mod_self}
-use Rattle.lite_reshape.specs.Laws.Agreeing.{leaves_showing}
+use Rattle.lite_reshape.specs.Laws.Agreeing.{leaves_selecting}
 use Rattle.lite_reshape.specs.Laws.Leaving.{leaves_as, leaves_calming, leaves_relating}
 use Rattle.lite_reshape.specs.Leaving.{LeavesOut}
 use Rattle.lite_reshape.specs.StepBy.{CanStep, IsAt, Numbered, StepsBy, StepsOn}
@@ -46,7 +47,7 @@ module _ {A : Type 0} (s : ℕ) where
         let less : p.1 < p.0 = r.1.0 in (
           n + 1,
           (step, (omega (arith, less, h.0, h.1), rw step (ap (λ k. k % s) (omega (arith, h.1)) ∙ at))),
-          (refl, not_multiple s n p.1 (omega (arith, less, r.0)) (omega (arith, h.1)) at),
+          (ne_eqb _ _ (not_multiple s n p.1 (omega (arith, less, r.0)) (omega (arith, h.1)) at), refl),
         )
     counted (Some y) r h =
         let step : q.0 ≡ s = h.0 ∙ r.0 in
@@ -60,16 +61,17 @@ module _ {A : Type 0} (s : ℕ) where
               rw step (ap (λ k. k % s) (omega (arith, h.3, r.0)) ∙ past_multiple s n s (mod_self s) ∙ here),
             ),
           ),
-          (refl, here, h.2),
+          (h.2, (ap (λ k. k == 0) here, refl)),
         )
 
   module _ (d : ℕ) (e : d % s ≡ 0) where
     module _ (p q n : ℕ) (x : A) where
+      as_before : n ≡ p + d → (n % s == 0) ≡ (p % s == 0)
+      as_before g = ap (λ k. k % s == 0) g ∙ ap (λ k. k == 0) (past_multiple s p d e)
+
       later : (o : Option A) → n ≡ p + d → NumberSteps p x o q → (m : ℕ) × (m ≡ q + d) × NumberSteps n x o m
-      later None g h =
-          (n + 1, omega (arith, g, h.0), (refl, λ z. h.1 (sym (past_multiple s p d e) ∙ ap (λ k. k % s) (sym g) ∙ z)))
-      later (Some y) g h =
-          (n + 1, omega (arith, g, h.0), (refl, ap (λ k. k % s) g ∙ past_multiple s p d e ∙ h.1, h.2))
+      later None g h = (n + 1, omega (arith, g, h.1), (as_before g ∙ h.0, refl))
+      later (Some y) g h = (n + 1, omega (arith, g, h.1.1), (h.0, (as_before g ∙ h.1.0, refl)))
 
     -- All numbers may be later by a multiple of the step.
     shifted : (n m : ℕ) (i o : List (Answer A)) → LeavesOut NumberSteps n i o m
@@ -147,14 +149,6 @@ module _ (s n m : ℕ) where
   next_remainder e = sym (mod-add-mod n s 1) ∙ ap (λ k. (k + 1) % s) e ∙ mod-add-mod m s 1
 
 module _ {A : Type 0} where
-  -- Numbers with the same remainder keep the same items.
-  module _ (s : ℕ) (like : A → A → Type 0) where
-    numbered_match : MatchesFrom like (OptionBy like) (Numbered {A = A} s) (λ n m. n % s ≡ m % s)
-    numbered_match n m p q x w None None e h a c = rw (a.0, c.0) (tt, next_remainder s n m e)
-    numbered_match n m p q x w None (Some z) e h a c = absurd (a.1 (e ∙ c.1))
-    numbered_match n m p q x w (Some y) None e h a c = absurd (c.1 (sym e ∙ a.1))
-    numbered_match n m p q x w (Some y) (Some z) e h a c = rw (a.0, c.0, a.2, c.2) (h, next_remainder s n m e)
-
   -- Two streams agree, if their steps and their counts are equal.
   pub steps_agreeing : (like : Sameness A) → AgreeingOver like like (StepsOn {A = A}) (λ p q. (q.0 ≡ p.0) × (q.1 ≡ p.1))
   steps_agreeing like p q r t i j [] l e h k c = tt
@@ -162,7 +156,8 @@ module _ {A : Type 0} where
   steps_agreeing like p q r t i j (a ∷ o) (b ∷ l) e h k c =
       let at : (k.1 + p.1) % p.0 ≡ 0 =
       subst (λ z. (k.1 + z) % p.0 ≡ 0) e.1 (subst (λ z. (k.1 + q.1) % z ≡ 0) e.0 k.3.1) in
-      leaves_showing _ (numbered_match p.0) like h.1 k.1 h.2 k.2 i j (a ∷ o) (b ∷ l)
+      leaves_selecting (λ n x. n % p.0 == 0) (λ n x. n + 1) like (λ n m. n % p.0 ≡ m % p.0)
+      (λ n m x w r s. (ap (λ k. k == 0) r, next_remainder p.0 n m r)) h.1 k.1 h.2 k.2 i j (a ∷ o) (b ∷ l)
       (same_remainder p.0 h.1 k.1 p.1 h.3.1 at) h.5
       (subst (λ z. LeavesOut (Numbered z) k.1 j (b ∷ l) k.2) e.0 k.5) c
 

@@ -4,7 +4,7 @@ use Rattle.lite_base.specs.Alike.{Pairwise, SameItem, Sameness}
 use Rattle.lite_base.specs.Calm.{CalmLaws}
 use Rattle.lite_base.specs.Future.Side.{CanAsk, SidesBy, IfAsked}
 use Rattle.lite_base.specs.Future.Zip.{FutureZips}
-use Rattle.lite_base.specs.FutureLaws.{FutureLaws, FutureRunLaws, WaitsOn}
+use Rattle.lite_base.specs.FutureLaws.{FutureLaws, FutureRunLaws}
 use Rattle.lite_base.specs.Laws.FutureLaws.{future_laws_of, future_runs_of}
 use Rattle.lite_base.specs.Laws.Alike.{alike_agrees, by_value, up_to_gives}
 use Rattle.lite_base.specs.Laws.Calm.{calm_both}
