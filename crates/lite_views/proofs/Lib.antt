@@ -14,7 +14,6 @@ pub mod Copy
 pub mod Count
 pub mod Empty
 pub mod Enumerate
-pub mod Equal
 pub mod Filter
 pub mod FilterMap
 pub mod Find

@@ -1,14 +1,13 @@
 -- The pieces of a reader of which it is known what bytes are to come: what `split` and `lines` share.
 use Rattle.lite_views.proofs.Collecting.{ok_seen}
 use Rattle.std.specs.Prelude.{◌≡◌, ℕ, List, [], ◌∷◌, ◌++◌, refl, ⊤, Option, Some, None, Result, Ok, Err}
-use Rattle.std.proofs.Common.{◌<◌}
+use Rattle.std.proofs.Common.{◌<◌, ne_eqb, eq-eqb}
 use Rattle.lite_views.specs.Uses.{◌∙◌, length, ap, subst, arith, FoldsTo, Error, Ready, Pending, Answer, Runs}
 use Rattle.lite_views.specs.Uses.{ReadsKnown, Known, Knows, spends_bytes, spends_split, knows_spends, ReadMark, bytes}
 use Rattle.lite_views.specs.Uses.{Cut, CutsPiece, AnswerMarks, ReadFold}
 use Rattle.lite_read.specs.Pieces.{last_piece, pieces_from, Itemised, pieces}
 use Rattle.lite_read.specs.Segments.{Flows, PieceSegments, StreamOver}
 use Rattle.lite_views.specs.Trying.{OkFits, OkLists, OkListsAs}
-use Rattle.lite_views.proofs.Equal.{equal, not_equal}
 
 -- The pieces of a reader: `at` ends one, and h is made of it; f is what an item holds.
 module _ {A : Type 0} (at : ℕ) (whole final : List ℕ → Result A Error → Type 0) (h : List ℕ → List ℕ) (f : A → List ℕ)
@@ -23,7 +22,7 @@ module _ {A : Type 0} (at : ℕ) (whole final : List ℕ → Result A Error → 
   taken_made : (xs p q rest : List ℕ) → FoldsTo stream_fold.takes p xs q → made p (xs ++ rest) ≡ made q rest
   taken_made [] p q rest e = ap (λ v. made v rest) e
   taken_made (x ∷ xs) p q rest (r, t, more) =
-      rw (not_equal x at t.0, ← t.1) (taken_made xs r q rest more)
+      rw (ne_eqb x at t.0, ← t.1) (taken_made xs r q rest more)
 
   last_made : (held : List ℕ) → 0 < length held → last_piece held ≡ held ∷ []
   last_made [] n = absurd (omega arith)
@@ -38,7 +37,7 @@ module _ {A : Type 0} (at : ℕ) (whole final : List ℕ → Result A Error → 
       → CutsPiece at ⊤ held marks c → Itemised whole final c held r after → ReadsKnown ys marks zs
       → StillToCome after out zs → OkFits f (Ready r ∷ out) (made held ys)
   cut_fits (Cut.piece xs) (Some (Ok x)) out held after ys zs marks c i s k =
-      let s = rw c.0 at s in rw (s.1, equal at) (on_whole xs x i.0 ∙ ap h c.1, rw (i.1, s.2) at k)
+      let s = rw c.0 at s in rw (s.1, eq-eqb at at refl) (on_whole xs x i.0 ∙ ap h c.1, rw (i.1, s.2) at k)
   cut_fits (Cut.last xs) (Some (Ok x)) out held after ys zs marks c i s k =
       let s = rw c.0 at s in rw (s.0, last_made held c.1) (on_final xs x i.0 ∙ c.2, rw (i.1, s.1, s.0) at k)
   cut_fits Cut.nothing None out held after ys zs marks c i s k =

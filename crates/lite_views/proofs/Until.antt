@@ -4,10 +4,9 @@ use Rattle.lite_views.specs.Uses.{◌∙◌, length, take, drop, ap, sym, append
 use Rattle.lite_views.specs.Uses.{ReadsKnown, ReadMark, Cut, CutsPiece, Reading, in_text}
 use Rattle.lite_read.specs.Pieces.{behind, through_first}
 use Rattle.lite_read.specs.ReadUntil.{CountsPiece, until}
-use Rattle.std.proofs.Common.{take-append-drop}
+use Rattle.std.proofs.Common.{take-append-drop, ne_eqb, eq-eqb}
 use Rattle.std.proofs.Math.Seq.{drop-length, take-length}
 use Rattle.lite_views.proofs.Futures.{TakenUp}
-use Rattle.lite_views.proofs.Equal.{equal, not_equal}
 use Rattle.lite_views.proofs.Texts.{under_text}
 
 module _ (at : ℕ) where
@@ -17,14 +16,14 @@ module _ (at : ℕ) where
   taken_until [] p q rest h = (sym h ∙ sym (append-nil p), refl, refl)
   taken_until (x ∷ xs) p q rest (r, t, more) =
       let next = taken_until xs r q rest more in
-      let other = not_equal x at t.0 in
+      let other = ne_eqb x at t.0 in
       (rw (← append_assoc p (x ∷ []) xs, ← t.1) next.0, rw (other, next.1), rw other next.2)
 
   cut_until : (c : Cut) (n : ℕ) (held after bs ys : List ℕ) (last : List ReadMark) → CutsPiece at ⊤ held last c
       → CountsPiece at c held (Ok n) after → ReadsKnown bs last ys
       → (after ≡ held ++ through_first at bs) × (ys ≡ behind at bs) × (n ≡ length after)
   cut_until (Cut.piece xs) n held after bs ys last c k s =
-      let s = rw c.0 at s in rw (s.1, equal at) (rw c.1 at k.0, s.2, (let e = k.1 in cc))
+      let s = rw c.0 at s in rw (s.1, eq-eqb at at refl) (rw c.1 at k.0, s.2, (let e = k.1 in cc))
   cut_until (Cut.last xs) n held after bs ys last c k s =
       let s = rw c.0 at s in rw (s.0, append-nil) (k.0 ∙ c.2, s.1 ∙ s.0, (let e = k.1 in cc))
   cut_until Cut.nothing n held after bs ys last c k s =

@@ -1,7 +1,6 @@
 -- Laws about `step_by`. Its count of items to leave out says which number comes next.
 use Rattle.std.specs.Prelude.{◌≡◌, ◌==◌, ℕ, ◌+◌, ◌%◌, ◌<◌, ◌-◌, List, [], ◌∷◌, ◌++◌, Option, Some, None}
-use Rattle.std.proofs.Common.{◌≤◌}
-use borrow.Author.Tests.{ne_eqb}
+use Rattle.std.proofs.Common.{◌≤◌, ne_eqb}
 use Rattle.lite_reshape.specs.Uses.{◌∙◌, refl, ap, subst, sym, append-nil, arith, Sameness, Answer, before_end, Lowers, comparable_nil}
 use Rattle.lite_reshape.specs.Uses.{Runs, AgreeingOver, Calming, Relating, Through, Hints, PollsOn, StreamLaws}
 use Rattle.std.proofs.Math.Nat.{add-mod-mod, mod-add-mod, mod-eq_of_lt, mod_self}
