@@ -6,9 +6,14 @@ use Rattle.std.proofs.Common.{◌∙◌, ap, sym}
 use Rattle.lite_base.specs.Answers as answers
 use Rattle.futures.specs.declared.task.Poll.{Poll}
 use Rattle.framed.specs.Uses.{Answer, MarkLaws, ReadMark, Ready, Runs, ToldStripped}
-use Rattle.lite_theorems.specs.Uses.{Consume, Consumes, Decides, Folds, Lent, MutBor, consumes_steps}
+use Rattle.lite_base.specs.Runs.{Lent}
+use Rattle.lite_consume.specs.Consume.{Folds}
+use Rattle.lite_consume.specs.Consuming.{Consumes, Decides}
+use Rattle.lite_consume.specs.Laws.Consuming.{consumes_steps}
 use Rattle.lite_consume.specs.Next.{nexts}
+use Rattle.lite_consume.specs.declared.consume.Consume.{Consume}
 use Rattle.lite_consume.specs.declared.next.Next.{Next}
+use denote.MutBor.{MutBor}
 use Rattle.tokio_util.specs.Codec.Next as codec
 use Rattle.tokio_util.specs.Codec.Next.{PartialHasNoFrame}
 use Rattle.framed.specs.Frames.{FrameStep, Framed}

@@ -2,7 +2,8 @@
 use Rattle.std.specs.Prelude.{◌≡◌, ◌⊎◌, ℕ, List, [], ◌∷◌, ◌++◌, Result, Ok, Err}
 use Rattle.std.specs.declared.io.Error.{Error}
 use Rattle.framed.specs.Uses.{Runs, WriteMark, bytes_taken}
-use Rattle.lite_theorems.specs.BothWriters.{FlushedUp, HandedUp, TakesFront}
+use Rattle.lite_io_base.specs.WriteMarks.{TakesFront}
+use Rattle.lite_write.specs.Handed.{FlushedUp, HandedUp}
 use Rattle.tokio_util.specs.Codec.Whole.{EncodesAll}
 
 module _ {O : Type 0} (writes : Runs WriteMark O) where

@@ -5,7 +5,7 @@ use Rattle.std.specs.declared.io.Error.{Error}
 use Rattle.std.proofs.Common.{◌∙◌, append-nil, append_assoc, ap, inl, inr, sym}
 use Rattle.framed.specs.Uses.{EndsFlushed, MarkLaws, ReadMark, Ready, Runs, ToldStripped, WriteMark, WritesAndFlushes}
 use Rattle.framed.specs.Uses.{bytes_taken, flushes_both, once_flushes, taken_both}
-use Rattle.lite_theorems.proofs.BothWriters.{only_flushes}
+use Rattle.lite_write.proofs.Handed.{only_flushes}
 use Rattle.tokio_util.specs.Codec.Next.{Gives, PartialHasNoFrame}
 use Rattle.tokio_util.specs.Codec.Whole.{EncodesAll}
 use Rattle.framed.specs.Frames.{FrameStep, Framed}

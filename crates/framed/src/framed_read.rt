@@ -4,8 +4,8 @@ ghost use Rattle.std.specs.List.{FoldsTo};
 ghost use Rattle.framed.specs.Uses.{IfReady, Keeps, Registered, bytes, fill_marks};
 ghost use Rattle.lite_base.specs.Chain.{OneStep};
 ghost use Rattle.lite_base.specs.Laws.Ranks.{Terminates-map};
+ghost use Rattle.lite_base.specs.Laws.Streams.{stream_by_keeping_steps};
 ghost use Rattle.lite_base.specs.Runs.{NoHint};
-ghost use Rattle.lite_theorems.specs.Laws.Streams.{stream_by_keeping_steps};
 ghost use Rattle.framed.specs.Frames.{FrameStep, InHand, Last, ended, ending, frame_ranks, held_at, reading};
 ghost use Rattle.framed.specs.FrameLaws.{TakesMore, frame_counts, frames_counting, takes_given};
 

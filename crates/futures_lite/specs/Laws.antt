@@ -18,4 +18,4 @@ pub use Rattle.lite_views.specs.Laws.Sources
 pub use Rattle.lite_theorems.specs.Laws.Collected
 pub use Rattle.lite_theorems.specs.Laws.Rows
 -- that calls which are waited for follow one another: `told_follow`, `front_follows`
-pub use Rattle.lite_theorems.specs.Laws.Told
+pub use Rattle.lite_read.specs.Laws.Told

@@ -10,8 +10,8 @@ pub use Rattle.lite_base.specs.Runs.{Hints, NoHint, Question, Runs}
 pub use Rattle.lite_base.specs.Chain.{NextStep, OneStep, Reaches}
 pub use Rattle.lite_base.specs.Ranks.{Terminates}
 pub use Rattle.lite_base.specs.Laws.Ranks.{Terminates-count, Terminates-map}
-pub use Rattle.lite_theorems.specs.Streams.{HintsAt, ItemsLower, RankLowers}
-pub use Rattle.lite_theorems.specs.Laws.Streams.{stream_by_keeping_steps, stream_by_steps, stream_counting, stream_hinting, stream_ranking}
+pub use Rattle.lite_base.specs.Streams.{HintsAt, ItemsLower, RankLowers}
+pub use Rattle.lite_base.specs.Laws.Streams.{stream_by_keeping_steps, stream_by_steps, stream_counting, stream_hinting, stream_ranking}
 -- of readers and writers
 pub use Rattle.lite_theorems.specs.Readers.{HandsOn, each_byte, MarksLower, FrontLaws, FrontStep, ReadsLeft}
 pub use Rattle.lite_theorems.specs.Laws.Readers.{handed_moved, handing_counting, hands_read, reader_handing}

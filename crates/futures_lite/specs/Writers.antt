@@ -2,8 +2,9 @@
 pub use Rattle.lite_io_base.specs.Stored.{Grows, Arrives, Stored, Stores, unstored}
 pub use Rattle.lite_io_base.specs.Steady.{CalmWriteLaws, EndsFlushed, NoError, NoPendingWrite, SteadyWriteLaws}
 pub use Rattle.lite_buffered.specs.BufWriter
-pub use Rattle.lite_theorems.specs.BothWriters.{BothWritten, FailsAfter, FailsBy, FailsWith, FlushedOnce, FlushedUp}
-pub use Rattle.lite_theorems.specs.BothWriters.{HandedUp, OnlyWrites, TakesFront, WritesAndFlushes, WrittenUp}
+pub use Rattle.lite_io_base.specs.WriteMarks.{TakesFront}
+pub use Rattle.lite_theorems.specs.BothWriters.{BothWritten, WrittenUp}
+pub use Rattle.lite_write.specs.Handed.{FailsAfter, FailsBy, FailsWith, FlushedOnce, FlushedUp, HandedUp, OnlyWrites, WritesAndFlushes}
 pub use Rattle.lite_views.specs.OneCall.{AllAccepted, ArrivesAll, WritesFront}
 unfoldable pub use Rattle.lite_views.specs.OneCall.{AcceptsAll}
 pub use Rattle.lite_write.specs.WriteAll

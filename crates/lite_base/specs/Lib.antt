@@ -12,4 +12,5 @@ pub mod Runs
 pub mod Steady
 pub mod StreamLaws
 pub mod Segments
+pub mod Streams
 pub mod Uses

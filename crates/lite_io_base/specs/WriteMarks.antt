@@ -1,6 +1,7 @@
 -- The marks that the calls on a writer leave. Which marks a writer may leave is its `writes`, from the trait `WriteSpec`.
 use Rattle.std.specs.Prelude.{ℕ, List, [], ◌∷◌, flat_map, take, Result, Ok, Err}
-use Rattle.lite_io_base.specs.Uses.{error_kind, Error, ErrorKind, Poll, Ready, Pending}
+use Rattle.lite_io_base.specs.Uses.{error_kind, Error, ErrorKind, Poll, Ready, Pending, Runs}
+use Rattle.lite_io_base.specs.Runs.{StandsFirst}
 
 -- A mark of writing is what one call on a writer did. The writer accepted some bytes, returned `Pending` or an error of
 -- a kind, flushed or closed. `nothing`: it returned `Ok` and was offered no bytes.
@@ -34,3 +35,7 @@ bytes_in m = []
 -- All bytes that a writer took, in order.
 abbrev pub bytes_taken : List WriteMark → List ℕ
 bytes_taken = flat_map bytes_in
+
+-- The writer took some of the bytes `offered`, from the front on, or all of them.
+abbrev pub TakesFront : {W : Type 0} → Runs WriteMark W → W → List ℕ → List WriteMark → W → Type 0
+TakesFront writes x offered took x' = writes x took x' × StandsFirst (bytes_taken took) offered

@@ -13,3 +13,4 @@ pub mod ReadUntil
 pub mod Refusals
 pub mod Segments
 pub mod Texts
+pub mod Told

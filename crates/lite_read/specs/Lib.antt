@@ -22,4 +22,5 @@ pub mod Seek
 pub mod Segments
 pub mod Split
 pub mod Texts
+pub mod Told
 pub mod Uses

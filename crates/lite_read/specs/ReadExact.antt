@@ -1,8 +1,7 @@
 -- The `read_exact` future: bytes are read until the buffer is full.
 use Rattle.std.specs.Prelude.{◌≡◌, ◌≤◌, ℕ, List, length, take, ◌<◌, [], ◌∷◌, ◌++◌, Result, Ok, Err}
 use Rattle.lite_read.specs.declared.read_exact.ReadExactFuture.{ReadExactFuture}
-use Rattle.lite_read.specs.Uses.{error_kind, Error, Poll, ReadMark, Runs}
-use Rattle.std.specs.declared.io.ErrorKind.TheVariants.{UnexpectedEof}
+use Rattle.lite_read.specs.Uses.{error_kind, Error, UnexpectedEof, Poll, ReadMark, Runs}
 use Rattle.lite_read.specs.ReadFold.{Gathers, ReadFold}
 
 -- The buffer of a `read_exact` future: how far it is filled, and what a poll keeps.

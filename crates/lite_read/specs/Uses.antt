@@ -22,6 +22,7 @@ pub use Rattle.lite_base.specs.StreamLaws.{RunLaws, StreamLaws}
 pub use Rattle.lite_io_base.specs.Counting.{ReadCounting, Falls}
 pub use Rattle.lite_io_base.specs.Laws.Counting.{GivenRun}
 pub use Rattle.lite_io_base.specs.Laws.Lent.{lent_still}
+pub use Rattle.lite_io_base.specs.Laws.Steady.{strip_marks-append}
 pub use Rattle.lite_io_base.specs.Marks.{ReadMark, bytes, fill_marks, filled_marks, given_count, moved_marks}
 pub use Rattle.lite_io_base.specs.Runs.{LendsFront, MarkLaws}
 pub use Rattle.lite_io_base.specs.Steady.{CalmReadLaws, NoPendingRead, SteadyReadLaws, strip_marks}
@@ -41,6 +42,6 @@ pub use Rattle.std.specs.List.{AllByRecursion, FoldsTo, before_first, list_all, 
 pub use Rattle.std.specs.Vec.{with_items}
 pub use Rattle.std.specs.declared.io.Error.{Error}
 pub use Rattle.std.specs.declared.io.ErrorKind.{ErrorKind}
-pub use Rattle.std.specs.declared.io.ErrorKind.TheVariants.{Interrupted, OutOfMemory}
+pub use Rattle.std.specs.declared.io.ErrorKind.TheVariants.{Interrupted, OutOfMemory, UnexpectedEof}
 pub use Rattle.std.specs.declared.string.String.{String}
 pub use Rattle.std.specs.declared.vec.Vec.{Vec}

@@ -2,7 +2,7 @@
 use Rattle.std.specs.Prelude.{IfErr, IfOk, ◌≡◌, ◌<◌, ◌+◌, vec_capacity, ℕ, List, [], ◌∷◌, ◌++◌, length, Result, Ok, Err}
 use Rattle.lite_theorems.specs.Uses.{◌∙◌, refl, sym, ap, subst, arith, append_assoc, append-nil, length-append, FoldsTo}
 use Rattle.lite_theorems.specs.Uses.{Error, MutBor, Poll, Gives, Runs, ReadMark, bytes, NoPendingRead, strip_marks}
-use Rattle.lite_theorems.specs.Uses.{Appended, next_read, SameByKind}
+use Rattle.lite_theorems.specs.Uses.{Appended, next_read, SameByKind, WaitedFor}
 use Rattle.lite_base.specs.Answers.{Comparable}
 use Rattle.lite_io_base.specs.Laws.Steady.{comparable_swapped}
 use Rattle.lite_io_base.specs.Steady.{SteadyReadLaws}
@@ -10,7 +10,7 @@ use Rattle.lite_read.specs.ReadToEnd.{ToEndStays, ReadsToEndByRoom, ToEndLacksRo
 use Rattle.lite_read.specs.Laws.ReadToEnd.{appends_deterministic}
 use Rattle.lite_read.specs.declared.read_to_end.ReadToEndFuture.{ReadToEndFuture}
 use Rattle.std.specs.declared.vec.Vec.{Vec}
-use Rattle.lite_theorems.proofs.Waited.{WaitedFor, read_folds_once}
+use Rattle.lite_theorems.proofs.Waited.{read_folds_once}
 use Rattle.lite_theorems.specs.BothReaders.{BothRead, HasReadMemory, LacksNext, ReadsUp}
 
 abbrev ReadResult : Type 0

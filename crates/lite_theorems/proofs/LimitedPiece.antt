@@ -1,8 +1,8 @@
 -- What a `read_until` of the first bytes of a reader was told is told of the reader.
 use Rattle.std.specs.Prelude.{IfErr, IfOk, ◌≡◌, ◌<◌, ◌+◌, ◌-◌, ℕ, zero, suc, List, [], ◌∷◌, ◌++◌, length, Result, Ok, Err}
 use Rattle.lite_theorems.specs.Uses.{◌∙◌, ap, append-nil, arith, inl, inr, refl, subst, sym, take, Error, ErrorKind, Lent, LimitEnds, MutBor, ReadMark, Runs, Take, ReadsWithin}
-use Rattle.lite_theorems.specs.Uses.{WithinLimit, bytes, strip_marks, strip_marks-append}
-use Rattle.lite_theorems.specs.Told.{VectorLacksRoom, PieceTold, PieceWithin, ToldStripped}
+use Rattle.lite_theorems.specs.Uses.{WithinLimit, bytes, strip_marks, VectorLacksRoom, PieceTold, PieceWithin, ToldStripped}
+use Rattle.lite_io_base.specs.Laws.Steady.{strip_marks-append}
 use Rattle.lite_theorems.proofs.Waited.{LacksBy, ToldByUntil}
 
 -- `Pending`s use nothing of a limit.

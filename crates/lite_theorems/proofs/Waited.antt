@@ -1,15 +1,18 @@
 -- What a reader tells while a call of it is waited for, pendings aside.
-use Rattle.std.specs.Prelude.{IfErr, IfOk, OnErr, vec_capacity, ◌≡◌, ◌≤◌, ℕ, List, [], ◌∷◌, ◌++◌, length, Result, Ok, Err}
+use Rattle.std.specs.Prelude.{IfErr, IfOk, vec_capacity, ◌≡◌, ◌≤◌, ℕ, List, [], ◌∷◌, ◌++◌, length, Result, Ok, Err}
 use Rattle.lite_theorems.specs.Uses.{◌∙◌, take, drop, inl, inr, ap, append-nil, append_assoc, arith, refl, subst, sym}
 use Rattle.lite_theorems.specs.Uses.{take-append-drop, map-append, FoldsTo, Error, MutBor, Poll, Ready, Pending, Gives}
-use Rattle.lite_theorems.specs.Uses.{segment_front, to_value_last, Runs, ReadMark, bytes, read_marks, MarkLaws}
-use Rattle.lite_theorems.specs.Uses.{NoPendingRead, strip_marks, Cut, PolledByCalls, StandsFirst}
-use Rattle.lite_base.specs.Laws.Segments.{segment_before}
+use Rattle.lite_theorems.specs.Uses.{segment_front, Runs, ReadMark, bytes, read_marks, MarkLaws, NoPendingRead, strip_marks}
+use Rattle.lite_theorems.specs.Uses.{Cut, FillsUp, PieceTold, ToldStripped, VectorLacksRoom, WaitedFor}
+use Rattle.lite_base.specs.Laws.Segments.{segment_before, to_value_last}
 use Rattle.lite_io_base.specs.Laws.Steady.{no_wait_moved, stripped_no_pending}
+use Rattle.lite_io_base.specs.Runs.{StandsFirst}
 use Rattle.lite_read.specs.ReadExact.{Filling, filling_of, Fulfils, ReadsExactly, fills}
 use Rattle.lite_read.specs.Laws.Deterministic.{past_pending, past_value}
 use Rattle.lite_read.specs.Laws.ReadExact.{filled_by}
+use Rattle.lite_read.specs.Laws.Told.{told_follow, told_none}
 use Rattle.lite_read.specs.Pieces.{CutsPiece}
+use Rattle.lite_read.specs.Polled.{PolledByCalls}
 use Rattle.lite_read.specs.Read.{Reads}
 use Rattle.lite_read.specs.ReadFold.{AnswerMarks, Gathers, ReadFold, ReadFolds}
 use Rattle.lite_read.specs.ReadUntil.{CountsPiece, ReadsUntilByRoom, UntilLacksRoom, until, read_of}
@@ -18,8 +21,7 @@ use Rattle.lite_read.specs.declared.read_exact.ReadExactFuture.{ReadExactFuture}
 use Rattle.lite_read.specs.declared.read_until.ReadUntilFuture.{ReadUntilFuture}
 use Rattle.std.proofs.Math.Seq.{drop-length, take-length}
 use Rattle.std.proofs.lemmas.List.{length-take, take_all}
-use Rattle.lite_theorems.specs.Laws.Told.{told_follow, told_none}
-use Rattle.lite_theorems.specs.Told.{FillsUp, VectorLacksRoom, PieceTold, EndsShort, ToldStripped, Without}
+use Rattle.lite_read.specs.Told.{EndsShort, Without}
 
 -- what is gathered up to a value, pendings aside
 pub read_folds_once : {M R : Type 0} (fold : ReadFold M R)
@@ -47,14 +49,6 @@ read_folds_once fold now p q i (Ready r ∷ l) v h g =
       folds = c.folds;
       given = subst (λ u. fold.gives c.between c.last u q) g.0 c.given;
     }
-
--- a future that was waited for, by what it leaves
-abbrev pub WaitedFor : {F A E : Type 0} → Runs (Poll A) F → F → Result A E → F → Type 0
-WaitedFor {F} {A} run x r y = IfOk r (λ v. (l : List (Poll A)) × Gives l v × run x l y) × OnErr r (y ≡ x)
-
--- the value of a wait that cannot fail
-abbrev pub done : {A : Type 0} → A → Result A (Unit {0})
-done v = Ok v
 
 -- what was told gave the value
 gathers_told : {X S M R : Type 0} {reader : X → S} {held : X → M} {fold : X → ReadFold M R} {Keeps : X → X → Type 0}

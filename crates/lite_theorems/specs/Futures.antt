@@ -1,10 +1,11 @@
 -- A future of your own that is specified by a step: what one poll may return and leave. Its laws are `future_by_steps`,
 -- or `future_by_keeping_steps` if it may not always be polled.
 use Rattle.std.specs.Prelude.{⊤, [], ◌∷◌}
-use Rattle.lite_theorems.specs.Uses.{FoldsTo, refl, subst, sym, Pending, Poll, Ready, FutureLaws, folds_follow, Runs}
+use Rattle.lite_theorems.specs.Uses.{FoldsTo, refl, subst, sym, Pending, Poll, Ready, FutureLaws, Runs}
 use Rattle.lite_base.specs.Answers.{UpToValue}
 use Rattle.lite_base.specs.FutureLaws.{FutureRunLaws, WaitsOn}
 use Rattle.lite_base.specs.Laws.Answers.{up_to_once, waiting_up_to}
+use Rattle.lite_base.specs.Laws.Calling.{folds_follow}
 use Rattle.lite_base.specs.Laws.FutureLaws.{future_laws_of}
 
 -- `step` says what one poll may return, and which value it leaves.

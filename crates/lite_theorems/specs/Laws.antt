@@ -3,5 +3,3 @@ pub mod Collected
 pub mod Rows
 pub mod Anything
 pub mod Readers
-pub mod Streams
-pub mod Told

@@ -7,6 +7,4 @@ pub mod Interleaving
 pub mod Laws
 pub mod Lines
 pub mod Readers
-pub mod Streams
-pub mod Told
 pub mod Uses

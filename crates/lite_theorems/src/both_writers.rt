@@ -1,6 +1,6 @@
 ghost use Rattle.std.specs.Prelude.{◌≡◌, [], List, IfOk};
-ghost use Rattle.lite_theorems.specs.Uses.{WriteMark, bytes_taken};
-ghost use Rattle.lite_theorems.specs.BothWriters.{BothWritten, FlushedUp, HandedUp, TakesFront, WrittenUp};
+ghost use Rattle.lite_theorems.specs.Uses.{WriteMark, bytes_taken, FlushedUp, HandedUp, TakesFront};
+ghost use Rattle.lite_theorems.specs.BothWriters.{BothWritten, WrittenUp};
 
 use crate::waits::{wait_flush, wait_write_all};
 use lite_base::future::block_on::BlockOn;

@@ -1,9 +1,8 @@
 //! Blocking waits for one call of a reader or a writer. Their contracts follow from those of the traits
 //! alone. They say which events the reader produced, or which bytes the writer accepted.
 ghost use Rattle.std.specs.Prelude.{◌≡◌, ◌≤◌, ◌-◌, ◌++◌, [], ℕ, List, Ok, IfErr, IfOk, IsOk, length, take, vec_capacity};
-ghost use Rattle.lite_theorems.specs.Uses.{Ready, ReadMark, read_marks, WriteMark, bytes_taken};
-ghost use Rattle.lite_theorems.specs.BothWriters.{FlushedUp, HandedUp, TakesFront};
-ghost use Rattle.lite_theorems.specs.Told.{FillsUp, PieceTold, PieceWithin, ToldStripped, VectorLacksRoom};
+ghost use Rattle.lite_theorems.specs.Uses.{Ready, ReadMark, read_marks, WriteMark, bytes_taken, FlushedUp, HandedUp, TakesFront};
+ghost use Rattle.lite_theorems.specs.Uses.{FillsUp, PieceTold, PieceWithin, ToldStripped, VectorLacksRoom};
 
 use lite_base::future::Waits;
 use lite_base::future::block_on::BlockOn;

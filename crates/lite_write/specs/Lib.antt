@@ -1,6 +1,7 @@
 pub mod Close
 pub mod Copy
 pub mod Flush
+pub mod Handed
 pub mod Laws
 pub mod MarkLists
 pub mod Sink

@@ -10,10 +10,12 @@ pub use Rattle.lite_base.specs.Chain.{OneStep}
 pub use Rattle.lite_base.specs.FutureLaws.{FutureLaws, FutureRunLaws}
 pub use Rattle.lite_base.specs.Laws.Answers.{up_to_once}
 pub use Rattle.lite_base.specs.Laws.FutureLaws.{future_laws_of}
+pub use Rattle.lite_base.specs.Laws.Segments.{to_value_last}
 pub use Rattle.lite_base.specs.Registered.{Registered}
 pub use Rattle.lite_base.specs.Runs.{Runs}
 pub use Rattle.lite_base.specs.Steady.{FutureSteadyLaws}
 pub use Rattle.lite_buffered.specs.BufReader.{ThroughBuffer, bytes_ahead, reader_capacity, reader_inner}
+pub use Rattle.lite_io_base.specs.Laws.Marks.{taken_both}
 pub use Rattle.lite_io_base.specs.Laws.Runs.{offered_marks}
 pub use Rattle.lite_io_base.specs.Marks.{ReadMark, bytes}
 pub use Rattle.lite_io_base.specs.Runs.{MarkLaws}
@@ -23,7 +25,7 @@ pub use Rattle.lite_read.specs.Deterministic.{SameByKind}
 pub use Rattle.lite_read.specs.Laws.PollSteps.{idle_join}
 pub use Rattle.lite_read.specs.Laws.Polled.{polled_laws, polled_one}
 pub use Rattle.lite_read.specs.Polled.{PolledByCalls}
-pub use Rattle.std.proofs.Common.{ap, append-nil, arith, length-append, refl, rules, subst, sym, ◌∙◌}
+pub use Rattle.std.proofs.Common.{ap, append-nil, append_assoc, arith, length-append, refl, rules, subst, sym, ◌∙◌}
 pub use Rattle.std.proofs.lemmas.Grind.{common_steps}
 pub use Rattle.std.specs.Io.Slices.{io_slices_bytes}
 pub use Rattle.std.specs.IoError.{error_kind}

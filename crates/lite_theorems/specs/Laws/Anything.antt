@@ -1,10 +1,12 @@
 -- Laws of types of your own of which nothing is known.
 use Rattle.std.specs.Prelude.{⊤}
-use Rattle.lite_theorems.specs.Uses.{FutureLaws, StreamLaws, NoHint, MarkLaws, ReadMark, WriteMark}
+use Rattle.lite_theorems.specs.Uses.{FutureLaws, MarkLaws, ReadMark, WriteMark}
+use Rattle.lite_base.specs.Laws.Streams.{stream_by_steps}
+use Rattle.lite_base.specs.Runs.{NoHint}
+use Rattle.lite_base.specs.StreamLaws.{StreamLaws}
 use Rattle.lite_io_base.specs.Laws.Runs.{anything_laws}
 use Rattle.lite_io_base.specs.Runs.{Anything}
 use Rattle.lite_theorems.specs.Futures.{future_by_steps}
-use Rattle.lite_theorems.specs.Laws.Streams.{stream_by_steps}
 use Rattle.lite_theorems.specs.Anything.{AnyAnswers, AnyValue}
 
 module _ {S : Type 0} where

@@ -1,16 +1,16 @@
 -- Laws of a reader that is specified by a step.
 use Rattle.std.specs.Prelude.{◌<◌, ◌≤◌, ℕ, List, [], ◌∷◌, ◌≡◌, zero, suc, ◌++◌, length, map}
 use Rattle.std.proofs.Common.{◌+◌, min, slice_set, length-drop, length-take-le}
-use Rattle.lite_io_base.specs.Counting.{Falls}
+use Rattle.lite_io_base.specs.Counting.{Falls, ReadCounting}
 use Rattle.lite_io_base.specs.Laws.Runs.{steps_laws}
 use Rattle.lite_io_base.specs.Runs.{Steps}
-use Rattle.lite_theorems.specs.Uses.{arith, Below-one, at_most_one, number_ranks, ReadCounting, ReadMark, MarkLaws, ◌∙◌}
-use Rattle.lite_theorems.specs.Uses.{take, drop, refl, sym, ap, subst, take-append-drop, bytes, length-append}
-use Rattle.lite_theorems.specs.Uses.{map-append, Ranks, Runs, WriteMark}
+use Rattle.lite_theorems.specs.Uses.{arith, take, drop, refl, sym, ap, subst, take-append-drop, bytes, length-append, ◌∙◌}
+use Rattle.lite_theorems.specs.Uses.{map-append, MarkLaws, ReadMark, Runs, WriteMark}
 use Rattle.lite_io_base.specs.Laws.Counting.{number_counting, falls_at_most, falls_of_below}
 use Rattle.lite_theorems.specs.Readers.{MarksLower, FrontLaws, FrontStep, ReadsLeft, HandsOn, each_byte}
 use Rattle.std.proofs.lemmas.Grind.{common_steps}
-use Rattle.lite_base.specs.Ranks.{ranks_of}
+use Rattle.lite_base.specs.Laws.Ranks.{Below-one, at_most_one}
+use Rattle.lite_base.specs.Ranks.{Ranks, number_ranks, ranks_of}
 use Rattle.lite_io_base.specs.Marks.{AllGiven, given_count, moved_marks}
 use Rattle.std.proofs.Math.Seq.{take-append_seam}
 use Rattle.std.proofs.lemmas.List.{length-map}

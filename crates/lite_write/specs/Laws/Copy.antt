@@ -1,9 +1,9 @@
 -- Laws of `copy`.
 use Rattle.std.specs.Prelude.{◌≡◌, ◌<◌, ◌+◌, ◌%◌, ◌^◌, ℕ, Bool, List, [], ◌∷◌, ◌++◌, length, Result, Ok, ⊤, IsOk, Err}
-use Rattle.lite_write.specs.Uses.{◌∙◌, refl, ap, arith, append-nil, length-append, filter, Error, Poll, strip}
+use Rattle.lite_write.specs.Uses.{◌∙◌, refl, ap, arith, append-nil, append_assoc, length-append, filter, Error, Poll, strip}
 use Rattle.lite_write.specs.Uses.{FutureLaws, FutureRunLaws, future_laws_of, up_to_once, Runs, ThroughBuffer, ReadMark}
 use Rattle.lite_write.specs.Uses.{MarkLaws, WriteMark, bytes_taken, idle_join, sym, error_kind, ComparableBy, CalmLaws}
-use Rattle.lite_write.specs.Uses.{Sameness, bytes, CalmWriteLaws, NoPendingWrite, SameByKind}
+use Rattle.lite_write.specs.Uses.{Sameness, bytes, CalmWriteLaws, NoPendingWrite, SameByKind, taken_both}
 use Rattle.lite_base.specs.Answers.{Waiting, Comparable}
 use Rattle.lite_base.specs.Chain.{Reaches}
 use Rattle.lite_base.specs.Laws.Answers.{strip_join, waiting_strip, waiting_up_to}
@@ -12,9 +12,7 @@ use Rattle.lite_base.specs.Laws.Chain.{Reaches-back}
 use Rattle.lite_base.specs.Ranks.{Ranks}
 use Rattle.lite_io_base.specs.Counting.{ReadCounting}
 use Rattle.lite_io_base.specs.Laws.Counting.{GivenRun}
-use Rattle.lite_io_base.specs.Laws.Marks.{taken_both}
 use Rattle.lite_read.specs.Laws.PollSteps.{given_of}
-use Rattle.std.proofs.Common.{append_assoc}
 use Rattle.std.proofs.Math.Nat.{mod-add-mod}
 use Rattle.std.proofs.lemmas.Grind.{flat_map-append}
 use Rattle.std.proofs.lemmas.List.Elements.{filter-append}

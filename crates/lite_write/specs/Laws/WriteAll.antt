@@ -3,8 +3,8 @@ use Rattle.std.specs.Prelude.{⊤, ◌<◌, [], ◌∷◌, ◌++◌, length, Res
 use Rattle.lite_write.specs.Uses.{◌∙◌, refl, ap, arith, length-append, Error, Poll, FutureLaws, FutureRunLaws}
 use Rattle.lite_write.specs.Uses.{future_laws_of, up_to_once, Runs, MarkLaws, WriteMark, idle_join, subst, Ready}
 use Rattle.lite_write.specs.Uses.{Pending, ComparableBy, strip, CalmLaws, FutureSteadyLaws, CalmWriteLaws}
-use Rattle.lite_write.specs.Uses.{NoPendingWrite}
-use Rattle.lite_base.specs.Laws.Segments.{segment_before, segments_before, to_value_join, to_value_last}
+use Rattle.lite_write.specs.Uses.{NoPendingWrite, to_value_last}
+use Rattle.lite_base.specs.Laws.Segments.{segment_before, segments_before, to_value_join}
 use Rattle.lite_io_base.specs.Laws.Lent.{lent_still}
 use Rattle.lite_write.specs.WriteAll.{WritesSome, HandsMarks, WritesAll, NoFailure, NoneFails, WithoutFailure, Ended, HandsOver}
 use Rattle.lite_write.specs.declared.write_all.WriteAllFuture.{WriteAllFuture}

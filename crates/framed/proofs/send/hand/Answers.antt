@@ -1,6 +1,6 @@
 use Rattle.std.proofs.Common.{rules}
 use Rattle.framed.specs.Uses.{done}
-use Rattle.lite_theorems.proofs.BothWriters.{hand_up, writer_lent}
+use Rattle.lite_write.proofs.Handed.{hand_up, writer_lent}
 use Rattle.framed.proofs.send.hand.Goals as goal
 
 pub returns : goal.returns

@@ -1,5 +1,4 @@
-use Rattle.lite_theorems.specs.Uses.{subst}
-use Rattle.lite_theorems.specs.BothWriters.{HandedUp}
+use Rattle.lite_theorems.specs.Uses.{HandedUp, subst}
 use Rattle.lite_theorems.proofs.BothWriters.{flush_after}
 use Rattle.lite_theorems.proofs.both_writers.write_up.Goals as goal
 

@@ -1,6 +1,5 @@
-use Rattle.lite_theorems.specs.Uses.{rules}
-use Rattle.lite_theorems.proofs.Waited.{done}
-use Rattle.lite_theorems.proofs.BothWriters.{flush_lent, flush_up}
+use Rattle.lite_theorems.specs.Uses.{done, rules}
+use Rattle.lite_write.proofs.Handed.{flush_lent, flush_up}
 use Rattle.lite_theorems.proofs.waits.flush_by.Goals as goal
 
 pub returns : goal.returns

@@ -1,6 +1,6 @@
 use Rattle.std.specs.Prelude.{length, vec_capacity}
-use Rattle.lite_theorems.specs.Uses.{◌∙◌, ap, rules, sym}
-use Rattle.lite_theorems.proofs.Waited.{LacksBy, ToldByUntil, done, told_at, until_waited}
+use Rattle.lite_theorems.specs.Uses.{◌∙◌, ap, done, rules, sym}
+use Rattle.lite_theorems.proofs.Waited.{LacksBy, ToldByUntil, told_at, until_waited}
 use Rattle.lite_theorems.proofs.waits.read_until_by.Goals as goal
 
 pub returns-clause-told : goal.returns-clause-told

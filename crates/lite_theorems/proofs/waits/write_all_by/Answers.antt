@@ -1,6 +1,5 @@
-use Rattle.lite_theorems.specs.Uses.{rules}
-use Rattle.lite_theorems.proofs.Waited.{done}
-use Rattle.lite_theorems.proofs.BothWriters.{hand_up, writer_lent}
+use Rattle.lite_theorems.specs.Uses.{done, rules}
+use Rattle.lite_write.proofs.Handed.{hand_up, writer_lent}
 use Rattle.lite_theorems.proofs.waits.write_all_by.Goals as goal
 
 pub returns : goal.returns

@@ -1,13 +1,14 @@
 -- Laws of a stream that is specified by a step.
-use Rattle.std.specs.Prelude.{⊤, ◌≤◌, ℕ, List, [], ◌∷◌, Some, None}
-use Rattle.lite_theorems.specs.Uses.{FoldsTo, ap, arith, inl, inr, refl, subst, sym, Ready, Pending, Answer, Below-one}
-use Rattle.lite_theorems.specs.Uses.{at_most_one, folds_follow, Lowers, Ranks, number_ranks, StreamLaws, NoHint}
-use Rattle.lite_base.specs.Answers.{before_end, items}
-use Rattle.lite_base.specs.Laws.Ranks.{AtMost-then_below, Lowers-at_most, Lowers-then_at_most, number_counting}
+use Rattle.std.specs.Prelude.{⊤, ◌≤◌, ℕ, List, [], ◌∷◌, Some, None, refl}
+use Rattle.lite_base.specs.Uses.{FoldsTo, ap, arith, inl, inr, subst, sym, Ready, Pending}
+use Rattle.lite_base.specs.Answers.{Answer, before_end, items}
+use Rattle.lite_base.specs.Laws.Calling.{folds_follow}
+use Rattle.lite_base.specs.Laws.Ranks.{AtMost-then_below, Below-one, Lowers-at_most, Lowers-then_at_most, at_most_one, number_counting}
 use Rattle.lite_base.specs.Laws.StreamLaws.{same_hint, laws_of}
-use Rattle.lite_base.specs.Ranks.{AtMost, Counting}
-use Rattle.lite_base.specs.StreamLaws.{PollsOn, RunLaws}
-use Rattle.lite_theorems.specs.Streams.{HintsAt, ItemsLower, RankLowers}
+use Rattle.lite_base.specs.Ranks.{AtMost, Counting, Lowers, Ranks, number_ranks}
+use Rattle.lite_base.specs.Runs.{NoHint}
+use Rattle.lite_base.specs.StreamLaws.{PollsOn, RunLaws, StreamLaws}
+use Rattle.lite_base.specs.Streams.{HintsAt, ItemsLower, RankLowers}
 
 -- `step` says what one poll may return, and which value it leaves.
 module _ {S A : Type 0} (step : S → Answer A → S → Type 0) where

@@ -1,10 +1,11 @@
--- Laws of what a reader produces in one call after another, without the `Pending`s.
+-- Laws of calls that are waited for, one after another: of what a reader produces, without the `Pending`s, and of what a
+-- writer takes.
 use Rattle.std.specs.Prelude.{List, [], ◌++◌, ◌≡◌, ℕ}
-use Rattle.lite_theorems.specs.Uses.{refl, Ranks, ReadCounting, Runs, strip_marks-append, ReadMark, MarkLaws, ◌∙◌, ap}
-use Rattle.lite_theorems.specs.Uses.{append_assoc, sym, WriteMark, bytes_taken}
-use Rattle.lite_theorems.specs.Told.{ToldStripped}
+use Rattle.lite_read.specs.Uses.{refl, Ranks, ReadCounting, Runs, strip_marks-append, ReadMark, MarkLaws, ◌∙◌, ap}
+use Rattle.lite_read.specs.Uses.{append_assoc, sym}
+use Rattle.lite_read.specs.Told.{ToldStripped}
 pub use Rattle.lite_io_base.specs.Laws.Marks.{taken_both}
-use Rattle.lite_theorems.specs.BothWriters.{TakesFront}
+use Rattle.lite_io_base.specs.WriteMarks.{TakesFront, WriteMark, bytes_taken}
 
 module _ {R : Type 0} {reads : Runs ReadMark R} (laws : MarkLaws reads) where
   -- Without a call nothing is produced.
@@ -21,8 +22,6 @@ module _ {R : Type 0} {reads : Runs ReadMark R} (laws : MarkLaws reads) where
 pub told_counts : {R : Type 0} {reads : Runs ReadMark R} {r : Ranks R} → ReadCounting reads r → (x y : R)
     (l : List ReadMark) → ToldStripped reads x l y → r.counts x → r.counts y
 told_counts c x y l h k = c.counts_on x y h.0 k h.1
-
--- Laws of what a writer takes while calls are waited for, one after the other.
 
 module _ {W : Type 0} (writes : Runs WriteMark W) where
   -- A front of some bytes is a front of more bytes.

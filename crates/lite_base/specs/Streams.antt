@@ -2,8 +2,9 @@
 -- laws are `stream_by_steps` or `stream_hinting`, or `stream_by_keeping_steps` if it may not always be polled. Its rank
 -- is `stream_counting` or `stream_ranking`.
 use Rattle.std.specs.Prelude.{◌≡◌, ◌<◌, ◌≤◌, ℕ, [], ◌∷◌, length, Some}
-use Rattle.lite_theorems.specs.Uses.{Pending, Answer, end, item, Lowers, Ranks}
-use Rattle.lite_base.specs.Ranks.{Below}
+use Rattle.lite_base.specs.Uses.{Pending}
+use Rattle.lite_base.specs.Answers.{Answer, end, item}
+use Rattle.lite_base.specs.Ranks.{Below, Lowers, Ranks}
 use Rattle.lite_base.specs.Runs.{Hints}
 
 -- The size hint is this number, as the lower bound and as the upper bound.

@@ -1,9 +1,8 @@
 -- What a reader produced while a call was waited for, without the `Pending`s.
 use Rattle.std.specs.Prelude.{◌≡◌, ◌≢◌, ◌≤◌, ◌<◌, ◌+◌, ◌⊎◌, ℕ, List, [], ◌∷◌, ◌++◌, length, Result, Ok, Err}
-use Rattle.lite_theorems.specs.Uses.{error_kind, Error, OutOfMemory, Runs, ReadMark, bytes, strip_marks, StandsFirst}
+use Rattle.lite_read.specs.Uses.{AllByRecursion, error_kind, Error, OutOfMemory, UnexpectedEof, Runs, ReadMark, bytes, strip_marks}
+use Rattle.lite_io_base.specs.Runs.{StandsFirst}
 use Rattle.lite_read.specs.Pieces.{through_first}
-use Rattle.std.specs.List.{AllByRecursion}
-use Rattle.std.specs.declared.io.ErrorKind.TheVariants.{UnexpectedEof}
 
 -- The reader produced just the marks `l`, if the `Pending`s are left out.
 abbrev pub ToldStripped : {R : Type 0} → Runs ReadMark R → Runs ReadMark R
