@@ -1,12 +1,13 @@
 -- What a loop over calls has come to: so many were made, and their answers appended.
-use Rattle.std.specs.Prelude.{◌≡◌, ◌<◌, ◌+◌, ℕ, List, [], ◌∷◌, ◌++◌, length, map}
+use Rattle.std.specs.Prelude.{◌≡◌, ◌≤◌, ◌<◌, ◌+◌, ℕ, List, [], ◌∷◌, ◌++◌, length, map, true, false, Result, Ok, Err}
 use Rattle.lite_halves.specs.Uses.{get_or, refl, sym, ap, append-nil, append_assoc, length-append, add-zero, arith, map-append, sum_by-append}
-use Rattle.lite_halves.specs.Uses.{ReadMark, WriteMark, Runs}
-use Rattle.std.proofs.lemmas.List.{get_or_default}
+use Rattle.lite_halves.specs.Uses.{AllocError, ReadMark, WriteMark, Runs}
+use Rattle.std.proofs.lemmas.List.{get_or_default, length-map}
+use Rattle.std.specs.Result.{IsErr}
 use Rattle.lite_halves.specs.declared.entry.Answer.{Answer}
 use Rattle.lite_halves.specs.declared.entry.Call.{Call}
-use Rattle.lite_halves.specs.Counts.{CountsOn, HalfCounts, Makes, count_moved, moved_by}
-use Rattle.lite_halves.specs.Drive.{AsksAt, pairs}
+use Rattle.lite_halves.specs.Counts.{CountsOn, HalfCounts, HalfDrives, Makes, count_moved, moved_by}
+use Rattle.lite_halves.specs.Drive.{AsksAt, CallsAnswered, Drives, pairs}
 use Rattle.lite_halves.specs.Entry.{AllFit, FitsCall, Note, Request, Told, asked_of, told_in, told_of}
 use Rattle.lite_halves.specs.Journal.{Adds, AddsAll, AsksMemory, Chronicle}
 use Rattle.lite_halves.specs.Laws.Entry.{fit_both}
@@ -52,6 +53,18 @@ driven_more before out more after answer n d next same pushed = record {
   made = next;
 }
 
+no_error : false ≡ true → ⊥
+no_error is = cc
+
+module _ {C : Type 0} (ask : C → Request) (xs : List C) (told : List Told) (n : ℕ) (many : length told ≡ n) where
+  -- an allocation failed at the n-th call
+  fewer_answered : (r : Result (Unit {0}) AllocError) → IsErr r → n < length xs → CallsAnswered r (map ask xs) told
+  fewer_answered (Ok u) fails inside = absurd (no_error fails)
+  fewer_answered (Err e) fails inside = omega (arith, many, length-map xs ask)
+
+  all_answered : length xs ≤ n → n ≤ length xs → CallsAnswered (Ok tt) (map ask xs) told
+  all_answered most all = omega (arith, many, length-map xs ask)
+
 -- a half's calls with these answers fit, and were counted from a to b
 abbrev pub HalfMade : List Request → HalfCounts → HalfCounts → List Told → Type 0
 HalfMade asked a b told = AllFit (pairs asked told) × (b.calls ≡ a.calls + length told)
@@ -82,6 +95,23 @@ module _ {C : Type 0} (ask : C → Request) (xs : List C) where
         rw (pairs_more ask xs so_far.told t x d n so_far.many inside is, makes, made.3, append_assoc),
       )
 
+  -- an allocation failed at the n-th call
+  pub half_fails : (r : Result (Unit {0}) AllocError) (a b c : HalfCounts) (before out after : List Answer) (n : ℕ)
+      → Driven (HalfMade (map ask xs) a b) before out n → n < length xs → IsErr r → c ≡ b → after ≡ out
+      → HalfDrives (map ask xs) (told_in before) r a c (told_in after)
+  half_fails r a b c before out after n d inside fails stays same =
+      let made = d.made in
+      let fewer = fewer_answered ask xs d.told n d.many r fails inside in
+      rw (same, stays) (d.told, d.out, fewer, made.0, made.1, made.2, made.3)
+
+  -- all calls were made
+  pub half_ends : (a b : HalfCounts) (before out : List Answer) (n : ℕ)
+      → Driven (HalfMade (map ask xs) a b) before out n → length xs ≤ n → n ≤ length xs
+      → HalfDrives (map ask xs) (told_in before) (Ok tt) a b (told_in out)
+  half_ends a b before out n d most all =
+      let made = d.made in
+      (d.told, d.out, all_answered ask xs d.told n d.many most all, made.0, made.1, made.2, made.3)
+
 module _ {T : Type 0} (reads : Runs ReadMark T) (writes : Runs WriteMark T) {C : Type 0} (ask : C → Request)
     (xs : List C) where
   -- the journal's calls with these answers were added
@@ -99,6 +129,17 @@ module _ {T : Type 0} (reads : Runs ReadMark T) (writes : Runs WriteMark T) {C :
       driven_more before out more after answer n so_far
       (rw (pairs_more ask xs so_far.told (told_of answer) x d n so_far.many inside is)
       (adds_both reads writes so_far.made (adds_one reads writes adds)))
+
+  pub journal_fails : (r : Result (Unit {0}) AllocError) (a b c : Chronicle T) (before out after : List Answer) (n : ℕ)
+      → Driven (JournalMade a b) before out n → n < length xs → IsErr r → c ≡ b → after ≡ out
+      → Drives reads writes a (map ask xs) (told_in before) r c (told_in after)
+  journal_fails r a b c before out after n d inside fails stays same =
+      rw (same, stays) (d.told, d.out, fewer_answered ask xs d.told n d.many r fails inside, d.made)
+
+  pub journal_ends : (a b : Chronicle T) (before out : List Answer) (n : ℕ) → Driven (JournalMade a b) before out n
+      → length xs ≤ n → n ≤ length xs → Drives reads writes a (map ask xs) (told_in before) (Ok tt) b (told_in out)
+  journal_ends a b before out n d most all =
+      (d.told, d.out, all_answered ask xs d.told n d.many most all, d.made)
 
 -- a call that was refused, the n-th, asked for memory
 pub asks_at : {T : Type 0} (j k : Chronicle T) (calls : List Call) (i n : ℕ) (x : Call) → AsksMemory j (asked_of x)

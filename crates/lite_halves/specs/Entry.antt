@@ -5,6 +5,8 @@ use Rattle.futures.specs.declared.task.Poll.TheVariants.{Ready, Pending as Waits
 use Rattle.lite_halves.specs.declared.entry.Entry.{Entry}
 use Rattle.lite_halves.specs.declared.entry.Call.{Call}
 use Rattle.lite_halves.specs.declared.entry.Call.TheVariants.{Read, Write, Flush, Close}
+use Rattle.lite_halves.specs.declared.entry.DoneCall.{DoneCall}
+use Rattle.lite_halves.specs.declared.entry.DoneCall.TheVariants.{Flush as Flushes, Close as Closes}
 use Rattle.lite_halves.specs.declared.entry.Answer.{Answer}
 use Rattle.lite_halves.specs.declared.entry.Answer.TheVariants.{Pending, Read as WasRead, Wrote, Done, Fault}
 
@@ -181,3 +183,12 @@ flush_note r = record { asked = Request.flush; told = told_of_done r }
 -- The entry of a close.
 abbrev pub close_note : Poll (Result (Unit {0}) Error) → Note
 close_note r = record { asked = Request.close; told = told_of_done r }
+
+-- A flush or a close, as a `Request`.
+abbrev pub done_asked : DoneCall → Request
+done_asked Flushes = Request.flush
+done_asked Closes = Request.close
+
+-- The entry of a flush or a close.
+abbrev pub done_note : DoneCall → Poll (Result (Unit {0}) Error) → Note
+done_note call r = record { asked = done_asked call; told = told_of_done r }

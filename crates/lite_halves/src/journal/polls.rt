@@ -3,13 +3,13 @@ ghost use Rattle.std.specs.Prelude.{◌≡◌, ◌≤◌, ◌<◌, ◌+◌, ◌^
 ghost use Rattle.lite_halves.specs.Uses.{io_slices_bytes, OutOfMemory, IfReady, Keeps, ReadMark, read_marks, Part};
 ghost use Rattle.lite_halves.specs.Uses.{ReadsInto, room_in, WriteMark, done_marks, write_marks, closed, flushed};
 ghost use Rattle.lite_halves.specs.Uses.{Registered};
-ghost use Rattle.lite_halves.specs.Entry.{Request, close_note, flush_note, read_note, write_note};
+ghost use Rattle.lite_halves.specs.Entry.{Request, close_note, done_note, flush_note, read_note, write_note};
 ghost use Rattle.lite_halves.specs.Journal.{Adds, AddsOrStays, AddsRead, AddsWrite, AsksMemory, JournalReads, JournalWrites, EntryRoom, ReadsAmply};
 ghost use Rattle.lite_halves.specs.Laws.Journal.{journals_laws, journal_calm, journal_calm_write, journal_steady, journal_steady_write};
 
 use super::Journal;
 use crate::answers::{done_answer, or_refused, read_answer, write_answer};
-use crate::entry::{Call, Entry};
+use crate::entry::{Call, DoneCall, Entry};
 use lite_base::{Context, Poll};
 use lite_io_base::{
     AsyncRead, AsyncWrite, CalmRead, CalmWrite, ReadSpec, SteadyRead, SteadyWrite, WriteSpec,
@@ -255,6 +255,24 @@ impl<T: ReadSpec + AsyncWrite + Clone> Journal<T> {
         let call = Call::Close;
         self.entries.push_reserved(Entry { call, answer });
         Some(polled)
+    }
+
+    // Flushes or closes once, as `step_flush` and `step_close` do.
+    #[inline]
+    pub(crate) fn step_done(
+        &mut self,
+        cx: &mut Context<'_>,
+        call: DoneCall,
+    ) -> Option<Poll<io::Result<()>>>
+        ensures added { IfSome result (λ r. Adds T.reads T.writes self.old (done_note call r) self.new) }
+        ensures context { Keeps cx.old cx.new }
+        ensures small { length self.new.notes < 2 ^ 64 }
+        ensures none { IfNone result (self.new ≡ self.old) }
+    {
+        match call {
+            DoneCall::Flush => self.step_flush(cx),
+            DoneCall::Close => self.step_close(cx),
+        }
     }
 }
 

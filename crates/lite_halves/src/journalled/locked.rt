@@ -1,14 +1,15 @@
 //! What the lock of two journalled halves protects.
 ghost use Rattle.std.specs.Prelude.{◌≡◌, ◌≤◌, [], length, IfOk, IfSome};
 ghost use Rattle.lite_halves.specs.Uses.{IfReady, Keeps, count_of};
-ghost use Rattle.lite_halves.specs.Counts.{AddsInside, CountsCall, CountsOrNone, IsWrite, booked_in, counted_in, nothing_counted};
+ghost use Rattle.lite_halves.specs.Counts.{AddsInside, CountsCall, booked_in, counted_in, nothing_counted};
 ghost use Rattle.lite_halves.specs.Counts.{numbers_of};
 ghost use Rattle.lite_halves.specs.declared.journalled.tally.Side.TheVariants.{Reading, Writing};
-ghost use Rattle.lite_halves.specs.Entry.{Request, asked_of, close_note, flush_note, read_note, write_note};
+ghost use Rattle.lite_halves.specs.Entry.{done_note, read_note, write_note};
 
 use super::counter_names::{CounterNames, Got, NewCounters, Reads, Taken, Writes};
 use super::tally::{Shares, Side, SideBooks, Tally};
-use crate::{Answer, Call, Journal, buffer_answer, done_answer, write_answer};
+use crate::Journal;
+use crate::entry::DoneCall;
 use lite_base::{Context, Poll};
 use lite_io_base::{AsyncRead, AsyncWrite, ReadSpec, WriteSpec};
 use std::alloc::AllocError;
@@ -27,7 +28,6 @@ pub(super) struct Locked<T: ReadSpec + WriteSpec + Clone, B: CounterNames> {
     ghost writing_is: { writing ≡ booked_in Writing journal },
 }
 
-#[tactic(auto, using(crate::proofs::Noted::call_fits))]
 impl<T: AsyncRead + WriteSpec + Clone, B: CounterNames> Locked<T, B> {
     /// Reads once, with an entry. `None` means that the memory for it was refused, and nothing was called.
     pub(super) fn read(
@@ -47,24 +47,8 @@ impl<T: AsyncRead + WriteSpec + Clone, B: CounterNames> Locked<T, B> {
         self.reading.count(tally, count(&polled), entry);
         Some(polled)
     }
-
-    /// Reads once into the whole of `buf`, with an entry. `None` means that the memory for it was refused,
-    /// and nothing was called.
-    pub(super) fn make_read(
-        &mut self,
-        tally: &mut Tally<Reads<B>, Got<B>>,
-        cx: &mut Context<'_>,
-        mut buf: Vec<u8>,
-    ) -> Option<Answer>
-        ensures made { CountsOrNone tally.old (Request.room (length buf.items)) result tally.new }
-        ensures context { Keeps cx.old cx.new }
-    {
-        let polled = self.read(tally, cx, &mut buf)?;
-        Some(buffer_answer(&polled, buf))
-    }
 }
 
-#[tactic(auto, using(crate::proofs::Noted::call_fits))]
 impl<T: ReadSpec + AsyncWrite + Clone, B: CounterNames> Locked<T, B> {
     /// Writes once, with an entry. `None` means that the memory for it was refused, and nothing was called.
     pub(super) fn write(
@@ -86,58 +70,23 @@ impl<T: ReadSpec + AsyncWrite + Clone, B: CounterNames> Locked<T, B> {
         Some(polled)
     }
 
-    /// Flushes once, with an entry. `None` means that the memory for it was refused, and nothing was called.
-    pub(super) fn flush(
+    /// Flushes or closes once, with an entry. `None` means that the memory for it was refused, and nothing
+    /// was called.
+    pub(super) fn finish(
         &mut self,
         tally: &mut Tally<Writes<B>, Taken<B>>,
         cx: &mut Context<'_>,
+        call: DoneCall,
     ) -> Option<Poll<io::Result<()>>>
-        ensures added { IfSome result (λ r. AddsInside T.reads T.writes self.old.journal (flush_note r) self.new.journal) }
-        ensures counted { CountsCall (λ _. 0) flush_note tally.old result tally.new }
+        ensures added { IfSome result (λ r. AddsInside T.reads T.writes self.old.journal (done_note call r) self.new.journal) }
+        ensures counted { CountsCall (λ _. 0) (done_note call) tally.old result tally.new }
         ensures context { Keeps cx.old cx.new }
     {
         self.writing.audit(tally);
-        let polled = self.journal.as_mut().unwrap().step_flush(cx)?;
+        let polled = self.journal.as_mut().unwrap().step_done(cx, call)?;
         let entry = self.journal.as_ref().unwrap().latest();
         self.writing.count(tally, 0, entry);
         Some(polled)
-    }
-
-    /// Closes once, with an entry. `None` means that the memory for it was refused, and nothing was called.
-    pub(super) fn close(
-        &mut self,
-        tally: &mut Tally<Writes<B>, Taken<B>>,
-        cx: &mut Context<'_>,
-    ) -> Option<Poll<io::Result<()>>>
-        ensures added { IfSome result (λ r. AddsInside T.reads T.writes self.old.journal (close_note r) self.new.journal) }
-        ensures counted { CountsCall (λ _. 0) close_note tally.old result tally.new }
-        ensures context { Keeps cx.old cx.new }
-    {
-        self.writing.audit(tally);
-        let polled = self.journal.as_mut().unwrap().step_close(cx)?;
-        let entry = self.journal.as_ref().unwrap().latest();
-        self.writing.count(tally, 0, entry);
-        Some(polled)
-    }
-
-    /// Makes one call, which is not a read, with an entry. `None` means that the memory for it was refused,
-    /// and nothing was called.
-    pub(super) fn make(
-        &mut self,
-        tally: &mut Tally<Writes<B>, Taken<B>>,
-        cx: &mut Context<'_>,
-        call: &Call,
-    ) -> Option<Answer>
-        requires { IsWrite call.now }
-        ensures made { CountsOrNone tally.old (asked_of call.now) result tally.new }
-        ensures context { Keeps cx.old cx.new }
-    {
-        match call {
-            Call::Read { .. } => unreachable!(),
-            Call::Write(bytes) => Some(write_answer(&self.write(tally, cx, bytes)?)),
-            Call::Flush => Some(done_answer(&self.flush(tally, cx)?)),
-            Call::Close => Some(done_answer(&self.close(tally, cx)?)),
-        }
     }
 }
 

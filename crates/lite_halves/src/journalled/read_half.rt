@@ -1,7 +1,7 @@
 //! The half of a journal that reads.
-ghost use Rattle.std.specs.Prelude.{◌≡◌, ◌≤◌, ◌+◌, ◌%◌, ◌^◌, ◌⊎◌, ◌++◌, ◌∷◌, [], length, map, IfOk};
+ghost use Rattle.std.specs.Prelude.{◌≡◌, ◌≤◌, ◌+◌, ◌%◌, ◌^◌, ◌⊎◌, ◌++◌, ◌∷◌, [], length, map, IfOk, IfSome};
 ghost use Rattle.lite_halves.specs.Uses.{IfReady, Keeps, OutOfMemory, ReadMark, count_of, read_marks, Part, ReadsInto, room_in, Registered};
-ghost use Rattle.lite_halves.specs.Counts.{CountsOrNone, HalfDrives, IsOutOfMemory, MakesOrStays, MakesRead};
+ghost use Rattle.lite_halves.specs.Counts.{CountsCall, CountsOrNone, HalfDrives, IsOutOfMemory, MakesOrStays, MakesRead};
 ghost use Rattle.lite_halves.specs.Counts.{ReadCounts, read_bytes_of};
 ghost use Rattle.lite_halves.specs.Entry.{Request, read_note, told_in};
 ghost use Rattle.lite_halves.specs.Laws.Counts.{counts_laws};
@@ -9,8 +9,8 @@ ghost use Rattle.lite_halves.specs.Laws.Counts.{counts_laws};
 use super::counter_names::{CounterNames, Got, Reads};
 use super::locked::Locked;
 use super::tally::Tally;
-use crate::Answer;
 use crate::answers::or_refused;
+use crate::{Answer, buffer_answer};
 use lite_base::{Context, Poll};
 use lite_io_base::{AsyncRead, ReadSpec, WriteSpec, first_room};
 use std::alloc::{AllocError, AllocGlobal};
@@ -124,6 +124,17 @@ impl<R, T: ReadSpec + WriteSpec + Clone, B: CounterNames> ReadSpec for JournalRe
     ghost read_laws = { counts_laws Part.reading (ReadMark.fault OutOfMemory) read_bytes_of };
 }
 
+impl<R: Wait, T: AsyncRead + WriteSpec + Clone, B: CounterNames> JournalReadHalf<R, T, B> {
+    // Reads once, with an entry. `None` means that the memory for it was refused, and nothing was called.
+    fn step_read(&mut self, cx: &mut Context<'_>, buf: &mut [u8]) -> Option<Poll<io::Result<usize>>>
+        ensures counted { CountsCall count_of (λ r. read_note r buf.new) self.old result self.new }
+        ensures bound { IfSome result (λ r. IfReady r (λ a. IfOk a (λ n. n ≤ length buf.new))) }
+        ensures context { Keeps cx.old cx.new }
+    {
+        self.shared.lock(&self.rt).read(&mut self.tally, cx, buf)
+    }
+}
+
 impl<R: Wait, T: AsyncRead + WriteSpec + Clone, B: CounterNames> AsyncRead
     for JournalReadHalf<R, T, B> {
     /// Reads from the stream, and records the call with its answer, both under one lock.
@@ -140,7 +151,7 @@ impl<R: Wait, T: AsyncRead + WriteSpec + Clone, B: CounterNames> AsyncRead
         ensures registered { Registered result (λ _. ⊥) cx.new }
         ensures context { Keeps cx.old cx.new }
     {
-        or_refused(self.shared.lock(&self.rt).read(&mut self.tally, cx, buf))
+        or_refused(self.step_read(cx, buf))
     }
 
     /// Reads as `poll_read` does into the first buffer that has room, or into an empty one if none has.
@@ -176,9 +187,9 @@ where
         ensures made { CountsOrNone self.old (Request.room room) result self.new }
         ensures context { Keeps cx.old cx.new }
     {
-        let buf = vec![in self.rt.alloc(); 0; room].ok()?;
-        let mut locked = self.shared.lock(&self.rt);
-        locked.make_read(&mut self.tally, cx, buf)
+        let mut buf = vec![in self.rt.alloc(); 0; room].ok()?;
+        let polled = self.step_read(cx, &mut buf)?;
+        Some(buffer_answer(&polled, buf))
     }
 
     /// Makes one read for each number of `rooms`, with room for that many bytes, and appends the answers to

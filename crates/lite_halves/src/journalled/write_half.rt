@@ -1,17 +1,18 @@
 //! The half of a journal that writes.
-ghost use Rattle.std.specs.Prelude.{◌≡◌, ◌≤◌, ◌+◌, ◌%◌, ◌^◌, ◌⊎◌, ◌++◌, ◌∷◌, [], length, IfOk};
+ghost use Rattle.std.specs.Prelude.{◌≡◌, ◌≤◌, ◌+◌, ◌%◌, ◌^◌, ◌⊎◌, ◌++◌, ◌∷◌, [], length, IfOk, IfSome};
 ghost use Rattle.lite_halves.specs.Uses.{io_slices_bytes, IfReady, Keeps, count_of, OutOfMemory, Part, WriteMark, done_marks, write_marks, closed, flushed};
 ghost use Rattle.lite_halves.specs.Uses.{Registered};
-ghost use Rattle.lite_halves.specs.Counts.{AllWrites, CountsOrNone, HalfDrives, IsOutOfMemory, IsWrite, MakesOrStays};
+ghost use Rattle.lite_halves.specs.Counts.{AllWrites, CountsCall, CountsOrNone, HalfDrives, IsOutOfMemory, IsWrite, MakesOrStays};
 ghost use Rattle.lite_halves.specs.Counts.{MakesWrite, WriteCounts, taken_bytes_of};
-ghost use Rattle.lite_halves.specs.Entry.{asked_in, asked_of, close_note, flush_note, told_in, write_note};
+ghost use Rattle.lite_halves.specs.Entry.{asked_in, asked_of, close_note, done_note, flush_note, told_in, write_note};
 ghost use Rattle.lite_halves.specs.Laws.Counts.{counts_laws};
 
 use super::counter_names::{CounterNames, Taken, Writes};
 use super::locked::Locked;
 use super::tally::Tally;
 use crate::answers::or_refused;
-use crate::{Answer, Call};
+use crate::entry::DoneCall;
+use crate::{Answer, Call, done_answer, write_answer};
 use lite_base::{Context, Poll};
 use lite_io_base::{AsyncWrite, ReadSpec, WriteSpec, first_nonempty};
 use std::alloc::AllocError;
@@ -116,14 +117,37 @@ impl<R, T: ReadSpec + WriteSpec + Clone, B: CounterNames> JournalWriteHalf<R, T,
 }
 
 impl<R: Wait, T: ReadSpec + AsyncWrite + Clone, B: CounterNames> JournalWriteHalf<R, T, B> {
-    // Makes one call, with its entry. `None` means that the memory for the entry was refused, and nothing was
+    // Writes once, with an entry. `None` means that the memory for it was refused, and nothing was called.
+    fn step_write(&mut self, cx: &mut Context<'_>, buf: &[u8]) -> Option<Poll<io::Result<usize>>>
+        ensures counted { CountsCall count_of (λ r. write_note r buf.now) self.old result self.new }
+        ensures bound { IfSome result (λ r. IfReady r (λ a. IfOk a (λ n. n ≤ length buf.now))) }
+        ensures context { Keeps cx.old cx.new }
+    {
+        self.shared.lock(&self.rt).write(&mut self.tally, cx, buf)
+    }
+
+    // Flushes or closes once, with an entry. `None` means that the memory for it was refused, and nothing was
     // called.
+    fn finish(&mut self, cx: &mut Context<'_>, call: DoneCall) -> Option<Poll<io::Result<()>>>
+        ensures counted { CountsCall (λ _. 0) (done_note call) self.old result self.new }
+        ensures context { Keeps cx.old cx.new }
+    {
+        self.shared.lock(&self.rt).finish(&mut self.tally, cx, call)
+    }
+
+    // Makes one call, which is not a read, with an entry. `None` means that the memory for it was refused, and
+    // nothing was called.
     fn make(&mut self, cx: &mut Context<'_>, call: &Call) -> Option<Answer>
         requires { IsWrite call.now }
         ensures made { CountsOrNone self.old (asked_of call.now) result self.new }
         ensures context { Keeps cx.old cx.new }
     {
-        self.shared.lock(&self.rt).make(&mut self.tally, cx, call)
+        match call {
+            Call::Read { .. } => unreachable!(),
+            Call::Write(bytes) => Some(write_answer(&self.step_write(cx, bytes)?)),
+            Call::Flush => Some(done_answer(&self.finish(cx, DoneCall::Flush)?)),
+            Call::Close => Some(done_answer(&self.finish(cx, DoneCall::Close)?)),
+        }
     }
 
     /// Makes the calls one after the other, and appends their answers to `out`.
@@ -203,7 +227,7 @@ impl<R: Wait, T: ReadSpec + AsyncWrite + Clone, B: CounterNames> AsyncWrite
         ensures registered { Registered result (λ _. ⊥) cx.new }
         ensures context { Keeps cx.old cx.new }
     {
-        or_refused(self.shared.lock(&self.rt).write(&mut self.tally, cx, buf))
+        or_refused(self.step_write(cx, buf))
     }
 
     /// Writes as `poll_write` does the first buffer that has a byte, or an empty one if none has.
@@ -234,7 +258,7 @@ impl<R: Wait, T: ReadSpec + AsyncWrite + Clone, B: CounterNames> AsyncWrite
         ensures registered { Registered result (λ _. ⊥) cx.new }
         ensures context { Keeps cx.old cx.new }
     {
-        or_refused(self.shared.lock(&self.rt).flush(&mut self.tally, cx))
+        or_refused(self.finish(cx, DoneCall::Flush))
     }
 
     fn poll_close(&mut self, cx: &mut Context<'_>) -> Poll<io::Result<()>>
@@ -245,6 +269,6 @@ impl<R: Wait, T: ReadSpec + AsyncWrite + Clone, B: CounterNames> AsyncWrite
         ensures registered { Registered result (λ _. ⊥) cx.new }
         ensures context { Keeps cx.old cx.new }
     {
-        or_refused(self.shared.lock(&self.rt).close(&mut self.tally, cx))
+        or_refused(self.finish(cx, DoneCall::Close))
     }
 }

@@ -1,7 +1,7 @@
 use Rattle.lite_halves.specs.Uses.{arith, refl, WriteMark}
 use Rattle.lite_halves.specs.Entry.{flush_note}
 use Rattle.lite_halves.specs.Laws.Entry.{done_fits, done_note_part}
-use Rattle.lite_halves.proofs.Noted.{sound_push}
+use Rattle.lite_halves.proofs.Noted.{adds_push, sound_push}
 use Rattle.lite_halves.proofs.journal.Journal.step_flush.Goals as goal
 
 pub invariant_of-self-2 : goal.invariant_of-self-2
@@ -9,3 +9,10 @@ invariant_of-self-2 g c =
     sound_push g.T.ReadSpec.reads g.T.WriteSpec.writes g.T.Clone.is_clone _ (flush_note _) c.self.invariant
     c.reserve.ensures.items c.push_reserved.ensures.items refl c.done_answer-answer.ensures (done_fits _)
     (done_note_part WriteMark.flushed _) c.poll_flush-polled.ensures.ran (omega arith)
+
+pub returns-clause-added : goal.returns-clause-added
+returns-clause-added g c =
+    rw (← c.self.view_is)
+    (adds_push g.T.ReadSpec.reads g.T.WriteSpec.writes _ (flush_note _) c.reserve.ensures.items c.push_reserved.ensures.items
+    refl c.done_answer-answer.ensures (done_fits _) (done_note_part WriteMark.flushed _) c.poll_flush-polled.ensures.ran
+    (omega arith))

@@ -1,0 +1,21 @@
+use Rattle.lite_halves.specs.Uses.{refl, sym, ◌∙◌}
+use Rattle.lite_halves.proofs.Booked.{done_belongs, other_books, own_books, tally_fits}
+use Rattle.lite_halves.proofs.journalled.locked.Locked.finish.Goals as goal
+
+pub count-requires : goal.count-requires
+count-requires g c =
+    let there = sym (rw c.unwrap.ensures at c.as_mut.ensures.value) in
+    let belongs = done_belongs c.args.call c.in_ok-polled.polled in
+    tally_fits g.T.ReadSpec.reads g.T.WriteSpec.writes _ _ _ _ there c.in_ok-polled.ensures.added
+    belongs _ _ _ c.args.self.now.writing_is c.audit.ensures.whole c.audit.ensures.tally c.in_ok-polled.ensures.small
+
+pub invariant_of-self-2 : goal.invariant_of-self-2
+invariant_of-self-2 g c =
+    let there = sym (rw c.unwrap.ensures at c.as_mut.ensures.value) in
+    let belongs = done_belongs c.args.call c.in_ok-polled.polled in
+    record {
+      reading_is = other_books g.T.ReadSpec.reads g.T.WriteSpec.writes _ _ _ _ there c.in_ok-polled.ensures.added
+          belongs _ c.args.self.now.reading_is;
+      writing_is = own_books g.T.ReadSpec.reads g.T.WriteSpec.writes _ _ _ _ there c.in_ok-polled.ensures.added
+          belongs 0 _ _ (c.audit.ensures.counter_names ∙ c.args.self.now.writing_is) refl c.count.ensures.counter_names;
+    }
