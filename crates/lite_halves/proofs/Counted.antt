@@ -2,9 +2,11 @@
 use Rattle.std.specs.Prelude.{◌≡◌, ℕ, List, length, Option, Some, None, Result, Ok, Err}
 use Rattle.lite_halves.specs.Uses.{Error, Pending, Poll, Ready, CountsWithin, arith, count_of, length-take-le, refl}
 use Rattle.lite_halves.specs.declared.entry.Answer.{Answer}
+use Rattle.lite_halves.specs.declared.entry.DoneCall.{DoneCall}
+use Rattle.lite_halves.specs.declared.entry.DoneCall.TheVariants.{Close as Closes, Flush as Flushes}
 use Rattle.lite_halves.specs.Counts.{CountsOn, CountsOrNone, HalfCounts, Makes, moved_by}
-use Rattle.lite_halves.specs.Entry.{Request, close_note, flush_note, read_note, told_of, told_of_done, told_of_read}
-use Rattle.lite_halves.specs.Entry.{told_of_write, write_note}
+use Rattle.lite_halves.specs.Entry.{FitsCall, Request, done_asked, done_note, read_note, told_of, told_of_done}
+use Rattle.lite_halves.specs.Entry.{told_of_read, told_of_write, write_note}
 use Rattle.lite_halves.specs.Laws.Entry.{done_fits, read_note_fits, write_note_fits}
 
 moved_read : (r : Poll (Result ℕ Error)) (buf : List ℕ) → CountsWithin r (length buf)
@@ -23,6 +25,10 @@ moved_done (Ready (Ok u)) = refl
 moved_done (Ready (Err e)) = refl
 moved_done Pending = refl
 
+done_call_fits : (call : DoneCall) (r : Poll (Result (Unit {0}) Error)) → FitsCall (done_asked call) (told_of_done r)
+done_call_fits Flushes r = done_fits r
+done_call_fits Closes r = done_fits r
+
 module _ (a b : HalfCounts) where
   pub read_counted : (r : Poll (Result ℕ Error)) (buf filled : List ℕ) (n : ℕ) (answer : Answer) → length buf ≡ n
       → CountsWithin r (length buf) → CountsOn 1 (count_of r) a b → Makes a (read_note r buf) b → filled ≡ buf
@@ -36,17 +42,11 @@ module _ (a b : HalfCounts) where
   write_counted r xs asked answer is within counts makes told =
       rw (told, is) ((counts.0, rw (moved_write r) counts.1), makes, write_note_fits r xs within)
 
-  pub flush_counted : (r : Poll (Result (Unit {0}) Error)) (asked : Request) (answer : Answer)
-      → asked ≡ Request.flush → CountsOn 1 0 a b → Makes a (flush_note r) b → told_of answer ≡ told_of_done r
+  pub done_counted : (call : DoneCall) (r : Poll (Result (Unit {0}) Error)) (asked : Request) (answer : Answer)
+      → asked ≡ done_asked call → CountsOn 1 0 a b → Makes a (done_note call r) b → told_of answer ≡ told_of_done r
       → CountsOrNone a asked (Some answer) b
-  flush_counted r asked answer is counts makes told =
-      rw (told, is) ((counts.0, rw (moved_done r) counts.1), makes, done_fits r)
-
-  pub close_counted : (r : Poll (Result (Unit {0}) Error)) (asked : Request) (answer : Answer)
-      → asked ≡ Request.close → CountsOn 1 0 a b → Makes a (close_note r) b → told_of answer ≡ told_of_done r
-      → CountsOrNone a asked (Some answer) b
-  close_counted r asked answer is counts makes told =
-      rw (told, is) ((counts.0, rw (moved_done r) counts.1), makes, done_fits r)
+  done_counted call r asked answer is counts makes told =
+      rw (told, is) ((counts.0, rw (moved_done r) counts.1), makes, done_call_fits call r)
 
   pub none_counted : (asked : Request) (made : Option Answer) → made ≡ None → b ≡ a → CountsOrNone a asked made b
   none_counted asked made is same = rw is same

@@ -233,6 +233,7 @@ impl<R: Wait, T: ReadSpec + AsyncWrite + Clone, B: CounterNames> AsyncWrite
     /// Writes as `poll_write` does the first buffer that has a byte, or an empty one if none has.
     ///
     /// This is one call with one entry.
+    #[tactic(auto, using(lite_io_base::specs::Laws::Runs::write_front, lite_io_base::specs::Laws::Runs::within_front))]
     fn poll_write_vectored(
         &mut self,
         cx: &mut Context<'_>,
