@@ -1,6 +1,9 @@
 """A new call as a copy of one that is there: its names, and what of a file is copied (tools/begin)."""
 import re
+import textwrap
 
+# The most characters of a line of code.
+WIDTH = 100
 # In a file of cases, the line above those of a call.
 HEADING = re.compile(r"# (?:\w+::)*(\w+): ")
 DEFINITION = re.compile(r"^(?:abbrev |unfoldable )*pub ([\w-]+) :", re.M)
@@ -117,11 +120,21 @@ def with_items(text, names):
     return "\n".join(found)
 
 
+def in_order(name):
+    """The place of a name in an import, as `rt fmt` orders them."""
+    return name != "self", name
+
+
 def both_names(listed, names):
     """Returns the names of an import with the new ones, each behind the old one, or where the order of names puts it."""
     old = [it.strip() for it in listed.split(",") if it.strip()]
     new = [name for it in old for name in dict.fromkeys((it, names.told(it)))]
-    return listed[: len(listed) - len(listed.lstrip())] + ", ".join(sorted(new) if old == sorted(old) else new) + listed[len(listed.rstrip()) :]
+    told = ", ".join(sorted(new, key=in_order) if old == sorted(old, key=in_order) else new)
+    before, behind = listed[: len(listed) - len(listed.lstrip())], listed[len(listed.rstrip()) :]
+    if "\n" in before:
+        indent = before.lstrip("\n")
+        told = textwrap.fill(f"{told},", WIDTH, initial_indent=indent, subsequent_indent=indent).lstrip()
+    return before + told + behind
 
 
 def with_imports(text, names):
