@@ -10,6 +10,8 @@ from sources import Sources
 from vocabulary import wrapped
 
 PAGE = "docs/FROM-FUTURES-LITE.md"
+# How a note begins of what is not here.
+NOT_HERE = "Not here"
 LINE = re.compile(r"(?P<module>future|stream|io)::(?P<title>\w+(?:::\w+)?)(?:: (?P<note>.*))?")
 
 
@@ -64,9 +66,13 @@ def added():
 
 
 def faults():
-    """Yields each line that is none, and each name that is not here without a note that says why."""
+    """Yields each line that is none, each name that is not here without a note that says why, and each that is here although its note says that it is not."""
     for module, title, note in lines():
         if not module:
             yield "tools/original.txt", f"this is no line of it: {title}"
-        elif not note and title not in sources().items_of(module):
+            continue
+        is_here = title in sources().items_of(module)
+        if not note and not is_here:
             yield "tools/original.txt", f"`{module}::{title}` is not here, and no note says why"
+        if is_here and note and note.startswith(NOT_HERE):
+            yield "tools/original.txt", f"`{module}::{title}` is here"

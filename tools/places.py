@@ -6,8 +6,10 @@ import subprocess
 
 import originals
 import pictures
+import properties
 import speed
 import vocabulary
+from adapters import list_told
 from edits import BODIES, Bodies
 from programs import REPLAY, THROUGHPUT
 from repository import BESIDE, FACADE, TOP, crates_in, files_of, read_text, with_below
@@ -78,6 +80,10 @@ NO_OTHER_BODY = {
 NO_CONTRACT, NO_PARTS = {"future::BlockOn::new", "future::BlockOn::waits", "io::NewCounters::new", "io::split"}, {"StreamExt::cycle", "StreamExt::drain"}
 # Calls whose example proves no clause: theirs on items takes a function or results, which the example would have to name in a proof.
 NO_PROVED_EXAMPLE = {"StreamExt::flatten", "script", "try_unfold", "unfold"}
+# What docs/NESTS.md tells of each list: the lists of the sources, what a reference refers to, and what a closure computes.
+IN_ALL_LISTS, OF_CLOSURES = {"xs", "ys", "now"}, {"h", "test"}
+# The clauses of a method of streams that have to be refused of a wrong body: the list of an adapter, and the value of a future.
+TURNED_CLAUSES = ("lists", "value")
 # What a contract of properties of streams asks besides the property of a part, and the source that shows that it can be met.
 ASKED, OF_A_PART, CONDITIONS = re.compile(r"^    requires .*(?:\n     .*)*", re.M), re.compile(r"\.(?:alike|is_calm|holds|agree) "), "conditions.rt"
 OF_STREAMS = ("consuming", "future_properties", "merges", "sources", "streams")
@@ -135,6 +141,38 @@ def adapters(streams):
     return {title for title, found in returned.items() if found and found[1] in streams}
 
 
+def sources_of_adapters(streams):
+    """Yields the path and the text of each source with a stream that a method of streams returns."""
+    names = {it.partition("::")[2] for it in adapters(streams)}
+    for crate, made, _, trait, file, *_ in vocabulary.calls():
+        if trait == "Stream" and names.intersection(made):
+            yield f"crates/{crate}/src/{file}", read_text(f"{TOP}/crates/{crate}/src/{file}")
+
+
+def alike_told(streams):
+    """Each adapter that is alike by another rule than that of TABLES is named there."""
+    rule = re.search(r"^- \*\*Alike\*\*.*?(?=^- )", read_text(f"{TOP}/{TABLES}"), re.M | re.S)[0]
+    wanted = {name for _, text in sources_of_adapters(streams) for name in properties.alike_otherwise(text)}
+    yield from lacking(TABLES, wanted, wanted & set(re.findall(r"`(\w+)`", rule)), set(), "the rule `Alike` does not tell of")
+
+
+def words_of_list(said):
+    """Returns the words in a list, but those that a function in it takes."""
+    taken = set(re.findall(r"λ ([^.]*)\.", said))
+    return {it for it in re.findall(r"[^\W\d]\w*", said) if it not in taken} - {"λ"}
+
+
+def lists_explained():
+    """Each word in the list of an adapter is explained in NESTS: it is in the table of modules, an argument of the method, or what its closure computes."""
+    text = read_text(f"{TOP}/{NESTS}")
+    first, above = text.partition("\n## ")[0], text.partition(PARTS_OF[NESTS][0])[2].partition("\n|")[0]
+    modules, named = (set(re.findall(r"\w+", " ".join(re.findall(r"`([^`]*)`", it)))) for it in (first, above))
+    for it in (it for it in calls_of_streams() if it.owner and it.name not in named):
+        known = IN_ALL_LISTS | modules | set(re.findall(r"(\w+):", it.head)) | (OF_CLOSURES if "FnMut" in it.head else set())
+        lists = filter(None, (list_told(clause) for clause in it.gives if clause.startswith("ensures lists ")))
+        yield from ((NESTS, f"nothing explains `{word}` in the list of `{it.name}`") for said in lists for word in sorted(words_of_list(said) - known))
+
+
 def polls(streams):
     """Each adapter has a table of polls."""
     there = {it.removeprefix("stream::") for it in pictures.by_item()}
@@ -186,9 +224,14 @@ def contracts(streams):
     yield from lacking("crates", with_lists, proved, NO_PROVED_EXAMPLE, "no clause is in the example of")
 
 
-def words_importable():
-    """A program can import each definition that a contract of the facade names."""
+def words_importable(streams):
+    """A program can import each definition that a contract of the facade names, or that says when two values of an adapter are alike."""
     words = {(it.crate, it.module, it.name): it for crate in vocabulary.libraries() for it in vocabulary.definitions(crate)}
+    for path, text in sources_of_adapters(streams):
+        said = vocabulary.ghost_in(text, "alike", vocabulary.imported(text))
+        for place in dict.fromkeys(said):
+            if place in words and not vocabulary.module_for_programs(words[place]):
+                yield f"crates/{FACADE}/specs", f"no module passes on `{place[2]}` of {words[place].path}, which `alike` in {path} names"
     for path in sorted({it.path for of_module in functions().values() for it in of_module if it.path.startswith(f"crates/{FACADE}/")}):
         where = vocabulary.imported(read_text(f"{TOP}/{path}"))
         said = " ".join(clause for of_module in functions().values() for it in of_module if it.path == path for clause in it.asks + it.gives)
@@ -290,10 +333,14 @@ def blocking(streams):
 
 
 def turned():
-    """Each source of the library with a type that is polled, reads, writes, decodes or encodes has a wrong body, and so has each function of the facade."""
+    """Each source of the library with a type that is polled, reads, writes, decodes or encodes has a wrong body. So has each function of the facade, and of
+    each method of streams its list or value."""
     every = {f"{module}::{it.title}" for module, of_module in functions().items() for it in of_module if it.path.startswith(f"crates/{FACADE}/")}
     there = every & {it.function for it in Bodies(FACADE).edits}
     yield from lacking(f"{BODIES}/{FACADE}.txt", every, there, NO_OTHER_BODY, "no wrong body is of")
+    turned_clauses = {f"{it.clause} of {it.function}" for it in Bodies(FACADE).edits}
+    asked = {f"{name} of stream::{it.title}" for it in calls_of_streams() if it.owner for name in TURNED_CLAUSES if any(said.startswith(f"ensures {name} ") for said in it.gives)}
+    yield from lacking(f"{BODIES}/{FACADE}.txt", asked, asked & turned_clauses, set(), "no wrong body is refused by")
     crates = crates_in(TOP)
     for crate in with_below(crates, [FACADE, *BESIDE]):
         turned_there = {file for edit in Bodies(crate).edits for file, _, _ in edit.changes()}
@@ -348,7 +395,8 @@ def counting_as_their_sources():
 
 
 def rows(streams):
-    """Each source, adapter and future of streams stands in a row of NESTS; in TABLES each source, and each adapter with a rank of its own."""
+    """Each source, adapter and future of streams stands in a row of NESTS; in TABLES each source, and each adapter with a rank or a `requires`
+    of its own."""
     for page, (first, end) in PARTS_OF.items():
         part = read_text(f"{TOP}/{page}").partition(first)[2].partition(end)[0]
         cells = " ".join(row.split("|")[1] for row in part.splitlines() if row.startswith("|"))
@@ -357,5 +405,6 @@ def rows(streams):
         there = {title for title, name in every.items() if name in names}
         if page == TABLES:
             plain = counting_as_their_sources()
-            every = {it: name for it, name in every.items() if "::" not in it or it in adapters(streams) and name not in plain}
+            asking = {it.title for it in calls_of_streams() if it.asks}
+            every = {it: name for it, name in every.items() if "::" not in it or it in adapters(streams) and (name not in plain or it in asking)}
         yield from lacking(page, set(every), there, NO_ROW[page], f"no row below `{first[3:]}` has")

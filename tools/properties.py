@@ -1,6 +1,7 @@
 """Which properties each public type of the library has, read from the impls in its sources; the lists of docs/TABLES.md."""
 import functools
 import glob
+import itertools
 import re
 
 from repository import FACADE, TOP, crates_in, read_text, with_below
@@ -16,6 +17,13 @@ PROPERTIES = {
 }
 IMPL = re.compile(r"^impl\b([^{]*?)\s(\w+)\s+for\s+([^{]+?)\s*(?:\bwhere\b[^{]*)?\{", re.M)
 DECLARED = re.compile(r"^(pub\b\S* )?(?:struct|enum) (\w+)", re.M)
+# What `alike` says of two values in an impl; a struct and its fields; the relation of two values of a field, or of two: of parts, of closures and of items
+# that are kept; and the equation of two.
+ALIKE = re.compile(r"^impl\b[^{]*?\sSteadyStream\s+for\s+(\w+)[^{]*\{\n.*?ghost alike = \{(.*?)\};", re.M | re.S)
+STRUCT = re.compile(r"^pub struct (\w+)[^{;]*\{\n(.*?)^\}", re.M | re.S)
+FIELD = re.compile(r"^    (?:pub(?:\(crate\))? )?(\w+):", re.M)
+RELATED = re.compile(r"(?:\w+\.alike|Agree\w+ .*|OptionBy (?:\S+|\((?:Agree|SameItem).*\))|SameHeld \S+) (?:x\.[\w.]+|\(x\..*?\)) (?:y\.[\w.]+|\(y\..*\))")
+EQUAL = re.compile(r"y\.(\w+) ≡ x\.\1")
 
 
 def type_of(parameters, written):
@@ -61,3 +69,31 @@ def tables():
         lines = [f"- `{it}`: all but {', '.join(names)}." for it, names in lacks.items()]
         found[kind] = "\n".join(["", "", wrapped(f"Types: {', '.join(f'`{name}`' for name in there)}."), "", *(wrapped(it, "  ") for it in lines), "", ""])
     return found
+
+
+def depths(said):
+    """Returns how many parentheses are open behind each character."""
+    return list(itertools.accumulate((it == "(") - (it == ")") for it in said))
+
+
+def factors(said):
+    """Returns the factors of a product, also of one that is a factor in parentheses."""
+    said = said.strip()
+    open_at = depths(said)
+    if said.startswith("(") and 0 not in open_at[:-1]:
+        return factors(said[1:-1])
+    at = next((at for at, it in enumerate(said) if it == "×" and not open_at[at]), None)
+    return [said] if at is None else factors(said[:at]) + factors(said[at + 1 :])
+
+
+def is_alike_by_rule(said, fields):
+    """Whether two values are alike as the rule in docs/TABLES.md says: each field of the one is as that of the other, and nothing else counts."""
+    every = factors(" ".join(said.split()).removeprefix("λ x y. "))
+    named = set(re.findall(r"\bx\.(\w+)", said))
+    return named == set(fields) and all(RELATED.fullmatch(it) or EQUAL.fullmatch(it) or it == "⊤" for it in every)
+
+
+def alike_otherwise(text):
+    """Returns the streams of a source that are alike by another rule than that of docs/TABLES.md."""
+    fields = {name: FIELD.findall(body) for name, body in STRUCT.findall(text)}
+    return {name for name, said in ALIKE.findall(text) if not is_alike_by_rule(said, fields[name])}

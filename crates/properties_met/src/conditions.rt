@@ -8,7 +8,10 @@ use crate::merges::{
     merges_are_calm,
 };
 use crate::sources::{calls_are_alike, calls_are_calm};
-use crate::streams::adapters_are_alike;
+use crate::streams::{
+    filter_is_alike, filter_map_is_alike, map_is_alike, map_while_is_alike, scan_is_alike,
+    skip_while_is_alike, take_while_is_alike,
+};
 use lite_base::future::make::ready;
 use lite_base::{Context, Poll};
 use lite_merge::Drain;
@@ -19,15 +22,18 @@ use std::vec::IntoIter;
 
 /// Closures that catch nothing agree with themselves.
 pub fn closures_agree(script: &Script<u8>) {
-    let (mix, keep) = (|x: u8| x ^ 1, |x: u8| Some(x));
-    let (is_small, show) = (|x: &u8| *x < 100, |_x: &u8| ());
+    let (mix, keep, is_small) = (|x: u8| x ^ 1, |x: u8| Some(x), |x: &u8| *x < 100);
     let latest = |state: &mut u8, x: u8| {
         *state = x;
         Some(x)
     };
-    adapters_are_alike(
-        script, script, 1, &0u8, &mix, &keep, &is_small, &show, &latest,
-    );
+    map_is_alike(script, script, &mix);
+    map_while_is_alike(script, script, &keep);
+    scan_is_alike(script, script, &0u8, &latest);
+    take_while_is_alike(script, script, &is_small);
+    filter_is_alike(script, script, &is_small);
+    filter_map_is_alike(script, script, &keep);
+    skip_while_is_alike(script, script, &is_small);
 }
 
 /// So do those that consume items.

@@ -1,4 +1,5 @@
-//! Adapters of streams: two that are alike where their streams are, and a calm one where its stream is, of each type.
+//! Adapters of streams. Two of a type are alike if their streams are, if their closures agree, and if all else that they hold is equal. One is calm if
+//! its stream is, and asks for no memory if its stream asks for none. What the context holds at a `Pending` of the stream it holds at one of the adapter.
 ghost use Rattle.std.specs.Fn.{CalledAt};
 ghost use Rattle.std.specs.Prelude.{◌≡◌, Some, false};
 ghost use Rattle.lite_base.specs.Alike.{SameItem};
@@ -9,168 +10,255 @@ use lite_base::{CalmStream, Counted, SteadyStream, Stream};
 use lite_reshape::{Filter, FilterMap, Skip, SkipWhile, StepBy};
 use lite_stream::{Copied, Enumerate, Fuse, Inspect, Map, MapWhile, Scan, Take, TakeWhile};
 
-/// Adapters of one stream are alike over streams that are alike, by closures that agree with themselves.
-pub fn adapters_are_alike<S, U, V, F, O, P, I, G>(
+/// A [`Copied`] is steady.
+pub fn copied_is_steady<'a, T: Copy + 'a, S: SteadyStream<Item = &'a T>>(
+    x: &Copied<S>,
+    y: &Copied<S>,
+)
+    ensures alike { S.alike x.now.stream y.now.stream → ⟦<Copied<S> as SteadyStream>⟧.alike x.now y.now }
+    ensures registers { TellsAll (S.registers x.now.stream) (⟦<Copied<S> as Stream>⟧.registers x.now) }
+    ensures needs_none { S.needs_none → ⟦<Copied<S> as SteadyStream>⟧.needs_none }
+{}
+
+/// A [`Copied`] is calm over a calm stream.
+pub fn copied_is_calm<'a, T: Copy + 'a, S: CalmStream<Item = &'a T>>(x: &Copied<S>)
+    ensures { S.is_calm x.now.stream → ⟦<Copied<S> as CalmStream>⟧.is_calm x.now }
+{}
+
+/// A [`Enumerate`] is steady.
+pub fn enumerate_is_steady<S: SteadyStream>(x: &Enumerate<S>, y: &Enumerate<S>)
+    ensures alike { S.alike x.now.stream y.now.stream → y.now.i ≡ x.now.i → ⟦<Enumerate<S> as SteadyStream>⟧.alike x.now y.now }
+    ensures registers { TellsAll (S.registers x.now.stream) (⟦<Enumerate<S> as Stream>⟧.registers x.now) }
+    ensures needs_none { S.needs_none → ⟦<Enumerate<S> as SteadyStream>⟧.needs_none }
+{}
+
+/// A [`Enumerate`] is calm over a calm stream.
+pub fn enumerate_is_calm<S: CalmStream>(x: &Enumerate<S>)
+    ensures { S.is_calm x.now.stream → ⟦<Enumerate<S> as CalmStream>⟧.is_calm x.now }
+{}
+
+/// A [`Fuse`] is steady.
+pub fn fuse_is_steady<S: SteadyStream>(x: &Fuse<S>, y: &Fuse<S>)
+    ensures alike { S.alike x.now.stream y.now.stream → y.now.done ≡ x.now.done → ⟦<Fuse<S> as SteadyStream>⟧.alike x.now y.now }
+    ensures registers { TellsAll (S.registers x.now.stream) (⟦<Fuse<S> as Stream>⟧.registers x.now) }
+    ensures needs_none { S.needs_none → ⟦<Fuse<S> as SteadyStream>⟧.needs_none }
+{}
+
+/// A [`Fuse`] is calm over a calm stream.
+pub fn fuse_is_calm<S: CalmStream>(x: &Fuse<S>)
+    ensures { S.is_calm x.now.stream → ⟦<Fuse<S> as CalmStream>⟧.is_calm x.now }
+{}
+
+/// A [`Inspect`] is steady.
+pub fn inspect_is_steady<S: SteadyStream, F: FnMut(&S::Item)>(x: &Inspect<S, F>, y: &Inspect<S, F>)
+    ensures alike { S.alike x.now.stream y.now.stream → ⟦<Inspect<S, F> as SteadyStream>⟧.alike x.now y.now }
+    ensures registers { TellsAll (S.registers x.now.stream) (⟦<Inspect<S, F> as Stream>⟧.registers x.now) }
+    ensures needs_none { S.needs_none → ⟦<Inspect<S, F> as SteadyStream>⟧.needs_none }
+{}
+
+/// A [`Inspect`] is calm over a calm stream.
+pub fn inspect_is_calm<S: CalmStream, F: FnMut(&S::Item)>(x: &Inspect<S, F>)
+    ensures { S.is_calm x.now.stream → ⟦<Inspect<S, F> as CalmStream>⟧.is_calm x.now }
+{}
+
+/// Two of [`Map`] are alike, if their closures agree.
+pub fn map_is_alike<U, S: SteadyStream, F: FnMut(S::Item) -> U>(x: &S, y: &S, f: &F)
+    requires maps { AgreeOver S.same (Calls F.FnMut) f.now f.now }
+    ensures { S.alike x.now y.now → ⟦<Map<S, F> as SteadyStream>⟧.alike (record { stream = x.now; f = f.now })
+        (record { stream = y.now; f = f.now }) }
+{}
+
+/// A [`Map`] is steady.
+pub fn map_is_steady<U, S: SteadyStream, F: FnMut(S::Item) -> U>(x: &Map<S, F>)
+    ensures registers { TellsAll (S.registers x.now.stream) (⟦<Map<S, F> as Stream>⟧.registers x.now) }
+    ensures needs_none { S.needs_none → ⟦<Map<S, F> as SteadyStream>⟧.needs_none }
+{}
+
+/// A [`Map`] is calm over a calm stream.
+pub fn map_is_calm<U, S: CalmStream, F: FnMut(S::Item) -> U>(x: &Map<S, F>)
+    ensures { S.is_calm x.now.stream → ⟦<Map<S, F> as CalmStream>⟧.is_calm x.now }
+{}
+
+/// Two of [`MapWhile`] are alike, if their closures agree.
+pub fn map_while_is_alike<U, S: SteadyStream, F: FnMut(S::Item) -> Option<U>>(x: &S, y: &S, f: &F)
+    requires chooses { AgreeKeeping S.same (Calls F.FnMut) f.now f.now }
+    ensures { S.alike x.now y.now → ⟦<MapWhile<S, F> as SteadyStream>⟧.alike (record { stream = x.now; f = f.now })
+        (record { stream = y.now; f = f.now }) }
+{}
+
+/// A [`MapWhile`] is steady.
+pub fn map_while_is_steady<U, S: SteadyStream, F: FnMut(S::Item) -> Option<U>>(x: &MapWhile<S, F>)
+    ensures registers { TellsAll (S.registers x.now.stream) (⟦<MapWhile<S, F> as Stream>⟧.registers x.now) }
+    ensures needs_none { S.needs_none → ⟦<MapWhile<S, F> as SteadyStream>⟧.needs_none }
+{}
+
+/// A [`MapWhile`] is calm over a calm stream.
+pub fn map_while_is_calm<U, S: CalmStream, F: FnMut(S::Item) -> Option<U>>(x: &MapWhile<S, F>)
+    ensures { S.is_calm x.now.stream → ⟦<MapWhile<S, F> as CalmStream>⟧.is_calm x.now }
+{}
+
+/// Two of [`Scan`] are alike, if their closures agree.
+pub fn scan_is_alike<T, U, S: SteadyStream, F: FnMut(&mut T, S::Item) -> Option<U>>(
     x: &S,
     y: &S,
-    n: usize,
-    v: &V,
+    state: &T,
     f: &F,
-    o: &O,
-    p: &P,
-    i: &I,
-    g: &G,
 )
-where
-    S: SteadyStream + Counted<Item: Drop>,
-    F: FnMut(S::Item) -> U,
-    O: FnMut(S::Item) -> Option<U>,
-    P: FnMut(&S::Item) -> bool + Drop,
-    I: FnMut(&S::Item),
-    G: FnMut(&mut V, S::Item) -> Option<U>,
-    requires alike { S.alike x.now y.now }
-    requires maps { AgreeOver S.same (Calls F.FnMut) f.now f.now }
-    requires chooses { AgreeKeeping S.same (Calls O.FnMut) o.now o.now }
-    requires tests { AgreeFrom (SameItem S.same) (λ b c. b ≡ c) (CalledAt P.FnMut) p.now p.now }
-    requires scans { AgreeKeeping S.same (CallsWith G.FnMut) (g.now, v.now) (g.now, v.now) }
-    ensures enumerate { ⟦<Enumerate<S> as SteadyStream>⟧.alike (record { stream = x.now; i = 0 }) (record { stream = y.now; i = 0 }) }
-    ensures fuse { ⟦<Fuse<S> as SteadyStream>⟧.alike (record { stream = x.now; done = false })
-        (record { stream = y.now; done = false }) }
-    ensures inspect { ⟦<Inspect<S, I> as SteadyStream>⟧.alike (record { stream = x.now; f = i.now })
-        (record { stream = y.now; f = i.now }) }
-    ensures map { ⟦<Map<S, F> as SteadyStream>⟧.alike (record { stream = x.now; f = f.now })
-        (record { stream = y.now; f = f.now }) }
-    ensures map_while { ⟦<MapWhile<S, O> as SteadyStream>⟧.alike (record { stream = x.now; f = o.now })
-        (record { stream = y.now; f = o.now }) }
-    ensures scan { ⟦<Scan<S, V, G> as SteadyStream>⟧.alike
-        (record { stream = x.now; state = v.now; f = g.now }) (record { stream = y.now; state = v.now; f = g.now }) }
-    ensures take { ⟦<Take<S> as SteadyStream>⟧.alike (record { stream = x.now; n = n }) (record { stream = y.now; n = n }) }
-    ensures take_while { ⟦<TakeWhile<S, P> as SteadyStream>⟧.alike
-        (record { stream = x.now; predicate = p.now }) (record { stream = y.now; predicate = p.now }) }
-    ensures filter { ⟦<Filter<S, P> as SteadyStream>⟧.alike (record { stream = x.now; predicate = p.now })
-        (record { stream = y.now; predicate = p.now }) }
-    ensures filter_map { ⟦<FilterMap<S, O> as SteadyStream>⟧.alike (record { stream = x.now; f = o.now })
-        (record { stream = y.now; f = o.now }) }
-    ensures skip { ⟦<Skip<S> as SteadyStream>⟧.alike (record { stream = x.now; n = n }) (record { stream = y.now; n = n }) }
-    ensures skip_while { ⟦<SkipWhile<S, P> as SteadyStream>⟧.alike
-        (record { stream = x.now; predicate = Some p.now }) (record { stream = y.now; predicate = Some p.now }) }
-    ensures step_by { ⟦<StepBy<S> as SteadyStream>⟧.alike (record { stream = x.now; step = n; i = 0 })
-        (record { stream = y.now; step = n; i = 0 }) }
+    requires scans { AgreeKeeping S.same (CallsWith F.FnMut) (f.now, state.now) (f.now, state.now) }
+    ensures { S.alike x.now y.now → ⟦<Scan<S, T, F> as SteadyStream>⟧.alike (record { stream = x.now; state = state.now; f = f.now })
+        (record { stream = y.now; state = state.now; f = f.now }) }
 {}
 
-/// They are calm over a calm stream.
-pub fn adapters_are_calm<S, U, V, F, O, P, I, G>(
+/// A [`Scan`] is steady.
+pub fn scan_is_steady<T, U, S: SteadyStream, F: FnMut(&mut T, S::Item) -> Option<U>>(
+    x: &Scan<S, T, F>,
+)
+    ensures registers { TellsAll (S.registers x.now.stream) (⟦<Scan<S, T, F> as Stream>⟧.registers x.now) }
+    ensures needs_none { S.needs_none → ⟦<Scan<S, T, F> as SteadyStream>⟧.needs_none }
+{}
+
+/// A [`Scan`] is calm over a calm stream.
+pub fn scan_is_calm<T, U, S: CalmStream, F: FnMut(&mut T, S::Item) -> Option<U>>(x: &Scan<S, T, F>)
+    ensures { S.is_calm x.now.stream → ⟦<Scan<S, T, F> as CalmStream>⟧.is_calm x.now }
+{}
+
+/// A [`Take`] is steady.
+pub fn take_is_steady<S: SteadyStream>(x: &Take<S>, y: &Take<S>)
+    ensures alike { S.alike x.now.stream y.now.stream → y.now.n ≡ x.now.n → ⟦<Take<S> as SteadyStream>⟧.alike x.now y.now }
+    ensures registers { TellsAll (S.registers x.now.stream) (⟦<Take<S> as Stream>⟧.registers x.now) }
+    ensures needs_none { S.needs_none → ⟦<Take<S> as SteadyStream>⟧.needs_none }
+{}
+
+/// A [`Take`] is calm over a calm stream.
+pub fn take_is_calm<S: CalmStream>(x: &Take<S>)
+    ensures { S.is_calm x.now.stream → ⟦<Take<S> as CalmStream>⟧.is_calm x.now }
+{}
+
+/// Two of [`TakeWhile`] are alike, if their closures agree.
+pub fn take_while_is_alike<S: SteadyStream<Item: Drop>, P: FnMut(&S::Item) -> bool>(
     x: &S,
-    n: usize,
-    v: &V,
-    f: &F,
-    o: &O,
+    y: &S,
     p: &P,
-    i: &I,
-    g: &G,
 )
-where
-    S: CalmStream + Counted<Item: Drop>,
-    F: FnMut(S::Item) -> U,
-    O: FnMut(S::Item) -> Option<U>,
+    requires tests { AgreeFrom (SameItem S.same) (λ b c. b ≡ c) (CalledAt P.FnMut) p.now p.now }
+    ensures { S.alike x.now y.now → ⟦<TakeWhile<S, P> as SteadyStream>⟧.alike (record { stream = x.now; predicate = p.now })
+        (record { stream = y.now; predicate = p.now }) }
+{}
+
+/// A [`TakeWhile`] is steady.
+pub fn take_while_is_steady<S: SteadyStream<Item: Drop>, P: FnMut(&S::Item) -> bool>(
+    x: &TakeWhile<S, P>,
+)
+    ensures registers { TellsAll (S.registers x.now.stream) (⟦<TakeWhile<S, P> as Stream>⟧.registers x.now) }
+    ensures needs_none { S.needs_none → ⟦<TakeWhile<S, P> as SteadyStream>⟧.needs_none }
+{}
+
+/// A [`TakeWhile`] is calm over a calm stream.
+pub fn take_while_is_calm<S: CalmStream<Item: Drop>, P: FnMut(&S::Item) -> bool>(
+    x: &TakeWhile<S, P>,
+)
+    ensures { S.is_calm x.now.stream → ⟦<TakeWhile<S, P> as CalmStream>⟧.is_calm x.now }
+{}
+
+/// Two of [`Filter`] are alike, if their closures agree.
+pub fn filter_is_alike<S: Counted<Item: Drop> + SteadyStream, P: FnMut(&S::Item) -> bool>(
+    x: &S,
+    y: &S,
+    p: &P,
+)
+    requires tests { AgreeFrom (SameItem S.same) (λ b c. b ≡ c) (CalledAt P.FnMut) p.now p.now }
+    ensures { S.alike x.now y.now → ⟦<Filter<S, P> as SteadyStream>⟧.alike (record { stream = x.now; predicate = p.now })
+        (record { stream = y.now; predicate = p.now }) }
+{}
+
+/// A [`Filter`] is steady.
+pub fn filter_is_steady<S: Counted<Item: Drop> + SteadyStream, P: FnMut(&S::Item) -> bool>(
+    x: &Filter<S, P>,
+)
+    ensures registers { TellsAll (S.registers x.now.stream) (⟦<Filter<S, P> as Stream>⟧.registers x.now) }
+    ensures needs_none { S.needs_none → ⟦<Filter<S, P> as SteadyStream>⟧.needs_none }
+{}
+
+/// A [`Filter`] is calm over a calm stream.
+pub fn filter_is_calm<S: Counted<Item: Drop> + CalmStream, P: FnMut(&S::Item) -> bool>(
+    x: &Filter<S, P>,
+)
+    ensures { S.is_calm x.now.stream → ⟦<Filter<S, P> as CalmStream>⟧.is_calm x.now }
+{}
+
+/// Two of [`FilterMap`] are alike, if their closures agree.
+pub fn filter_map_is_alike<U, S: Counted + SteadyStream, F: FnMut(S::Item) -> Option<U>>(
+    x: &S,
+    y: &S,
+    f: &F,
+)
+    requires chooses { AgreeKeeping S.same (Calls F.FnMut) f.now f.now }
+    ensures { S.alike x.now y.now → ⟦<FilterMap<S, F> as SteadyStream>⟧.alike (record { stream = x.now; f = f.now })
+        (record { stream = y.now; f = f.now }) }
+{}
+
+/// A [`FilterMap`] is steady.
+pub fn filter_map_is_steady<U, S: Counted + SteadyStream, F: FnMut(S::Item) -> Option<U>>(
+    x: &FilterMap<S, F>,
+)
+    ensures registers { TellsAll (S.registers x.now.stream) (⟦<FilterMap<S, F> as Stream>⟧.registers x.now) }
+    ensures needs_none { S.needs_none → ⟦<FilterMap<S, F> as SteadyStream>⟧.needs_none }
+{}
+
+/// A [`FilterMap`] is calm over a calm stream.
+pub fn filter_map_is_calm<U, S: Counted + CalmStream, F: FnMut(S::Item) -> Option<U>>(
+    x: &FilterMap<S, F>,
+)
+    ensures { S.is_calm x.now.stream → ⟦<FilterMap<S, F> as CalmStream>⟧.is_calm x.now }
+{}
+
+/// A [`Skip`] is steady.
+pub fn skip_is_steady<S: SteadyStream<Item: Drop>>(x: &Skip<S>, y: &Skip<S>)
+    ensures alike { S.alike x.now.stream y.now.stream → y.now.n ≡ x.now.n → ⟦<Skip<S> as SteadyStream>⟧.alike x.now y.now }
+    ensures registers { TellsAll (S.registers x.now.stream) (⟦<Skip<S> as Stream>⟧.registers x.now) }
+    ensures needs_none { S.needs_none → ⟦<Skip<S> as SteadyStream>⟧.needs_none }
+{}
+
+/// A [`Skip`] is calm over a calm stream.
+pub fn skip_is_calm<S: CalmStream<Item: Drop>>(x: &Skip<S>)
+    ensures { S.is_calm x.now.stream → ⟦<Skip<S> as CalmStream>⟧.is_calm x.now }
+{}
+
+/// Two of [`SkipWhile`] are alike, if their closures agree.
+pub fn skip_while_is_alike<
+    S: Counted<Item: Drop> + SteadyStream,
     P: FnMut(&S::Item) -> bool + Drop,
-    I: FnMut(&S::Item),
-    G: FnMut(&mut V, S::Item) -> Option<U>,
-    requires { S.is_calm x.now }
-    ensures enumerate { ⟦<Enumerate<S> as CalmStream>⟧.is_calm (record { stream = x.now; i = 0 }) }
-    ensures fuse { ⟦<Fuse<S> as CalmStream>⟧.is_calm (record { stream = x.now; done = false }) }
-    ensures inspect { ⟦<Inspect<S, I> as CalmStream>⟧.is_calm (record { stream = x.now; f = i.now }) }
-    ensures map { ⟦<Map<S, F> as CalmStream>⟧.is_calm (record { stream = x.now; f = f.now }) }
-    ensures map_while { ⟦<MapWhile<S, O> as CalmStream>⟧.is_calm (record { stream = x.now; f = o.now }) }
-    ensures scan { ⟦<Scan<S, V, G> as CalmStream>⟧.is_calm (record { stream = x.now; state = v.now; f = g.now }) }
-    ensures take { ⟦<Take<S> as CalmStream>⟧.is_calm (record { stream = x.now; n = n }) }
-    ensures take_while { ⟦<TakeWhile<S, P> as CalmStream>⟧.is_calm (record { stream = x.now; predicate = p.now }) }
-    ensures filter { ⟦<Filter<S, P> as CalmStream>⟧.is_calm (record { stream = x.now; predicate = p.now }) }
-    ensures filter_map { ⟦<FilterMap<S, O> as CalmStream>⟧.is_calm (record { stream = x.now; f = o.now }) }
-    ensures skip { ⟦<Skip<S> as CalmStream>⟧.is_calm (record { stream = x.now; n = n }) }
-    ensures skip_while { ⟦<SkipWhile<S, P> as CalmStream>⟧.is_calm (record { stream = x.now; predicate = Some p.now }) }
-    ensures step_by { ⟦<StepBy<S> as CalmStream>⟧.is_calm (record { stream = x.now; step = n; i = 0 }) }
+>(x: &S, y: &S, p: &P)
+    requires tests { AgreeFrom (SameItem S.same) (λ b c. b ≡ c) (CalledAt P.FnMut) p.now p.now }
+    ensures { S.alike x.now y.now → ⟦<SkipWhile<S, P> as SteadyStream>⟧.alike (record { stream = x.now; predicate = Some p.now })
+        (record { stream = y.now; predicate = Some p.now }) }
 {}
 
-/// Copies of what alike streams refer to are alike; of a calm stream they are calm.
-pub fn copies_have_marks<'a, T: Copy + 'a, S: SteadyStream<Item = &'a T> + CalmStream>(x: &S, y: &S)
-    requires alike { S.alike x.now y.now }
-    requires is_calm { S.is_calm x.now }
-    ensures alike { ⟦<Copied<S> as SteadyStream>⟧.alike (record { stream = x.now }) (record { stream = y.now }) }
-    ensures is_calm { ⟦<Copied<S> as CalmStream>⟧.is_calm (record { stream = x.now }) }
-{}
-
-/// Adapters that answer once for each answer of their source.
-pub fn replacing_adapters<'a, T, S, R, U, I, M>(
-    copied: &Copied<R>,
-    enumerate: &Enumerate<S>,
-    inspect: &Inspect<S, I>,
-    map: &Map<S, M>,
-)
-where
-    T: Copy + 'a,
-    R: SteadyStream<Item = &'a T>,
-    S: SteadyStream,
-    I: FnMut(&S::Item),
-    M: FnMut(S::Item) -> U,
-    ensures copied { TellsAll (R.registers copied.now.stream) (⟦<Copied<R> as Stream>⟧.registers copied.now)
-        × (R.needs_none → ⟦<Copied<R> as SteadyStream>⟧.needs_none) }
-    ensures enumerate { TellsAll (S.registers enumerate.now.stream) (⟦<Enumerate<S> as Stream>⟧.registers enumerate.now)
-        × (S.needs_none → ⟦<Enumerate<S> as SteadyStream>⟧.needs_none) }
-    ensures inspect { TellsAll (S.registers inspect.now.stream) (⟦<Inspect<S, I> as Stream>⟧.registers inspect.now)
-        × (S.needs_none → ⟦<Inspect<S, I> as SteadyStream>⟧.needs_none) }
-    ensures map { TellsAll (S.registers map.now.stream) (⟦<Map<S, M> as Stream>⟧.registers map.now)
-        × (S.needs_none → ⟦<Map<S, M> as SteadyStream>⟧.needs_none) }
-{}
-
-/// Adapters that cut a stream off.
-pub fn cutting_adapters<S, U, W, St, C, P>(
-    fuse: &Fuse<S>,
-    map_while: &MapWhile<S, W>,
-    scan: &Scan<S, St, C>,
-    take: &Take<S>,
-    take_while: &TakeWhile<S, P>,
-)
-where
-    S: SteadyStream<Item: Drop>,
-    W: FnMut(S::Item) -> Option<U>,
-    C: FnMut(&mut St, S::Item) -> Option<U>,
-    P: FnMut(&S::Item) -> bool,
-    ensures fuse { TellsAll (S.registers fuse.now.stream) (⟦<Fuse<S> as Stream>⟧.registers fuse.now)
-        × (S.needs_none → ⟦<Fuse<S> as SteadyStream>⟧.needs_none) }
-    ensures map_while { TellsAll (S.registers map_while.now.stream) (⟦<MapWhile<S, W> as Stream>⟧.registers map_while.now)
-        × (S.needs_none → ⟦<MapWhile<S, W> as SteadyStream>⟧.needs_none) }
-    ensures scan { TellsAll (S.registers scan.now.stream) (⟦<Scan<S, St, C> as Stream>⟧.registers scan.now)
-        × (S.needs_none → ⟦<Scan<S, St, C> as SteadyStream>⟧.needs_none) }
-    ensures take { TellsAll (S.registers take.now.stream) (⟦<Take<S> as Stream>⟧.registers take.now)
-        × (S.needs_none → ⟦<Take<S> as SteadyStream>⟧.needs_none) }
-    ensures take_while { TellsAll (S.registers take_while.now.stream)
-        (⟦<TakeWhile<S, P> as Stream>⟧.registers take_while.now)
-        × (S.needs_none → ⟦<TakeWhile<S, P> as SteadyStream>⟧.needs_none) }
-{}
-
-/// Adapters that leave items out.
-pub fn skipping_adapters<S, U, P, F>(
-    filter: &Filter<S, P>,
-    filter_map: &FilterMap<S, F>,
-    skip: &Skip<S>,
-    skip_while: &SkipWhile<S, P>,
-    step_by: &StepBy<S>,
-)
-where
-    S: SteadyStream + Counted<Item: Drop>,
+/// A [`SkipWhile`] is steady.
+pub fn skip_while_is_steady<
+    S: Counted<Item: Drop> + SteadyStream,
     P: FnMut(&S::Item) -> bool + Drop,
-    F: FnMut(S::Item) -> Option<U>,
-    ensures filter { TellsAll (S.registers filter.now.stream) (⟦<Filter<S, P> as Stream>⟧.registers filter.now)
-        × (S.needs_none → ⟦<Filter<S, P> as SteadyStream>⟧.needs_none) }
-    ensures filter_map { TellsAll (S.registers filter_map.now.stream)
-        (⟦<FilterMap<S, F> as Stream>⟧.registers filter_map.now)
-        × (S.needs_none → ⟦<FilterMap<S, F> as SteadyStream>⟧.needs_none) }
-    ensures skip { TellsAll (S.registers skip.now.stream) (⟦<Skip<S> as Stream>⟧.registers skip.now)
-        × (S.needs_none → ⟦<Skip<S> as SteadyStream>⟧.needs_none) }
-    ensures skip_while { TellsAll (S.registers skip_while.now.stream)
-        (⟦<SkipWhile<S, P> as Stream>⟧.registers skip_while.now)
-        × (S.needs_none → ⟦<SkipWhile<S, P> as SteadyStream>⟧.needs_none) }
-    ensures step_by { TellsAll (S.registers step_by.now.stream) (⟦<StepBy<S> as Stream>⟧.registers step_by.now)
-        × (S.needs_none → ⟦<StepBy<S> as SteadyStream>⟧.needs_none) }
+>(x: &SkipWhile<S, P>)
+    ensures registers { TellsAll (S.registers x.now.stream) (⟦<SkipWhile<S, P> as Stream>⟧.registers x.now) }
+    ensures needs_none { S.needs_none → ⟦<SkipWhile<S, P> as SteadyStream>⟧.needs_none }
+{}
+
+/// A [`SkipWhile`] is calm over a calm stream.
+pub fn skip_while_is_calm<S: Counted<Item: Drop> + CalmStream, P: FnMut(&S::Item) -> bool + Drop>(
+    x: &SkipWhile<S, P>,
+)
+    ensures { S.is_calm x.now.stream → ⟦<SkipWhile<S, P> as CalmStream>⟧.is_calm x.now }
+{}
+
+/// A [`StepBy`] is steady.
+pub fn step_by_is_steady<S: SteadyStream<Item: Drop>>(x: &StepBy<S>, y: &StepBy<S>)
+    ensures alike { S.alike x.now.stream y.now.stream → y.now.step ≡ x.now.step → y.now.i ≡ x.now.i
+        → ⟦<StepBy<S> as SteadyStream>⟧.alike x.now y.now }
+    ensures registers { TellsAll (S.registers x.now.stream) (⟦<StepBy<S> as Stream>⟧.registers x.now) }
+    ensures needs_none { S.needs_none → ⟦<StepBy<S> as SteadyStream>⟧.needs_none }
+{}
+
+/// A [`StepBy`] is calm over a calm stream.
+pub fn step_by_is_calm<S: CalmStream<Item: Drop>>(x: &StepBy<S>)
+    ensures { S.is_calm x.now.stream → ⟦<StepBy<S> as CalmStream>⟧.is_calm x.now }
 {}
