@@ -338,9 +338,10 @@ def turned():
     every = {f"{module}::{it.title}" for module, of_module in functions().items() for it in of_module if it.path.startswith(f"crates/{FACADE}/")}
     there = every & {it.function for it in Bodies(FACADE).edits}
     yield from lacking(f"{BODIES}/{FACADE}.txt", every, there, NO_OTHER_BODY, "no wrong body is of")
-    turned_clauses = {f"{it.clause} of {it.function}" for it in Bodies(FACADE).edits}
-    asked = {f"{name} of stream::{it.title}" for it in calls_of_streams() if it.owner for name in TURNED_CLAUSES if any(said.startswith(f"ensures {name} ") for said in it.gives)}
-    yield from lacking(f"{BODIES}/{FACADE}.txt", asked, asked & turned_clauses, set(), "no wrong body is refused by")
+    clauses = {(it.title, said.split()[1]) for it in calls_of_streams() if it.owner for said in it.gives}
+    asked = {f"{name} of stream::{title}" for title, name in clauses if name in TURNED_CLAUSES}
+    refusing = {f"{it.clause} of {it.function}" for it in Bodies(FACADE).edits}
+    yield from lacking(f"{BODIES}/{FACADE}.txt", asked, asked & refusing, set(), "no wrong body is refused by")
     crates = crates_in(TOP)
     for crate in with_below(crates, [FACADE, *BESIDE]):
         turned_there = {file for edit in Bodies(crate).edits for file, _, _ in edit.changes()}

@@ -63,8 +63,9 @@ pub fn inspect_is_calm<S: CalmStream, F: FnMut(&S::Item)>(x: &Inspect<S, F>)
 
 /// Two of [`Map`] are alike, if their closures agree.
 pub fn map_is_alike<U, S: SteadyStream, F: FnMut(S::Item) -> U>(x: &S, y: &S, f: &F)
+    requires alike { S.alike x.now y.now }
     requires maps { AgreeOver S.same (Calls F.FnMut) f.now f.now }
-    ensures { S.alike x.now y.now → ⟦<Map<S, F> as SteadyStream>⟧.alike (record { stream = x.now; f = f.now })
+    ensures { ⟦<Map<S, F> as SteadyStream>⟧.alike (record { stream = x.now; f = f.now })
         (record { stream = y.now; f = f.now }) }
 {}
 
@@ -81,8 +82,9 @@ pub fn map_is_calm<U, S: CalmStream, F: FnMut(S::Item) -> U>(x: &Map<S, F>)
 
 /// Two of [`MapWhile`] are alike, if their closures agree.
 pub fn map_while_is_alike<U, S: SteadyStream, F: FnMut(S::Item) -> Option<U>>(x: &S, y: &S, f: &F)
+    requires alike { S.alike x.now y.now }
     requires chooses { AgreeKeeping S.same (Calls F.FnMut) f.now f.now }
-    ensures { S.alike x.now y.now → ⟦<MapWhile<S, F> as SteadyStream>⟧.alike (record { stream = x.now; f = f.now })
+    ensures { ⟦<MapWhile<S, F> as SteadyStream>⟧.alike (record { stream = x.now; f = f.now })
         (record { stream = y.now; f = f.now }) }
 {}
 
@@ -104,8 +106,9 @@ pub fn scan_is_alike<T, U, S: SteadyStream, F: FnMut(&mut T, S::Item) -> Option<
     state: &T,
     f: &F,
 )
+    requires alike { S.alike x.now y.now }
     requires scans { AgreeKeeping S.same (CallsWith F.FnMut) (f.now, state.now) (f.now, state.now) }
-    ensures { S.alike x.now y.now → ⟦<Scan<S, T, F> as SteadyStream>⟧.alike (record { stream = x.now; state = state.now; f = f.now })
+    ensures { ⟦<Scan<S, T, F> as SteadyStream>⟧.alike (record { stream = x.now; state = state.now; f = f.now })
         (record { stream = y.now; state = state.now; f = f.now }) }
 {}
 
@@ -140,8 +143,9 @@ pub fn take_while_is_alike<S: SteadyStream<Item: Drop>, P: FnMut(&S::Item) -> bo
     y: &S,
     p: &P,
 )
+    requires alike { S.alike x.now y.now }
     requires tests { AgreeFrom (SameItem S.same) (λ b c. b ≡ c) (CalledAt P.FnMut) p.now p.now }
-    ensures { S.alike x.now y.now → ⟦<TakeWhile<S, P> as SteadyStream>⟧.alike (record { stream = x.now; predicate = p.now })
+    ensures { ⟦<TakeWhile<S, P> as SteadyStream>⟧.alike (record { stream = x.now; predicate = p.now })
         (record { stream = y.now; predicate = p.now }) }
 {}
 
@@ -166,8 +170,9 @@ pub fn filter_is_alike<S: Counted<Item: Drop> + SteadyStream, P: FnMut(&S::Item)
     y: &S,
     p: &P,
 )
+    requires alike { S.alike x.now y.now }
     requires tests { AgreeFrom (SameItem S.same) (λ b c. b ≡ c) (CalledAt P.FnMut) p.now p.now }
-    ensures { S.alike x.now y.now → ⟦<Filter<S, P> as SteadyStream>⟧.alike (record { stream = x.now; predicate = p.now })
+    ensures { ⟦<Filter<S, P> as SteadyStream>⟧.alike (record { stream = x.now; predicate = p.now })
         (record { stream = y.now; predicate = p.now }) }
 {}
 
@@ -192,8 +197,9 @@ pub fn filter_map_is_alike<U, S: Counted + SteadyStream, F: FnMut(S::Item) -> Op
     y: &S,
     f: &F,
 )
+    requires alike { S.alike x.now y.now }
     requires chooses { AgreeKeeping S.same (Calls F.FnMut) f.now f.now }
-    ensures { S.alike x.now y.now → ⟦<FilterMap<S, F> as SteadyStream>⟧.alike (record { stream = x.now; f = f.now })
+    ensures { ⟦<FilterMap<S, F> as SteadyStream>⟧.alike (record { stream = x.now; f = f.now })
         (record { stream = y.now; f = f.now }) }
 {}
 
@@ -229,8 +235,9 @@ pub fn skip_while_is_alike<
     S: Counted<Item: Drop> + SteadyStream,
     P: FnMut(&S::Item) -> bool + Drop,
 >(x: &S, y: &S, p: &P)
+    requires alike { S.alike x.now y.now }
     requires tests { AgreeFrom (SameItem S.same) (λ b c. b ≡ c) (CalledAt P.FnMut) p.now p.now }
-    ensures { S.alike x.now y.now → ⟦<SkipWhile<S, P> as SteadyStream>⟧.alike (record { stream = x.now; predicate = Some p.now })
+    ensures { ⟦<SkipWhile<S, P> as SteadyStream>⟧.alike (record { stream = x.now; predicate = Some p.now })
         (record { stream = y.now; predicate = Some p.now }) }
 {}
 
