@@ -26,6 +26,12 @@ def lists():
     return {"lists": "\n".join(["", "", "| Adapter | The list that it yields |", "|---|---|", *rows, "", ""])}
 
 
+def bounded():
+    """Returns the adapters whose list is no longer than that of their source, by the name of the markers in the page."""
+    names = (it.name for it in Sources().items_of("stream").values() if it.owner and any("≤ length xs" in said for said in it.gives))
+    return {"bounded": ", ".join(f"`{it}`" for it in sorted(names))}
+
+
 def relations():
     """Returns the adapters of each relation that several share."""
     found = {it: [] for it in RELATIONS}

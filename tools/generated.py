@@ -66,7 +66,7 @@ def files():
         yield f"crates/{file}", text
     yield CRATES, with_waits(read_text(f"{TOP}/{CRATES}"), proofs)
     yield adapters.FAMILIES, adapters.with_families(read_text(f"{TOP}/{adapters.FAMILIES}"), adapters.relations())
-    for page, parts in ((adapters.NESTS, adapters.lists()), (adapters.GUIDE, adapters.families())):
+    for page, parts in ((adapters.NESTS, adapters.lists() | adapters.bounded()), (adapters.GUIDE, adapters.families())):
         yield page, markers.filled(read_text(f"{TOP}/{page}"), parts)
     # (the answer of tools/find quotes pages)
     parts_of = {

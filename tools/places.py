@@ -382,13 +382,6 @@ def measured():
     yield from lacking(f"{THROUGHPUT}/measured.txt", rows_of, rows_of & cases_measured(), set(), "there is no case of the row")
 
 
-def bounds():
-    """Each call whose list is no longer than that of its source is named in the row of `count`, which asks for such a bound."""
-    row = next(it for it in read_text(f"{TOP}/{NESTS}").splitlines() if it.startswith("| `count` |"))
-    bounded = {it.name for it in calls_of_streams() if any("≤ length xs" in clause for clause in it.gives)}
-    yield from lacking(NESTS, bounded, bounded & set(re.findall(r"\w+", row)), set(), "the row of `count` does not name")
-
-
 def counting_as_their_sources():
     """Returns the adapters whose rank is that of their source."""
     made_in = [(f"{TOP}/crates/{crate}/src/{file}", made) for crate, made, _, trait, file, *_ in vocabulary.calls() if trait == "Stream"]

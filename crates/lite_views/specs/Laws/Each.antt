@@ -55,7 +55,7 @@ module _ {F A B : Type 0} (call : Question F A (Option B)) (P : A → Type 0) (Q
   each_exchanged f g (_ ∷ i) (b ∷ o) e h = rw h.0 (each_exchanged f g i o e h.1)
   each_exchanged f g _ [] e h = tt
 
-  -- `filter`, `filter_map`, `skip` and `skip_while`.
+  -- Of adapters that leave items out.
   pub each_left : (f g : F) (i : List (Answer A)) (o : List (Answer B)) → EachItem P i → LeavesOut call f i o g
       → EachItem Q o
   each_left f g i o e h =
