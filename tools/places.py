@@ -163,12 +163,13 @@ def words_of_list(said):
 
 
 def lists_explained():
-    """Each word in the list of an adapter is explained in NESTS: it is in the table of modules, an argument of the method, or what its closure computes."""
+    """Each word in the list of an adapter is explained in NESTS: it is in the table of modules, an argument of the method, what its closure computes, or named
+    above the tables of lists, as the method may be."""
     text = read_text(f"{TOP}/{NESTS}")
     first, above = text.partition("\n## ")[0], text.partition(PARTS_OF[NESTS][0])[2].partition("\n|")[0]
     modules, named = (set(re.findall(r"\w+", " ".join(re.findall(r"`([^`]*)`", it)))) for it in (first, above))
     for it in (it for it in calls_of_streams() if it.owner and it.name not in named):
-        known = IN_ALL_LISTS | modules | set(re.findall(r"(\w+):", it.head)) | (OF_CLOSURES if "FnMut" in it.head else set())
+        known = IN_ALL_LISTS | modules | (named - OF_CLOSURES) | set(re.findall(r"(\w+):", it.head)) | (OF_CLOSURES if "FnMut" in it.head else set())
         lists = filter(None, (list_told(clause) for clause in it.gives if clause.startswith("ensures lists ")))
         yield from ((NESTS, f"nothing explains `{word}` in the list of `{it.name}`") for said in lists for word in sorted(words_of_list(said) - known))
 
