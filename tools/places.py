@@ -377,6 +377,8 @@ def measured():
     of_both = cases - (names - originals.names())
     yield from lacking(f"{THROUGHPUT}/original", of_both, of_both & words_known(f"{THROUGHPUT}/original/src/*.rs"), set(), "there is no case")
     text = "".join(read_text(it) for it in glob.glob(f"{TOP}/{THROUGHPUT}/src/*.rs"))
+    numbered = set(re.findall(r'^    \("(\w+)", [\d_]+, ', text, re.M))
+    yield from lacking(f"{THROUGHPUT}/src", numbered, numbered & cases, set(), "the check has a number, but no arm is there of")
     checked = {it for it in cases_measured() if text.count(f'"{it}"') > 1}
     yield from lacking(f"{THROUGHPUT}/src", cases_measured(), checked, set(), "the check has no number of the case")
     yield from lacking(f"{THROUGHPUT}/measured.txt", cases_measured(), cases_measured() & rows_of, set(), "there is no row of")

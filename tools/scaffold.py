@@ -35,8 +35,9 @@ def beginning(form, longer):
 
 
 def as_word(was, to):
-    """Returns the pair of a pattern that finds this text, but not as a part of a word, and of what is put in its place."""
-    return re.compile(r"(?:(?<!\w)|(?!\w))" + re.escape(was) + r"(?:(?!\w)|(?<!\w))"), to.replace("\\", r"\\")
+    """Returns the pair of a pattern that finds this text, but not as a part of a word or of a range, and of what is put in its place."""
+    before = r"(?<!\.)" if was.startswith(".") else r"(?:(?<!\w)|(?!\w))"
+    return re.compile(before + re.escape(was) + r"(?:(?!\w)|(?<!\w))"), to.replace("\\", r"\\")
 
 
 class Names:
