@@ -20,6 +20,8 @@ KINDS = {"": ("file",), "file": ("old",), "old": ("new",), "new": ("old", "file"
 # What stands in a clause, and in no body.
 GHOST = re.compile(r"\b(ensures|requires|ghost)\b|[≡λ∷×→⊤⟦]")
 IMPORT = re.compile(r"\s*(pub(\([^)]*\))? )?(ghost )?use\b")
+# An import of words: a crate, its part, a module there, and the words.
+WORDS = re.compile(r"\buse Rattle\.(\w+)\.(specs|proofs)\.(?!declared\b)([\w.]+?)\.\{([^}]*)\}")
 
 
 class Unfit(Exception):
@@ -67,6 +69,14 @@ class Edit:
                 old = rest.removeprefix(" ")
             elif kind == "new":
                 yield file, old, rest.removeprefix(" ")
+
+    def unknown_words(self):
+        """Yields each word that it imports from a module of a crate that does not have it. Without the word it would be refused, whatever it says."""
+        for crate, part, module, names in (it for _, _, new in self.changes() for it in WORDS.findall(new)):
+            path = f"{TOP}/crates/{crate}/{part}/{module.replace('.', '/')}.antt"
+            there = set(re.findall(r"[^\s(){},:;]+", read_text(path))) if os.path.isfile(path) else set()
+            if crate in crates_in(TOP):
+                yield from (f"{crate}/{part}/{module}.{name.strip()}" for name in names.split(",") if name.strip() not in there)
 
     def fault_in_head(self):
         """Returns what is wrong in the heading: it has another form, or it names no clause that is declared. None if nothing is."""

@@ -241,13 +241,21 @@ def words_importable(streams):
                 yield f"crates/{FACADE}/specs", f"no module passes on `{place[2]}` of {words[place].path}, which a contract in {path} names"
 
 
+def premises_of_no_value(said):
+    """Returns the premises of a clause on two values that are alike that name none of them."""
+    clauses = (" ".join(it.split()).removeprefix("{ ").split(" → ") for it in re.findall(r"^    ensures \w* ?(\{.*(?:\n     .*)*)", said, re.M))
+    return [premise for *premises, last in clauses if "⟧.alike" in last for premise in premises if ".now" not in premise]
+
+
 def conditions():
-    """What a contract of properties of streams asks, besides a property of a part, is met by closures that catch nothing and by values that are there."""
+    """What a contract of properties of streams asks, besides a property of a part, is met by closures that catch nothing and by values that are there. It
+    asks it by `requires`: a clause on two values that are alike has premises of these values alone."""
     there = names_called_in([f"{MARKS_MET}/src"])
     for file in (f"{TOP}/{MARKS_MET}/src/{it}.rt" for it in OF_STREAMS):
         for name, said in re.findall(r"^pub fn (\w+)(.*?)^\{", read_text(file), re.M | re.S):
             if name not in there and not all(OF_A_PART.search(it) for it in ASKED.findall(said)):
                 yield f"{MARKS_MET}/src/{CONDITIONS}", f"nothing calls `{name}`, which asks something of a closure or a value"
+            yield from ((f"{MARKS_MET}/src", f"`{name}` has to ask `{it}` by `requires`") for it in premises_of_no_value(said))
 
 
 def git(*words):

@@ -6,7 +6,6 @@ use Rattle.lite_views.specs.Futures.{NthRuns}
 use Rattle.lite_views.proofs.Views.{lent_lists, listed}
 use Rattle.lite_views.specs.Views.{Lists, ValueIs, Fits, RestIs}
 use Rattle.lite_views.proofs.Consume.{MakesOnly, only_made, LeavesOf, leaves, settles}
-use Rattle.std.proofs.Common.{◌+◌}
 use Rattle.lite_views.proofs.Futures.{when_left}
 use Rattle.lite_views.specs.Answering.{WhenLeft}
 
