@@ -76,7 +76,7 @@ class Edit:
             path = f"{TOP}/crates/{crate}/{part}/{module.replace('.', '/')}.antt"
             there = set(re.findall(r"[^\s(){},:;]+", read_text(path))) if os.path.isfile(path) else set()
             if crate in crates_in(TOP):
-                yield from (f"{crate}/{part}/{module}.{name.strip()}" for name in names.split(",") if name.strip() not in there)
+                yield from (f"{crate}/{part}/{module}.{name.strip()}" for name in names.split(",") if name.split()[0] not in there)
 
     def fault_in_head(self):
         """Returns what is wrong in the heading: it has another form, or it names no clause that is declared. None if nothing is."""

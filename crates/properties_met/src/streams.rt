@@ -1,7 +1,7 @@
 //! Adapters of streams. Two of a type are alike if their streams are, if their closures agree, and if all else that they hold is equal. One is calm if
 //! its stream is, and asks for no memory if its stream asks for none. What the context holds at a `Pending` of the stream it holds at one of the adapter.
 ghost use Rattle.std.specs.Fn.{CalledAt};
-ghost use Rattle.std.specs.Prelude.{◌≡◌, Some, false};
+ghost use Rattle.std.specs.Prelude.{◌≡◌, Some};
 ghost use Rattle.lite_base.specs.Alike.{SameItem};
 ghost use Rattle.lite_base.specs.Calling.{AgreeFrom, AgreeKeeping, AgreeOver, Calls, CallsWith};
 ghost use Rattle.properties_met.specs.Registering.{TellsAll};
@@ -25,14 +25,14 @@ pub fn copied_is_calm<'a, T: Copy + 'a, S: CalmStream<Item = &'a T>>(x: &Copied<
     ensures { S.is_calm x.now.stream → ⟦<Copied<S> as CalmStream>⟧.is_calm x.now }
 {}
 
-/// A [`Enumerate`] is steady.
+/// An [`Enumerate`] is steady.
 pub fn enumerate_is_steady<S: SteadyStream>(x: &Enumerate<S>, y: &Enumerate<S>)
     ensures alike { S.alike x.now.stream y.now.stream → y.now.i ≡ x.now.i → ⟦<Enumerate<S> as SteadyStream>⟧.alike x.now y.now }
     ensures registers { TellsAll (S.registers x.now.stream) (⟦<Enumerate<S> as Stream>⟧.registers x.now) }
     ensures needs_none { S.needs_none → ⟦<Enumerate<S> as SteadyStream>⟧.needs_none }
 {}
 
-/// A [`Enumerate`] is calm over a calm stream.
+/// An [`Enumerate`] is calm over a calm stream.
 pub fn enumerate_is_calm<S: CalmStream>(x: &Enumerate<S>)
     ensures { S.is_calm x.now.stream → ⟦<Enumerate<S> as CalmStream>⟧.is_calm x.now }
 {}
@@ -49,14 +49,14 @@ pub fn fuse_is_calm<S: CalmStream>(x: &Fuse<S>)
     ensures { S.is_calm x.now.stream → ⟦<Fuse<S> as CalmStream>⟧.is_calm x.now }
 {}
 
-/// A [`Inspect`] is steady.
+/// An [`Inspect`] is steady.
 pub fn inspect_is_steady<S: SteadyStream, F: FnMut(&S::Item)>(x: &Inspect<S, F>, y: &Inspect<S, F>)
     ensures alike { S.alike x.now.stream y.now.stream → ⟦<Inspect<S, F> as SteadyStream>⟧.alike x.now y.now }
     ensures registers { TellsAll (S.registers x.now.stream) (⟦<Inspect<S, F> as Stream>⟧.registers x.now) }
     ensures needs_none { S.needs_none → ⟦<Inspect<S, F> as SteadyStream>⟧.needs_none }
 {}
 
-/// A [`Inspect`] is calm over a calm stream.
+/// An [`Inspect`] is calm over a calm stream.
 pub fn inspect_is_calm<S: CalmStream, F: FnMut(&S::Item)>(x: &Inspect<S, F>)
     ensures { S.is_calm x.now.stream → ⟦<Inspect<S, F> as CalmStream>⟧.is_calm x.now }
 {}
