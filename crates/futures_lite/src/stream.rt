@@ -17,6 +17,7 @@ ghost use Rattle.lite_reshape.specs.Filter.{Filters};
 ghost use Rattle.lite_reshape.specs.FlatMap.{FlatMaps};
 ghost use Rattle.lite_reshape.specs.Flatten.{Flattens};
 ghost use Rattle.lite_reshape.specs.Skip.{SkipsFirst};
+ghost use Rattle.lite_reshape.specs.Dedup.{DedupsAll};
 ghost use Rattle.lite_reshape.specs.SkipWhile.{SkipsWhile};
 ghost use Rattle.lite_reshape.specs.StepBy.{StepsBy};
 ghost use Rattle.lite_reshape.specs.Then.{Thens};
@@ -52,7 +53,7 @@ pub use lite_gather::{
 pub use lite_merge::make::stop_after_future;
 pub use lite_merge::{Budgeted, Cycle, Drain, Or, Race, StopAfterFuture, Zip};
 pub use lite_reshape::{
-    Chain, Cloned, Filter, FilterMap, FlatMap, Flatten, Skip, SkipWhile, StepBy, Then,
+    Chain, Cloned, Dedup, Filter, FilterMap, FlatMap, Flatten, Skip, SkipWhile, StepBy, Then,
 };
 pub use lite_source::make::iter;
 pub use lite_source::{
@@ -1038,6 +1039,37 @@ pub trait StreamExt: Stream {
         ensures lists { OfItems Self.run self (λ xs. ListsAs (SkipsFirst Self.run) result (drop n xs)) }
     {
         lite_reshape::make::skip(self, n)
+    }
+
+    /// Returns a stream that leaves out each item that equals the one before it.
+    ///
+    /// One poll may dedup up to `n` items. `Pending` and ends pass through. Deduped items are dropped, so the
+    /// items must be `Drop`. Size hint: `(0, None)`.
+    ///
+    /// # Examples
+    ///
+    /// ```
+    /// use futures_lite::{StreamExt, future, stream};
+    ///
+    /// fn rest<R>(rt: &R) -> Result<Vec<u8>, AllocError>
+    /// where
+    ///     R: Wait + RandomSource + AllocGlobal,
+    ///     ensures { IfOk result (λ v. v.items ≡ 2 ∷ 3 ∷ []) }
+    /// {
+    ///     let rest = stream::iter_array([1, 2, 3]).dedup();
+    ///     future::block_on(rt, rest.collect::<Vec<u8>>(rt.alloc()))?.map_err(|_| AllocError)
+    /// }
+    ///
+    /// assert_eq!(rt; rest(&rt)?.as_slice(), [2, 3].as_slice());
+    /// ```
+    #[tactic(auto, using(lite_views::proofs::Views::seen, lite_views::proofs::Dedup::deduped_lists))]
+    final fn dedup(self) -> Dedup<Self>
+    where
+        Self: Sized,
+        ensures parts { result ≡ record { stream = self; last = None } }
+        ensures lists { OfItems Self.run self (λ xs. ListsAs (DedupsAll Self.run Self.Item.eq) result (drop n xs)) }
+    {
+        lite_reshape::make::dedup(self)
     }
 
     /// Returns a stream that skips items while `predicate` returns true, and yields the first other item and

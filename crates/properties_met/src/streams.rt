@@ -7,7 +7,7 @@ ghost use Rattle.lite_base.specs.Calling.{AgreeFrom, AgreeKeeping, AgreeOver, Ca
 ghost use Rattle.properties_met.specs.Registering.{TellsAll};
 
 use lite_base::{CalmStream, Counted, SteadyStream, Stream};
-use lite_reshape::{Filter, FilterMap, Skip, SkipWhile, StepBy};
+use lite_reshape::{Dedup, Filter, FilterMap, Skip, SkipWhile, StepBy};
 use lite_stream::{Copied, Enumerate, Fuse, Inspect, Map, MapWhile, Scan, Take, TakeWhile};
 
 /// A [`Copied`] is steady.
@@ -225,9 +225,24 @@ pub fn skip_is_steady<S: SteadyStream<Item: Drop>>(x: &Skip<S>, y: &Skip<S>)
     ensures needs_none { S.needs_none → ⟦<Skip<S> as SteadyStream>⟧.needs_none }
 {}
 
+/// A [`Dedup`] is steady.
+pub fn dedup_is_steady<S: Counted<Item: Copy + Drop + PartialEq> + SteadyStream>(
+    x: &Dedup<S>,
+    y: &Dedup<S>,
+)
+    ensures alike { S.alike x.now.stream y.now.stream → y.now.last ≡ x.now.last → ⟦<Dedup<S> as SteadyStream>⟧.alike x.now y.now }
+    ensures registers { TellsAll (S.registers x.now.stream) (⟦<Dedup<S> as Stream>⟧.registers x.now) }
+    ensures needs_none { S.needs_none → ⟦<Dedup<S> as SteadyStream>⟧.needs_none }
+{}
+
 /// A [`Skip`] is calm over a calm stream.
 pub fn skip_is_calm<S: CalmStream<Item: Drop>>(x: &Skip<S>)
     ensures { S.is_calm x.now.stream → ⟦<Skip<S> as CalmStream>⟧.is_calm x.now }
+{}
+
+/// A [`Dedup`] is calm over a calm stream.
+pub fn dedup_is_calm<S: Counted<Item: Copy + Drop + PartialEq> + CalmStream>(x: &Dedup<S>)
+    ensures { S.is_calm x.now.stream → ⟦<Dedup<S> as CalmStream>⟧.is_calm x.now }
 {}
 
 /// Two of [`SkipWhile`] are alike, if their closures agree.

@@ -269,6 +269,7 @@ fn items_that_are_left_out_are_dropped(rt: HostRuntime) -> Result<(), Fail> {
             stream::iter(two()?).take_while(|_x: &Guard<'_>| false),
         )?,
         dropped(&rt, &drops, stream::iter(two()?).skip(2))?,
+        dropped(&rt, &drops, stream::iter(two()?).dedup())?,
         dropped(&rt, &drops, stream::iter(two()?).step_by(2))?,
     ];
     assert_eq!(rt; counts, [2, 2, 2, 2, 1]);
@@ -290,6 +291,7 @@ fn adapters_are_steady_and_calm(_rt: HostRuntime) -> Result<(), Fail> {
     ranked(&stream::once(1u8).filter(|x: &u8| *x == 1));
     ranked(&stream::once(1u8).filter_map(|x: u8| Some(x)));
     ranked(&stream::once(1u8).skip(1));
+    ranked(&stream::once(1u8).dedup());
     ranked(&stream::once(1u8).skip_while(|x: &u8| *x == 1));
     ranked(&stream::once(1u8).step_by(2));
     Ok(())
