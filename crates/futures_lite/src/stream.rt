@@ -33,7 +33,7 @@ ghost use Rattle.lite_views.specs.Unfold.{UnfoldsInto};
 ghost use Rattle.lite_views.specs.Views.{ListsIf, OfItems, RestIs, GoesOn, Lists};
 ghost use Rattle.std.specs.Iterator.{ActsAs, ActsAsAt, ActsAsOnTwo};
 ghost use Rattle.std.specs.Iterator.Runs.{CallKeepsClosure};
-ghost use Rattle.std.specs.List.{AllByRecursion, enumerate_from, filter, filter_map, find, fold, last_or, list_all};
+ghost use Rattle.std.specs.List.{AllByRecursion, dedup, enumerate_from, filter, filter_map, find, fold, last_or, list_all};
 ghost use Rattle.std.specs.List.{list_any, position, prefix_len, range_with_len, slice_get, zip};
 ghost use Rattle.std.specs.Option.{option_transpose};
 ghost use denote.Ref.{Bor};
@@ -1043,31 +1043,33 @@ pub trait StreamExt: Stream {
 
     /// Returns a stream that leaves out each item that equals the one before it.
     ///
-    /// One poll may dedup up to `n` items. `Pending` and ends pass through. Deduped items are dropped, so the
-    /// items must be `Drop`. Size hint: `(0, None)`.
+    /// `Pending` and ends pass through, and the item before them still counts. One poll may skip many items,
+    /// so this stream must be `Counted`. The item that was yielded last is kept, and compared with `==`, so
+    /// the items must be `Copy` and `PartialEq`. Size hint: `(0, None)`.
     ///
     /// # Examples
     ///
     /// ```
     /// use futures_lite::{StreamExt, future, stream};
     ///
-    /// fn rest<R>(rt: &R) -> Result<Vec<u8>, AllocError>
+    /// fn changes<R>(rt: &R) -> Result<Vec<u8>, AllocError>
     /// where
     ///     R: Wait + RandomSource + AllocGlobal,
-    ///     ensures { IfOk result (λ v. v.items ≡ 2 ∷ 3 ∷ []) }
+    ///     ensures { IfOk result (λ v. v.items ≡ 1 ∷ 2 ∷ 1 ∷ []) }
     /// {
-    ///     let rest = stream::iter_array([1, 2, 3]).dedup();
-    ///     future::block_on(rt, rest.collect::<Vec<u8>>(rt.alloc()))?.map_err(|_| AllocError)
+    ///     let changes = stream::iter_array([1, 1, 2, 1]).dedup();
+    ///     future::block_on(rt, changes.collect::<Vec<u8>>(rt.alloc()))?.map_err(|_| AllocError)
     /// }
     ///
-    /// assert_eq!(rt; rest(&rt)?.as_slice(), [2, 3].as_slice());
+    /// assert_eq!(rt; changes(&rt)?.as_slice(), [1, 2, 1].as_slice());
     /// ```
-    #[tactic(auto, using(lite_views::proofs::Views::seen, lite_views::proofs::Dedup::deduped_lists))]
+    #[tactic(auto, using(lite_views::proofs::Views::seen, lite_views::proofs::Dedup::deduped_lists, lite_views::proofs::Dedup::dedup_fewer))]
     final fn dedup(self) -> Dedup<Self>
     where
-        Self: Sized,
+        Self: Counted<Item: Copy + Drop + PartialEq> + Sized,
         ensures parts { result ≡ record { stream = self; last = None } }
-        ensures lists { OfItems Self.run self (λ xs. ListsAs (DedupsAll Self.run Self.Item.eq) result (drop n xs)) }
+        ensures lists { OfItems Self.run self (λ xs. ListsAs (DedupsAll Self.run Self.Item.eq) result (dedup Self.Item.eq xs)
+            × (length (dedup Self.Item.eq xs) ≤ length xs)) }
     {
         lite_reshape::make::dedup(self)
     }

@@ -1,13 +1,12 @@
-ghost use Rattle.std.specs.Prelude.{◌≡◌, None};
-ghost use Rattle.std.proofs.Common.{arith};
-ghost use Rattle.std.proofs.lemmas.Bool.Decides.{nat_tests};
-ghost use Rattle.lite_reshape.specs.Uses.{NoHint, Terminates-count, laws_unhinted, ok_counting, ranks_of};
-ghost use Rattle.lite_reshape.specs.Uses.{through_counting, through_on, through_steady_over, refl};
+ghost use Rattle.std.specs.Prelude.{[]};
+ghost use Rattle.lite_reshape.specs.Uses.{NoHint, Terminates-map, laws_unhinted, ok_counting, ranks_of};
+ghost use Rattle.lite_reshape.specs.Uses.{through_counting, through_steady_over, OptionBy, SameItem};
 ghost use Rattle.lite_reshape.specs.Uses.{through_calm};
 ghost use Rattle.lite_reshape.specs.Leaving.{Sifts};
 ghost use Rattle.lite_reshape.specs.Dedup.{Dedups, DedupsAll, EqualAlike, dedup_parts};
-ghost use Rattle.lite_reshape.specs.Laws.Agreeing.{leaves_selecting};
+ghost use Rattle.lite_reshape.specs.Laws.Agreeing.{leaves_equal};
 ghost use Rattle.lite_reshape.specs.Laws.Leaving.{leaves_calming, leaves_relating};
+ghost use Rattle.lite_stream.specs.Laws.Through.{counted_on};
 
 use lite_base::{
     CalmStream, Context, Counted, OkCounted, Poll, PollSteps, SteadyStream, Stream, drive,
@@ -15,8 +14,9 @@ use lite_base::{
 
 /// A stream that leaves out each item of another stream that equals the one before it.
 ///
-/// Returned by [`dedup`](crate::make::dedup). One poll may dedup many items, up to another item, `Pending` or an
-/// end. The number of items that are still to be deduped is kept across `Pending` and ends.
+/// Returned by [`dedup`](crate::make::dedup). One poll may skip many items, up to another item, `Pending` or
+/// an end. So the other stream must be `Counted`. The item that was yielded last is kept across `Pending` and
+/// ends.
 #[derive(Clone, Debug, Drop)]
 pub struct Dedup<S: Stream> {
     pub(crate) stream: S,
@@ -28,22 +28,24 @@ impl<S: Counted<Item: Copy + Drop + PartialEq>> PollSteps for Dedup<S> {
 
     ghost can_step = { λ m. S.can_poll m.stream × S.ranks.counts m.stream };
 
-    ghost step = { Sifts (Dedups S.Item.eq) S.run (λ m. S.can_poll m.stream × S.ranks.counts m.stream) (λ m. m.stream) (λ m. m.last) };
+    ghost step = { Sifts (Dedups S.Item.eq) S.run (λ m. S.can_poll m.stream × S.ranks.counts m.stream)
+        (λ m. m.stream) (λ m. m.last) };
 
     ghost step_registers = { λ m. S.registers m.stream };
 
     ghost goes_on = { λ x y c h. h.0 };
 
-    ghost finite = { λ x c. Terminates-count (λ m. m.last) (λ m n h. Prim.grind (arith, nat_tests, h.1.2)) x };
+    ghost finite = { λ x c. Terminates-map (λ m. m.stream) (λ m n h. (h.1.0, [], h.1.1)) x (S.ends x.stream c.1) };
 
     fn poll_step(&mut self, cx: &mut Context<'_>) -> Option<Poll<Option<S::Item>>> {
         let answer = self.stream.poll_next(cx);
-        // (one way out for all answers: with two, LLVM makes a loop of each round that leaves an item out)
-        if self.last == 0 || !matches!(answer, Poll::Ready(Some(_))) {
-            return Some(answer);
+        if let Poll::Ready(Some(item)) = answer {
+            if Some(item) == self.last {
+                return None;
+            }
+            self.last = Some(item);
         }
-        self.last -= 1;
-        None
+        Some(answer)
     }
 }
 
@@ -59,7 +61,7 @@ impl<S: Counted<Item: Copy + Drop + PartialEq>> Stream for Dedup<S> {
     ghost hints = { NoHint };
 
     ghost laws = { laws_unhinted dedup_parts S.laws (leaves_relating (Dedups S.Item.eq))
-        (through_on dedup_parts S.laws) };
+        (counted_on dedup_parts S.laws S.counting) };
 
     fn poll_next(&mut self, cx: &mut Context<'_>) -> Poll<Option<S::Item>> {
         drive(self, cx)
@@ -87,7 +89,7 @@ impl<
 
     ghost ok_ranks = { ranks_of (λ m. m.stream) S.ranks };
 
-    ghost ok_counting = { ok_counting (through_counting dedup_parts S.counting (leaves_relating (Dedups S.Item.eq))) };
+    ghost ok_counting = { ok_counting (through_counting dedup_parts S.counting (leaves_relating (Dedups _))) };
 }
 
 impl<S: Counted<Item: Copy + Drop + PartialEq> + SteadyStream> SteadyStream for Dedup<S> {
@@ -97,10 +99,11 @@ impl<S: Counted<Item: Copy + Drop + PartialEq> + SteadyStream> SteadyStream for 
 
     ghost same = { S.same };
 
-    ghost alike = { λ x y. S.alike x.stream y.stream × (y.last ≡ x.last) };
+    ghost alike = { λ x y. S.alike x.stream y.stream × (OptionBy (SameItem S.same) x.last y.last
+        × EqualAlike S.same S.Item.eq) };
 
     ghost steady = { through_steady_over dedup_parts S.same S.same S.steady (leaves_relating (Dedups S.Item.eq)).following
-        (leaves_selecting _ _ S.same (λ n m. m ≡ n) (λ n m x w e s. rw e (refl, refl))) };
+        (leaves_equal S.Item.eq S.same) };
 }
 
 impl<S: Counted<Item: Copy + Drop + PartialEq> + CalmStream> CalmStream for Dedup<S> {

@@ -269,7 +269,6 @@ fn items_that_are_left_out_are_dropped(rt: HostRuntime) -> Result<(), Fail> {
             stream::iter(two()?).take_while(|_x: &Guard<'_>| false),
         )?,
         dropped(&rt, &drops, stream::iter(two()?).skip(2))?,
-        dropped(&rt, &drops, stream::iter(two()?).dedup())?,
         dropped(&rt, &drops, stream::iter(two()?).step_by(2))?,
     ];
     assert_eq!(rt; counts, [2, 2, 2, 2, 1]);
