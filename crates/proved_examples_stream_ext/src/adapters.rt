@@ -46,13 +46,13 @@ where
     future::block_on(rt, copies.collect::<Vec<u8>>(rt.alloc()))?.map_err(|_| AllocError)
 }
 
-pub fn stream_ext_dedup_rest<R>(rt: &R) -> Result<Vec<u8>, AllocError>
+pub fn stream_ext_dedup_changes<R>(rt: &R) -> Result<Vec<u8>, AllocError>
 where
     R: Wait + RandomSource + AllocGlobal,
-    ensures { IfOk result (λ v. v.items ≡ 2 ∷ 3 ∷ []) }
+    ensures { IfOk result (λ v. v.items ≡ 1 ∷ 2 ∷ 1 ∷ []) }
 {
-    let rest = stream::iter_array([1, 2, 3]).dedup();
-    future::block_on(rt, rest.collect::<Vec<u8>>(rt.alloc()))?.map_err(|_| AllocError)
+    let changes = stream::iter_array([1, 1, 2, 1]).dedup();
+    future::block_on(rt, changes.collect::<Vec<u8>>(rt.alloc()))?.map_err(|_| AllocError)
 }
 
 pub fn stream_ext_enumerate_numbered<R>(
