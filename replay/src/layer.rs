@@ -10,8 +10,8 @@ use crate::closures::{
 use crate::leaf::Build;
 use crate::words::{Fault, Words};
 use futures_lite::stream::{
-    self, Budgeted, Chain, Counted, Dedup, Enumerate, Filter, FilterMap, FlatMap, Flatten, Fuse,
-    Inspect, Map, MapWhile, Or, Pending, Race, Scan, Skip, SkipWhile, StepBy, StopAfterFuture, Take,
+    self, Budgeted, Chain, Counted, Enumerate, Filter, FilterMap, FlatMap, Flatten, Fuse, Inspect,
+    Map, MapWhile, Or, Pending, Race, Scan, Skip, SkipWhile, StepBy, StopAfterFuture, Take,
     TakeWhile, Then, Zip,
 };
 use futures_lite::{Context, Poll, Stream, StreamExt};
@@ -26,7 +26,6 @@ pub(crate) enum Layer<S: Counted<Item = i64> + Drop> {
     FilterMap(FilterMap<S, Part>),
     Take(Take<S>),
     Skip(Skip<S>),
-    Dedup(Dedup<S>),
     StepBy(StepBy<S>),
     TakeWhile(TakeWhile<S, Test>),
     SkipWhile(SkipWhile<S, Test>),
@@ -81,7 +80,6 @@ impl<S: Counted<Item = i64> + Drop> Stream for Layer<S> {
             Layer::FilterMap(s) => s.poll_next(cx),
             Layer::Take(s) => s.poll_next(cx),
             Layer::Skip(s) => s.poll_next(cx),
-            Layer::Dedup(s) => s.poll_next(cx),
             Layer::StepBy(s) => s.poll_next(cx),
             Layer::TakeWhile(s) => s.poll_next(cx),
             Layer::SkipWhile(s) => s.poll_next(cx),
@@ -112,7 +110,6 @@ impl<S: Counted<Item = i64> + Drop> Stream for Layer<S> {
             Layer::FilterMap(s) => s.size_hint(),
             Layer::Take(s) => s.size_hint(),
             Layer::Skip(s) => s.size_hint(),
-            Layer::Dedup(s) => s.size_hint(),
             Layer::StepBy(s) => s.size_hint(),
             Layer::TakeWhile(s) => s.size_hint(),
             Layer::SkipWhile(s) => s.size_hint(),
@@ -247,7 +244,6 @@ fn by_numbers<S: Build + Counted<Item = i64> + Drop>(
             let n = words.number()?;
             Layer::Skip(S::build(alloc, words)?.skip(n))
         }
-        "dedup" => Layer::Dedup(S::build(alloc, words)?.dedup()),
         "step_by" => {
             let n = words.number()?;
             if n == 0 {

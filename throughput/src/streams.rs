@@ -19,7 +19,6 @@ pub(crate) fn computed(
         "filter" => filter(cx, n, n),
         "filter_map" => filter_map(cx, n, n),
         "skip" => skip(cx, n, n),
-        "dedup" => dedup(cx, n, n),
         "step_by" => step_by(cx, n, n),
         "take" => take(cx, n, n),
         "take_while" => take_while(cx, n, n),
@@ -59,7 +58,6 @@ pub(crate) const FOLDS: &[(&str, u64, &[u64])] = &[
     ("filter", 6, &[1, 2, 3, 5]),
     ("filter_map", 6, &[4, 7, 6, 0]),
     ("skip", 6, &[3, 4, 5]),
-    ("dedup", 6, &[0, 1, 2]),
     ("step_by", 7, &[0, 3, 6]),
     ("take", 4, &[0, 1, 2, 3]),
     ("take_while", 4, &[0, 1, 2, 3]),
@@ -165,12 +163,6 @@ pub(crate) fn filter_map(cx: &mut Context<'_>, n: u64, polls: u64) -> u64 {
 #[inline(never)]
 pub(crate) fn skip(cx: &mut Context<'_>, n: u64, polls: u64) -> u64 {
     fold_items(&mut stream::iter(0..n).skip(3), cx, polls)
-}
-
-#[inline(never)]
-pub(crate) fn dedup(cx: &mut Context<'_>, n: u64, polls: u64) -> u64 {
-    let mut halves = stream::iter(0..n).map(|x: u64| x / 2).dedup();
-    fold_items(&mut halves, cx, polls)
 }
 
 #[inline(never)]

@@ -7,7 +7,7 @@ pub use Rattle.lite_base.specs.Segments.{OneAnswer, Segment, Segments, SegmentsT
 pub use Rattle.lite_stream.specs.Pointwise.{Exchanges, Replaces}
 -- cut off at some point: take
 pub use Rattle.lite_stream.specs.Cutting.{Cuts}
--- items left out: filter, filter_map, skip, skip_while, dedup, step_by
+-- items left out: filter, filter_map, skip, skip_while, step_by
 pub use Rattle.lite_reshape.specs.Leaving.{LeavesOut, Passes, Rejects}
 -- items replaced by lists: then, cloned; flatten, flat_map
 pub use Rattle.lite_reshape.specs.Expanding.{Expanding, Expands}

@@ -21,13 +21,11 @@ pub use Rattle.lite_stream.specs.declared.take_while.TakeWhile.{TakeWhile}
 pub use Rattle.lite_reshape.specs.Filter.{Filters}
 pub use Rattle.lite_reshape.specs.FilterMap.{FilterMaps}
 pub use Rattle.lite_reshape.specs.Skip.{Skips, SkipsFirst}
-pub use Rattle.lite_reshape.specs.Dedup.{Dedups, DedupsAll, EqualAlike}
 pub use Rattle.lite_reshape.specs.SkipWhile.{SkipsUntil, SkipsWhile}
 pub use Rattle.lite_reshape.specs.StepBy.{StepsBy, StepsOn}
 pub use Rattle.lite_reshape.specs.declared.filter.Filter.{Filter}
 pub use Rattle.lite_reshape.specs.declared.filter_map.FilterMap.{FilterMap}
 pub use Rattle.lite_reshape.specs.declared.skip.Skip.{Skip}
-pub use Rattle.lite_reshape.specs.declared.dedup.Dedup.{Dedup}
 pub use Rattle.lite_reshape.specs.declared.skip_while.SkipWhile.{SkipWhile}
 pub use Rattle.lite_reshape.specs.declared.step_by.StepBy.{StepBy}
 pub use Rattle.lite_reshape.specs.Chain.{Chains}

@@ -17,7 +17,6 @@ ghost use Rattle.lite_reshape.specs.Filter.{Filters};
 ghost use Rattle.lite_reshape.specs.FlatMap.{FlatMaps};
 ghost use Rattle.lite_reshape.specs.Flatten.{Flattens};
 ghost use Rattle.lite_reshape.specs.Skip.{SkipsFirst};
-ghost use Rattle.lite_reshape.specs.Dedup.{DedupsAll};
 ghost use Rattle.lite_reshape.specs.SkipWhile.{SkipsWhile};
 ghost use Rattle.lite_reshape.specs.StepBy.{StepsBy};
 ghost use Rattle.lite_reshape.specs.Then.{Thens};
@@ -33,7 +32,7 @@ ghost use Rattle.lite_views.specs.Unfold.{UnfoldsInto};
 ghost use Rattle.lite_views.specs.Views.{ListsIf, OfItems, RestIs, GoesOn, Lists};
 ghost use Rattle.std.specs.Iterator.{ActsAs, ActsAsAt, ActsAsOnTwo};
 ghost use Rattle.std.specs.Iterator.Runs.{CallKeepsClosure};
-ghost use Rattle.std.specs.List.{AllByRecursion, dedup, enumerate_from, filter, filter_map, find, fold, last_or, list_all};
+ghost use Rattle.std.specs.List.{AllByRecursion, enumerate_from, filter, filter_map, find, fold, last_or, list_all};
 ghost use Rattle.std.specs.List.{list_any, position, prefix_len, range_with_len, slice_get, zip};
 ghost use Rattle.std.specs.Option.{option_transpose};
 ghost use denote.Ref.{Bor};
@@ -53,7 +52,7 @@ pub use lite_gather::{
 pub use lite_merge::make::stop_after_future;
 pub use lite_merge::{Budgeted, Cycle, Drain, Or, Race, StopAfterFuture, Zip};
 pub use lite_reshape::{
-    Chain, Cloned, Dedup, Filter, FilterMap, FlatMap, Flatten, Skip, SkipWhile, StepBy, Then,
+    Chain, Cloned, Filter, FilterMap, FlatMap, Flatten, Skip, SkipWhile, StepBy, Then,
 };
 pub use lite_source::make::iter;
 pub use lite_source::{
@@ -1039,39 +1038,6 @@ pub trait StreamExt: Stream {
         ensures lists { OfItems Self.run self (λ xs. ListsAs (SkipsFirst Self.run) result (drop n xs)) }
     {
         lite_reshape::make::skip(self, n)
-    }
-
-    /// Returns a stream that leaves out each item that equals the one before it.
-    ///
-    /// `Pending` and ends pass through, and the item before them still counts. One poll may skip many items,
-    /// so this stream must be `Counted`. The item that was yielded last is kept, and compared with `==`, so
-    /// the items must be `Copy` and `PartialEq`. Size hint: `(0, None)`.
-    ///
-    /// # Examples
-    ///
-    /// ```
-    /// use futures_lite::{StreamExt, future, stream};
-    ///
-    /// fn changes<R>(rt: &R) -> Result<Vec<u8>, AllocError>
-    /// where
-    ///     R: Wait + RandomSource + AllocGlobal,
-    ///     ensures { IfOk result (λ v. v.items ≡ 1 ∷ 2 ∷ 1 ∷ []) }
-    /// {
-    ///     let changes = stream::iter_array([1, 1, 2, 1]).dedup();
-    ///     future::block_on(rt, changes.collect::<Vec<u8>>(rt.alloc()))?.map_err(|_| AllocError)
-    /// }
-    ///
-    /// assert_eq!(rt; changes(&rt)?.as_slice(), [1, 2, 1].as_slice());
-    /// ```
-    #[tactic(auto, using(lite_views::proofs::Views::seen, lite_views::proofs::Dedup::deduped_lists, lite_views::proofs::Dedup::dedup_fewer))]
-    final fn dedup(self) -> Dedup<Self>
-    where
-        Self: Counted<Item: Copy + Drop + PartialEq> + Sized,
-        ensures parts { result ≡ record { stream = self; last = None } }
-        ensures lists { OfItems Self.run self (λ xs. ListsAs (DedupsAll Self.run Self.Item.eq) result (dedup Self.Item.eq xs)
-            × (length (dedup Self.Item.eq xs) ≤ length xs)) }
-    {
-        lite_reshape::make::dedup(self)
     }
 
     /// Returns a stream that skips items while `predicate` returns true, and yields the first other item and

@@ -1,6 +1,5 @@
 pub mod Chain
 pub mod Cloned
-pub mod Dedup
 pub mod Expanding
 pub mod Filter
 pub mod FilterMap

@@ -5,7 +5,6 @@
 
 mod chain;
 mod cloned;
-mod dedup;
 mod filter;
 mod filter_map;
 mod flat_map;
@@ -19,7 +18,6 @@ mod then;
 
 pub use chain::Chain;
 pub use cloned::Cloned;
-pub use dedup::Dedup;
 pub use filter::Filter;
 pub use filter_map::FilterMap;
 pub use flat_map::FlatMap;

@@ -4,7 +4,6 @@ ghost use Rattle.lite_reshape.specs.declared.chain.Part.TheVariants.{First};
 
 use crate::chain::{Chain, Part};
 use crate::cloned::Cloned;
-use crate::dedup::Dedup;
 use crate::filter::Filter;
 use crate::filter_map::FilterMap;
 use crate::flat_map::FlatMap;
@@ -36,13 +35,6 @@ pub fn skip<S>(stream: S, n: usize) -> Skip<S>
     ensures { result ≡ record { stream = stream; n = n } }
 {
     Skip { stream, n }
-}
-
-/// Returns a stream that leaves out each item of `stream` that equals the one before it.
-pub fn dedup<S: Stream>(stream: S) -> Dedup<S>
-    ensures { result ≡ record { stream = stream; last = None } }
-{
-    Dedup { stream, last: None }
 }
 
 /// Returns a stream that skips items of `stream` while `predicate` returns true, and yields the others.

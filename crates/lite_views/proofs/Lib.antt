@@ -12,7 +12,6 @@ pub mod Continuing
 pub mod Copied
 pub mod Copy
 pub mod Count
-pub mod Dedup
 pub mod Empty
 pub mod Enumerate
 pub mod Filter

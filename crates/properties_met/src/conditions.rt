@@ -9,13 +9,12 @@ use crate::merges::{
 };
 use crate::sources::{calls_are_alike, calls_are_calm};
 use crate::streams::{
-    dedup_is_steady, filter_is_alike, filter_map_is_alike, map_is_alike, map_while_is_alike,
-    scan_is_alike, skip_while_is_alike, take_while_is_alike,
+    filter_is_alike, filter_map_is_alike, map_is_alike, map_while_is_alike, scan_is_alike,
+    skip_while_is_alike, take_while_is_alike,
 };
 use lite_base::future::make::ready;
 use lite_base::{Context, Poll};
 use lite_merge::Drain;
-use lite_reshape::Dedup;
 use lite_source::make::once;
 use lite_source::{Once, Script};
 use rand_core::Rng;
@@ -107,9 +106,4 @@ pub fn polled_futures_agree<R: Rng>(rng: &R) {
     let tried = ready(good);
     futures_are_alike(&x, &x, &other, &other, &value, &answer);
     futures_are_calm(&x, &other, &tried, &tried, rng, &value, &answer);
-}
-
-/// Equality does not tell apart bytes that are the same.
-pub fn equal_bytes_agree(kept: &Dedup<Script<u8>>) {
-    dedup_is_steady(kept, kept);
 }

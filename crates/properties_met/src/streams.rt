@@ -2,13 +2,12 @@
 //! its stream is, and asks for no memory if its stream asks for none. What the context holds at a `Pending` of the stream it holds at one of the adapter.
 ghost use Rattle.std.specs.Fn.{CalledAt};
 ghost use Rattle.std.specs.Prelude.{◌≡◌, Some};
-ghost use Rattle.lite_base.specs.Alike.{OptionBy, SameItem};
+ghost use Rattle.lite_base.specs.Alike.{SameItem};
 ghost use Rattle.lite_base.specs.Calling.{AgreeFrom, AgreeKeeping, AgreeOver, Calls, CallsWith};
-ghost use Rattle.lite_reshape.specs.Dedup.{EqualAlike};
 ghost use Rattle.properties_met.specs.Registering.{TellsAll};
 
 use lite_base::{CalmStream, Counted, SteadyStream, Stream};
-use lite_reshape::{Dedup, Filter, FilterMap, Skip, SkipWhile, StepBy};
+use lite_reshape::{Filter, FilterMap, Skip, SkipWhile, StepBy};
 use lite_stream::{Copied, Enumerate, Fuse, Inspect, Map, MapWhile, Scan, Take, TakeWhile};
 
 /// A [`Copied`] is steady.
@@ -226,26 +225,9 @@ pub fn skip_is_steady<S: SteadyStream<Item: Drop>>(x: &Skip<S>, y: &Skip<S>)
     ensures needs_none { S.needs_none → ⟦<Skip<S> as SteadyStream>⟧.needs_none }
 {}
 
-/// A [`Dedup`] is steady, if equality does not tell apart items that are the same.
-pub fn dedup_is_steady<S: Counted<Item: Copy + Drop + PartialEq> + SteadyStream>(
-    x: &Dedup<S>,
-    y: &Dedup<S>,
-)
-    requires equal { EqualAlike S.same S.Item.eq }
-    ensures alike { S.alike x.now.stream y.now.stream → OptionBy (SameItem S.same) x.now.last y.now.last
-        → ⟦<Dedup<S> as SteadyStream>⟧.alike x.now y.now }
-    ensures registers { TellsAll (S.registers x.now.stream) (⟦<Dedup<S> as Stream>⟧.registers x.now) }
-    ensures needs_none { S.needs_none → ⟦<Dedup<S> as SteadyStream>⟧.needs_none }
-{}
-
 /// A [`Skip`] is calm over a calm stream.
 pub fn skip_is_calm<S: CalmStream<Item: Drop>>(x: &Skip<S>)
     ensures { S.is_calm x.now.stream → ⟦<Skip<S> as CalmStream>⟧.is_calm x.now }
-{}
-
-/// A [`Dedup`] is calm over a calm stream.
-pub fn dedup_is_calm<S: Counted<Item: Copy + Drop + PartialEq> + CalmStream>(x: &Dedup<S>)
-    ensures { S.is_calm x.now.stream → ⟦<Dedup<S> as CalmStream>⟧.is_calm x.now }
 {}
 
 /// Two of [`SkipWhile`] are alike, if their closures agree.

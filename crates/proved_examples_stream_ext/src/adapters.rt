@@ -46,15 +46,6 @@ where
     future::block_on(rt, copies.collect::<Vec<u8>>(rt.alloc()))?.map_err(|_| AllocError)
 }
 
-pub fn stream_ext_dedup_changes<R>(rt: &R) -> Result<Vec<u8>, AllocError>
-where
-    R: Wait + RandomSource + AllocGlobal,
-    ensures { IfOk result (λ v. v.items ≡ 1 ∷ 2 ∷ 1 ∷ []) }
-{
-    let changes = stream::iter_array([1, 1, 2, 1]).dedup();
-    future::block_on(rt, changes.collect::<Vec<u8>>(rt.alloc()))?.map_err(|_| AllocError)
-}
-
 pub fn stream_ext_enumerate_numbered<R>(
     rt: &R,
     first: char,

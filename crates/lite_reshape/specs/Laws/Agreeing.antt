@@ -1,6 +1,6 @@
 -- Laws about adapters that leave items out: their results, `Pending`s aside, do not depend on when the source was
 -- pending.
-use Rattle.std.specs.Prelude.{◌≡◌, List, ◌∷◌, Option, Some, None, Bool, true, false, ⊤, if◌then◌else◌, not}
+use Rattle.std.specs.Prelude.{◌≡◌, List, ◌∷◌, Option, Some, None, Bool, true, false, ⊤}
 use Rattle.lite_reshape.specs.Uses.{refl, OptionBy, SameAnswer, SameItem, Sameness, strip, Accepts, AgreeFrom}
 use Rattle.lite_reshape.specs.Uses.{AgreeKeeping, Keeping, both_items, ends_same, same_answer, MatchesFrom}
 use Rattle.lite_reshape.specs.Uses.{agree_from_matches, Question, AgreeingOver, Entails, AllByRecursion, Ready, Pending}
@@ -9,7 +9,6 @@ use Rattle.lite_base.specs.Laws.Calling.{accepts_matches, keeping_matches, match
 use Rattle.lite_stream.specs.Laws.Placed.{AlikeInPlace, Placed, placed_agreeing}
 use Rattle.lite_reshape.specs.Laws.Leaving.{leaves_steps}
 use Rattle.lite_reshape.specs.Leaving.{LeavesOut, Selects}
-use Rattle.lite_reshape.specs.Dedup.{Dedups, EqualAlike, is_other, kept_last}
 use Rattle.lite_reshape.specs.SkipWhile.{SkipsUntil}
 use Rattle.lite_reshape.specs.Cloned.{Refers}
 
@@ -59,26 +58,6 @@ module _ {F A : Type 0} where
     where
       test : Question F A Bool
       test p x kept q = (keeps p x ≡ kept) × (q ≡ next p x)
-
--- The case of `dedup`.
-module _ {A : Type 0} (eq : A → A → Bool) (like : Sameness A) where
-  -- The items that were kept last are the same, and equality does not tell apart items that are the same.
-  abbrev KeptAlike : Option A → Option A → Type 0
-  KeptAlike p q = OptionBy (SameItem like) p q × EqualAlike like eq
-
-  pub leaves_equal : AgreeingOver like like (LeavesOut (Dedups eq)) KeptAlike
-  leaves_equal = leaves_selecting (is_other eq) (kept_last eq) like KeptAlike both
-    where
-      both : (p q : Option A) (x w : A) → KeptAlike p q → SameItem like x w
-          → (is_other eq p x ≡ is_other eq q w) × KeptAlike (kept_last eq p x) (kept_last eq q w)
-      both None None x w e s = (refl, (s, e.1))
-      both None (Some z) x w e s = absurd e.0
-      both (Some y) None x w e s = absurd e.0
-      both (Some y) (Some z) x w e s = rw (e.1 x w y z s e.0) (refl, (by (eq w z), e.1))
-        where
-          by : (b : Bool) → OptionBy (SameItem like) (if not b then Some x else Some y) (if not b then Some w else Some z)
-          by true = e.0
-          by false = s
 
 -- The case of `skip_while`: the predicates agree, or both are gone.
 module _ {F A : Type 0} (test : Question F A Bool) (like : Sameness A) where

@@ -290,7 +290,6 @@ fn adapters_are_steady_and_calm(_rt: HostRuntime) -> Result<(), Fail> {
     ranked(&stream::once(1u8).filter(|x: &u8| *x == 1));
     ranked(&stream::once(1u8).filter_map(|x: u8| Some(x)));
     ranked(&stream::once(1u8).skip(1));
-    ranked(&stream::once(1u8).dedup());
     ranked(&stream::once(1u8).skip_while(|x: &u8| *x == 1));
     ranked(&stream::once(1u8).step_by(2));
     Ok(())
