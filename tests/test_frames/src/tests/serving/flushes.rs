@@ -1,7 +1,7 @@
 //! When a server flushes.
 ghost use Rattle.futures_lite.specs.Own.{Anything, anything_writes};
 
-use super::serving::{Twice, had_memory};
+use super::{Twice, had_memory};
 use framed::{FramedRead, ServeError, serve};
 use futures_lite::future::BlockOn;
 use futures_lite::io::{AsyncWrite, BufReader, WriteSpec};
