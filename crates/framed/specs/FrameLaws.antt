@@ -14,7 +14,8 @@ use Rattle.lite_base.specs.Laws.Ranks.{AtMost-then_below, Lowers-at_most, Lowers
 use Rattle.lite_io_base.specs.Counting.{Falls}
 use Rattle.lite_io_base.specs.Laws.Counting.{GivenRun}
 use Rattle.lite_io_base.specs.Laws.Marks.{given_count-append, given_count-bytes}
-use Rattle.lite_read.specs.Laws.PollSteps.{given_of, steps_answer}
+use Rattle.lite_io_base.specs.Laws.Counting.{given_of}
+use Rattle.lite_base.specs.Laws.Chain.{steps_answer}
 use Rattle.tokio_util.specs.Codec.Next.{Gives, Next, PartialHasNoFrame, Resumes, at_end, decoded, partial}
 use Rattle.tokio_util.proofs.CodecLemmas.Next.{Resumes-append, Resumes_trans}
 use Rattle.framed.specs.Frames.{AfterEnd, Found, FrameStep, Framed, ResumesAt, Last, Phase, PollGives, NoFrame, ended, ending, frame_ranks, phase_rank, reading}

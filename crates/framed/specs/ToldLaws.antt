@@ -7,7 +7,7 @@ use Rattle.lite_base.specs.Answers as answers
 use Rattle.framed.specs.Uses.{Answer, MarkLaws, Pending, Ranks, ReadCounting, ReadMark, Ready, Runs, ToldStripped}
 use Rattle.framed.specs.Uses.{bytes}
 use Rattle.lite_io_base.specs.Steady.{strip_marks}
-use Rattle.lite_read.specs.Laws.Told.{told_follow, told_none}
+use Rattle.lite_io_base.specs.Laws.Told.{told_follow, told_none}
 use Rattle.tokio_util.specs.Codec.Next.{Gives, PartialHasNoFrame}
 use Rattle.framed.specs.Frames.{FrameStep, Framed, InHand, PollGives, NoFrame, reading}
 use Rattle.framed.specs.FrameLaws.{joined}

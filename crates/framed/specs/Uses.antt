@@ -14,7 +14,7 @@ pub use Rattle.lite_io_base.specs.Marks.{ReadMark, bytes, fill_marks}
 pub use Rattle.lite_io_base.specs.Runs.{MarkLaws}
 pub use Rattle.lite_io_base.specs.Steady.{EndsFlushed}
 pub use Rattle.lite_io_base.specs.WriteMarks.{WriteMark, bytes_taken}
-pub use Rattle.lite_read.specs.Texts.{without_return}
-pub use Rattle.lite_read.specs.Told.{ToldStripped}
+pub use Rattle.lite_io_base.specs.Runs.{without_return}
+pub use Rattle.lite_io_base.specs.Steady.{ToldStripped}
 pub use Rattle.lite_write.proofs.Handed.{flushes_both, once_flushes}
 pub use Rattle.lite_write.specs.Handed.{WritesAndFlushes}

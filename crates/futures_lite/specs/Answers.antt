@@ -5,6 +5,6 @@ pub use Rattle.lite_base.specs.Answers.{Answer, item, end, items, strip, Compara
 pub use Rattle.lite_base.specs.Calm.{NoPending, waits}
 pub use Rattle.lite_base.specs.Ranks.{all_ok}
 pub use Rattle.lite_laws.specs.Recorded.{Recorded}
-pub use Rattle.lite_stream.specs.EachItem.{items_in}
+pub use Rattle.lite_base.specs.EachItem.{items_in}
 pub use Rattle.lite_views.specs.Each.{EachItem}
 pub use Rattle.lite_views.specs.Lists.{Front}

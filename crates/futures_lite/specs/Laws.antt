@@ -4,7 +4,7 @@ pub use Rattle.lite_base.specs.Laws.Alike
 pub use Rattle.lite_base.specs.Laws.Calling
 pub use Rattle.lite_base.specs.Laws.Calm
 pub use Rattle.lite_stream.specs.Laws.Cutting
-pub use Rattle.lite_stream.specs.Laws.EachItem
+pub use Rattle.lite_base.specs.Laws.EachItem
 pub use Rattle.lite_stream.specs.Laws.Pointwise
 pub use Rattle.lite_stream.specs.Laws.Through
 pub use Rattle.lite_reshape.specs.Laws.Leaving
@@ -18,4 +18,4 @@ pub use Rattle.lite_views.specs.Laws.Sources
 pub use Rattle.lite_theorems.specs.Laws.Collected
 pub use Rattle.lite_theorems.specs.Laws.Rows
 -- that calls which are waited for follow one another: `told_follow`, `front_follows`
-pub use Rattle.lite_read.specs.Laws.Told
+pub use Rattle.lite_io_base.specs.Laws.Told

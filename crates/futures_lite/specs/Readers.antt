@@ -10,11 +10,12 @@ pub use Rattle.lite_buffered.specs.Take
 pub use Rattle.lite_bridge.specs.Cursor
 pub use Rattle.lite_theorems.specs.BothReaders.{BothRead, HasReadMemory, LacksNext, ReadsUp}
 -- what one was told while a call was waited for
-pub use Rattle.lite_read.specs.Told.{EndsAtFirst, FillsUp, PieceTold, PieceWithin, EndsShort, ToldFewer, VectorLacksRoom, ToldStripped, Without}
+pub use Rattle.lite_read.specs.Told.{EndsAtFirst, FillsUp, PieceTold, PieceWithin, EndsShort, ToldFewer, VectorLacksRoom, Without}
+pub use Rattle.lite_io_base.specs.Steady.{ToldStripped}
 pub use Rattle.lite_views.specs.OneCall.{ReadsFront, EachByte}
 unfoldable pub use Rattle.lite_views.specs.OneCall.{YieldsOn}
 pub use Rattle.lite_read.specs.ReadToEnd
 pub use Rattle.lite_read.specs.Bytes
 pub use Rattle.lite_read.specs.ReadExact
-pub use Rattle.lite_read.specs.Deterministic.{SameByKind, SameOr}
+pub use Rattle.lite_io_base.specs.Steady.{SameByKind, SameOr}
 pub use Rattle.lite_base.specs.Runs.{Runs}

@@ -8,7 +8,7 @@ pub use Rattle.lite_merge.specs.Cycle.{CycleOf}
 pub use Rattle.lite_merge.specs.Race.{RacesOn}
 pub use Rattle.lite_read.specs.Laws.Texts.{text_any}
 pub use Rattle.lite_read.specs.Lines.{GivesLines, lines_over}
-pub use Rattle.lite_read.specs.Polled.{PolledByCalls}
+pub use Rattle.lite_base.specs.FutureLaws.{PolledByCalls}
 pub use Rattle.lite_read.specs.Read.{Reads}
 pub use Rattle.lite_read.specs.ReadLine.{LineHolds, ReadsLine, ReadsLineByRoom, line_over}
 pub use Rattle.lite_read.specs.ReadToEnd.{ReadsToEndByRoom}

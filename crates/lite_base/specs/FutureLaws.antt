@@ -1,6 +1,6 @@
 -- The laws that the runs of every future meet.
-use Rattle.std.specs.Prelude.{◌≡◌, ◌≤◌, List, [], ◌++◌, length}
-use Rattle.lite_base.specs.Uses.{Poll}
+use Rattle.std.specs.Prelude.{◌≡◌, ◌≤◌, List, [], ◌∷◌, ◌++◌, length}
+use Rattle.lite_base.specs.Uses.{Pending, Poll, Ready}
 use Rattle.lite_base.specs.Answers.{Waiting, strip}
 use Rattle.lite_base.specs.Runs.{Runs}
 
@@ -31,3 +31,12 @@ pub record FutureLaws {F A : Type 0} (can_poll : F → Type 0) (run : Runs (Poll
   pub once : (x y : F) (l : List (Poll A)) → run x l y → length (strip l) ≤ 1
   -- A future that may be polled may be polled again after a run that was pending throughout.
   pub waits_on : (x y : F) (l : List (Poll A)) → Waiting l → can_poll x → run x l y → can_poll y
+
+-- Futures each poll of which is one call, such as `read` or `seek`.
+
+-- Each poll is one `call`. The future is pending when the call is, and its value is the call's. No poll follows a
+-- value.
+abbrev pub PolledByCalls : {F A : Type 0} → (F → Poll A → F → Type 0) → Runs (Poll A) F
+PolledByCalls call x [] y = y ≡ x
+PolledByCalls {F} call x (Pending ∷ out) y = (m : F) × call x Pending m × PolledByCalls call m out y
+PolledByCalls call x (Ready r ∷ out) y = call x (Ready r) y × (out ≡ [])

@@ -3,6 +3,7 @@ pub mod Answers
 pub mod Calling
 pub mod Calm
 pub mod Chain
+pub mod EachItem
 pub mod Future
 pub mod FutureLaws
 pub mod Laws

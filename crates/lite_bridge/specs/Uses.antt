@@ -15,7 +15,7 @@ pub use Rattle.lite_io_base.specs.Steady.{CalmReadLaws, NoPendingRead, SteadyRea
 pub use Rattle.lite_io_base.specs.WriteMarks.{WriteMark, bytes_taken, done_marks, write_marks}
 pub use Rattle.lite_io_base.specs.WriteMarks.WriteMark.{closed, flushed}
 pub use Rattle.lite_io_base.specs.Known.{ReadsScript}
-pub use Rattle.lite_read.specs.Polled.{PolledByCalls}
+pub use Rattle.lite_base.specs.FutureLaws.{PolledByCalls}
 pub use Rattle.std.proofs.Common.{Global, add-zero, ap, append-nil, arith, drop-drop, inl, inr, length-append}
 pub use Rattle.std.proofs.Common.{length-take, length-take-le, refl, subst, sym, ◌∙◌}
 pub use Rattle.std.proofs.lemmas.Grind.{common_steps}

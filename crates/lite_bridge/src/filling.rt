@@ -1,5 +1,5 @@
 ghost use Rattle.lite_bridge.specs.Uses.{PolledByCalls};
-ghost use Rattle.lite_read.specs.Laws.Polled.{polled_laws};
+ghost use Rattle.lite_base.specs.Laws.FutureLaws.{polled_laws};
 ghost use Rattle.lite_bridge.specs.Filling.{FillsLent};
 
 use lite_base::{Context, Future, Poll};

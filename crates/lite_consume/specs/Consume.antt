@@ -2,7 +2,7 @@
 use Rattle.std.specs.Prelude.{List, [], ◌∷◌, Option, Some, None, ⊤}
 use Rattle.lite_consume.specs.Uses.{Poll, Answer, item, Runs, Ready, Pending}
 use Rattle.lite_base.specs.Ranks.{Terminates}
-use Rattle.lite_stream.specs.EachItem.{AtEachItem}
+use Rattle.lite_base.specs.EachItem.{AtEachItem}
 use Rattle.lite_consume.specs.Consuming.{Decides, Fold, TakesIn, Consumed}
 use Rattle.lite_consume.specs.declared.consume.Consume.{Consume}
 

@@ -10,7 +10,7 @@ pub use Rattle.lite_base.specs.Laws.Segments.{answers_given, answers_taken}
 pub use Rattle.lite_base.specs.Runs.{Lent, Hints, Question, Runs}
 pub use Rattle.lite_base.specs.Segments.{OneAnswer, Segment}
 pub use Rattle.lite_base.specs.StreamLaws.{StreamLaws}
-pub use Rattle.lite_stream.specs.EachItem.{items_in}
+pub use Rattle.lite_base.specs.EachItem.{items_in}
 pub use Rattle.std.proofs.Common.{arith, inl, inr, subst}
 pub use Rattle.std.specs.Fn.{CalledAt, Mut, TakesAt}
 pub use Rattle.std.specs.List.{FoldsTo}

@@ -1,8 +1,8 @@
 -- Readers whose marks do not depend on when they were pending, as long as no allocation failed. The runs in which none
 -- failed are the ample runs.
-use Rattle.std.specs.Prelude.{List, [], ◌∷◌, ⊤, ◌≡◌, ℕ, ◌++◌}
+use Rattle.std.specs.Prelude.{List, [], ◌∷◌, ⊤, ◌≡◌, ℕ, ◌++◌, Result, Ok, Err}
 use Rattle.lite_base.specs.Calm.{CalmRuns}
-use Rattle.lite_io_base.specs.Uses.{Comparable, Runs}
+use Rattle.lite_io_base.specs.Uses.{Comparable, Error, Runs, error_kind}
 use Rattle.lite_base.specs.Steady.{TakesNone}
 use Rattle.lite_io_base.specs.Marks.{ReadMark}
 use Rattle.lite_io_base.specs.Runs.{MarkLaws}
@@ -15,11 +15,26 @@ strip_marks [] = []
 strip_marks (ReadMark.pending ∷ l) = strip_marks l
 strip_marks (a ∷ l) = a ∷ strip_marks l
 
+-- The reader produced just the marks `l`, if the `Pending`s are left out.
+abbrev pub ToldStripped : {R : Type 0} → Runs ReadMark R → Runs ReadMark R
+ToldStripped reads x l y = (told : List ReadMark) × reads x told y × (strip_marks told ≡ l)
+
 -- No mark of reading is a `Pending`.
 abbrev pub NoPendingRead : List ReadMark → Type 0
 NoPendingRead [] = ⊤
 NoPendingRead (ReadMark.pending ∷ l) = ⊥
 NoPendingRead (_ ∷ l) = NoPendingRead l
+
+-- Two results are both `Ok` with values that `same` relates, or both errors of one kind.
+abbrev pub SameOr : {A : Type 0} → (A → A → Type 0) → Result A Error → Result A Error → Type 0
+SameOr same (Ok x) (Ok y) = same x y
+SameOr same (Ok x) (Err e) = ⊥
+SameOr same (Err e) (Ok x) = ⊥
+SameOr same (Err e) (Err f) = error_kind e ≡ error_kind f
+
+-- Two results are both `Ok` with equal values, or both errors of one kind.
+abbrev pub SameByKind : {A : Type 0} → Result A Error → Result A Error → Type 0
+SameByKind = SameOr (λ x y. x ≡ y)
 
 module _ {S : Type 0} where
   -- Readers that are alike leave the same marks in their ample runs: without `Pending`s, the marks of one are a prefix of the

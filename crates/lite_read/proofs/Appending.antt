@@ -2,13 +2,12 @@
 use Rattle.std.specs.Prelude.{◌≡◌, ◌≤◌, ◌<◌, ◌+◌, ◌-◌, ℕ, List, [], ◌∷◌, length, take, Result, Err, ⊤, ◌*◌, max, vec_capacity}
 use Rattle.lite_read.specs.Uses.{◌∙◌, refl, ap, sym, subst, arith, length-take-le, error_kind, Error, OutOfMemory}
 use Rattle.lite_read.specs.Uses.{with_items, Vec, OnPending, Poll, Ready, Pending, Ranks, up_to_one, segment_alone}
-use Rattle.lite_read.specs.Uses.{segments_one, Runs, ReadCounting, ReadMark, bytes, moved_marks, MarkLaws, Reaches}
+use Rattle.lite_read.specs.Uses.{segments_one, Runs, ReadCounting, ReadMark, bytes, moved_marks, MarkLaws, Reaches, steps_answer}
 use Rattle.std.proofs.Math.Seq.{take-length}
 use denote.MutBor.{MutBor}
 use borrow.Rule.Slice.PartMut.{put_mid}
 use Rattle.lite_read.proofs.Filling.{Behind, bytes_came, how_long, put_front, put_kept, put_len}
 use Rattle.lite_read.specs.ReadFold.{AnswerMarks, LastMarks}
-use Rattle.lite_read.specs.Laws.PollSteps.{steps_answer}
 use Rattle.lite_read.specs.Laws.Refusals.{appends_weaker, gathers_weaker, takes_alike}
 use Rattle.lite_read.specs.ReadToEnd.{ToEndGrows, VectorGrows, read_front, ReadsToEnd, ToEndLacksRoom, appends}
 use Rattle.lite_read.specs.Laws.ReadToEnd.{appends_all, grown, step_before}

@@ -1,7 +1,6 @@
 -- Streams whose memory may be refused in fewer cases.
 use Rattle.std.specs.Prelude.{◌≡◌, ◌≤◌, ℕ, List, [], ◌∷◌, ⊤, Option, Some, None, Result}
-use Rattle.lite_read.specs.Uses.{Poll, Reaches, Runs, ReadMark, MarkLaws, Global, inl, inr, Error, String, Ready, Pending, Answer}
-use Rattle.lite_read.specs.Laws.PollSteps.{steps_answer}
+use Rattle.lite_read.specs.Uses.{Poll, Reaches, Runs, ReadMark, MarkLaws, Global, inl, inr, Error, String, Ready, Pending, Answer, steps_answer}
 use Rattle.lite_read.specs.Laws.Refusals.{pieces_weaker, segmented_weaker, takes_alike}
 use Rattle.lite_read.specs.Laws.Segments.{step_before}
 use Rattle.lite_read.specs.Pieces.{Cut, pieces, CutsPiece, Itemised}

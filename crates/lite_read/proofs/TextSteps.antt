@@ -1,13 +1,12 @@
 -- Answers of futures that read for a text.
 use Rattle.std.specs.Prelude.{◌≡◌, ℕ, List, [], ◌∷◌, Result, ⊤, string_bytes}
 use Rattle.lite_read.specs.Uses.{refl, subst, sym, Error, Poll, Ready, Pending, OnPending, Reaches, Ranks, ReadCounting}
-use Rattle.lite_read.specs.Uses.{ReadMark, MarkLaws, up_to_one, segment_alone, segments_one, Runs}
+use Rattle.lite_read.specs.Uses.{ReadMark, MarkLaws, up_to_one, segment_alone, segments_one, Runs, goes_again, steps_answer}
 use denote.MutBor.{MutBor}
 use Rattle.lite_read.specs.ReadFold.{AnswerMarks, ReadFold}
 use Rattle.lite_read.specs.Laws.Refusals.{takes_alike}
 use Rattle.lite_read.specs.Holding.{TextOver, TextStays}
 use Rattle.lite_read.specs.Laws.Texts.{TextRoom, folds_in, stays_join, step_before, text_weaker_run}
-use Rattle.lite_read.specs.Laws.PollSteps.{goes_again, steps_answer}
 use Rattle.lite_read.specs.Texts.{AppendsText, FinishesText, ReadsText, ValueOf, in_text, reading}
 use Rattle.lite_read.specs.PollSteps.{AnswersText, AnswersTextByRoom, TakesTextIn}
 

@@ -2,7 +2,7 @@
 use Rattle.std.specs.Prelude.{◌≡◌, ◌<◌, ◌≤◌, ℕ, Bool, true, List, ◌++◌, Option, Some, None, length, take, position, IsUtf8}
 use Rattle.std.proofs.Common.{◌&&◌, ltb}
 use Rattle.lite_read.specs.Uses.{◌∙◌, false, cond, refl, ap, sym, subst, arith, All, list_all-append, is_ascii}
-use Rattle.lite_read.specs.Uses.{before_first, list_all, position_or_len, IsFirstByte, is_byte}
+use Rattle.lite_read.specs.Uses.{before_first, list_all, position_or_len, IsFirstByte, is_byte, without_return}
 use Rattle.std.proofs.lemmas.Bool.{ltb-false, ltb-true}
 use Rattle.std.proofs.lemmas.List.{take_all}
 use Rattle.std.proofs.lemmas.List.Elements.{All-take}
@@ -11,7 +11,6 @@ use Rattle.std.proofs.lemmas.Str.{IsUtf8-from_ascii}
 use Rattle.std.proofs.lemmas.Str.Ascii.{IsAscii-from_all}
 use Rattle.lite_read.specs.Scan.{is_newline}
 use Rattle.lite_read.specs.Find.{up_to}
-use Rattle.lite_read.specs.Texts.{without_return}
 
 pub ascii_more : (xs ys : List ℕ) (a b : Bool) → a ≡ list_all is_ascii xs → b ≡ list_all is_ascii ys
     → (a && b) ≡ list_all is_ascii (xs ++ ys)

@@ -3,7 +3,7 @@ use Rattle.std.specs.Prelude.{◌≡◌, ◌<◌, ◌≤◌, ◌+◌, ◌-◌, �
 use Rattle.lite_read.specs.Uses.{◌∙◌, inl, inr, refl, ap, sym, subst, arith, append-nil, append_assoc, length-append}
 use Rattle.lite_read.specs.Uses.{length-drop, take-append-le, error_kind, Error, OutOfMemory, Poll, Ready, Pending}
 use Rattle.lite_read.specs.Uses.{IsFirstByte, is_byte, ReadMark, bytes, filled_marks, MarkLaws, Reaches, up_to_one}
-use Rattle.lite_read.specs.Uses.{segments_one, Runs}
+use Rattle.lite_read.specs.Uses.{segments_one, Runs, steps_answer}
 use Rattle.std.proofs.lemmas.List.{drop-append-le}
 use Rattle.lite_read.specs.ReadFold.{AnswerMarks}
 use Rattle.lite_read.specs.Pieces.{Cut}
@@ -11,7 +11,6 @@ use Rattle.lite_read.specs.ReadUntil.{UntilStays, read_of, CountsPiece, ReadsUnt
 use Rattle.lite_read.specs.PollSteps.{AppendsMore}
 use Rattle.lite_read.specs.declared.read_until.ReadUntilFuture.{ReadUntilFuture}
 use Rattle.lite_read.proofs.Cutting.{concludes_at, concludes_piece, fill_then, found_at, found_none, takes_all, waits_here}
-use Rattle.lite_read.specs.Laws.PollSteps.{steps_answer}
 use Rattle.lite_read.specs.Laws.ReadUntil.{lacks_sooner, step_before}
 use Rattle.lite_read.specs.Laws.Refusals.{gathers_weaker, pieces_weaker, takes_alike}
 

@@ -1,19 +1,8 @@
 -- Futures and streams over a reader whose results depend only on the reader's bytes, errors and ends, not on when it
 -- was pending.
-use Rattle.std.specs.Prelude.{◌≡◌, ℕ, List, [], ◌∷◌, ◌++◌, Result, Ok, Err}
-use Rattle.lite_read.specs.Uses.{error_kind, FoldsTo, Error, Comparable, ReadMark, bytes, NoPendingRead}
+use Rattle.std.specs.Prelude.{◌≡◌, ℕ, List, [], ◌∷◌, ◌++◌}
+use Rattle.lite_read.specs.Uses.{FoldsTo, Comparable, ReadMark, bytes, NoPendingRead}
 use Rattle.lite_read.specs.ReadFold.{ReadFold}
-
--- Two results are both `Ok` with values that `same` relates, or both errors of one kind.
-abbrev pub SameOr : {A : Type 0} → (A → A → Type 0) → Result A Error → Result A Error → Type 0
-SameOr same (Ok x) (Ok y) = same x y
-SameOr same (Ok x) (Err e) = ⊥
-SameOr same (Err e) (Ok x) = ⊥
-SameOr same (Err e) (Err f) = error_kind e ≡ error_kind f
-
--- Two results are both `Ok` with equal values, or both errors of one kind.
-abbrev pub SameByKind : {A : Type 0} → Result A Error → Result A Error → Type 0
-SameByKind = SameOr (λ x y. x ≡ y)
 
 -- What `fold` makes of a list of marks depends only on the marks, up to `same` on the values. Each byte has one effect,
 -- and no byte is consumed when a value is produced.

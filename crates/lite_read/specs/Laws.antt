@@ -4,7 +4,6 @@ pub mod Deterministic
 pub mod DeterministicPieces
 pub mod Gathers
 pub mod Marks
-pub mod PollSteps
 pub mod Polled
 pub mod ReadExact
 pub mod ReadFold
@@ -13,4 +12,3 @@ pub mod ReadUntil
 pub mod Refusals
 pub mod Segments
 pub mod Texts
-pub mod Told

@@ -8,7 +8,6 @@ pub mod Lines
 pub mod NoneRefused
 pub mod Pieces
 pub mod PollSteps
-pub mod Polled
 pub mod Read
 pub mod ReadExact
 pub mod ReadFold

@@ -1,11 +1,11 @@
 -- The `lines` stream: the text between newlines, 0x0A.
 use Rattle.std.specs.Prelude.{◌<◌, ◌+◌, ℕ, List, Option, Result, length, vec_capacity}
-use Rattle.lite_read.specs.Uses.{Global, before_first, Error, String, Answer, Runs, ReadMark}
+use Rattle.lite_read.specs.Uses.{Global, before_first, Error, String, Answer, Runs, ReadMark, without_return}
 use Rattle.lite_read.specs.ReadFold.{ReadFold}
 use Rattle.lite_read.specs.Pieces.{Itemised, pieces}
 use Rattle.lite_read.specs.Segments.{Flows, StreamOver}
 use Rattle.lite_read.specs.Scan.{is_newline}
-use Rattle.lite_read.specs.Texts.{IsText, without_return}
+use Rattle.lite_read.specs.Texts.{IsText}
 use Rattle.lite_read.specs.declared.lines.Lines.{Lines}
 
 -- The fold of `lines`: bytes up to a newline become a line without one 0x0D at its end, and bytes up to end of file a

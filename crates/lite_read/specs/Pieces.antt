@@ -1,8 +1,7 @@
 -- How the bytes of a reader are cut into pieces: at each delimiter, and at end of file.
 use Rattle.std.specs.Prelude.{◌≡◌, ◌≢◌, ◌<◌, ◌⊎◌, ⊤, ℕ, List, [], ◌∷◌, ◌++◌, length, Option, Some, None, Result, Err, ◌==◌, if◌then◌else◌}
-use Rattle.lite_read.specs.Uses.{error_kind, Error, OutOfMemory, ReadMark}
+use Rattle.lite_read.specs.Uses.{error_kind, Error, OutOfMemory, ReadMark, without_return}
 use Rattle.lite_read.specs.ReadFold.{ReadFold}
-use Rattle.lite_read.specs.Texts.{without_return}
 
 -- What ends a piece, with the bytes before it: a delimiter (`piece`), end of file (`last`), end of file with nothing
 -- before it (`nothing`), or an error (`failed`), which cuts no piece off.

@@ -1,5 +1,5 @@
 -- Bytes that are read for a `String`, and what the `String` gains.
-use Rattle.std.specs.Prelude.{◌≡◌, ◌⊎◌, ℕ, List, [], ◌++◌, Result, Ok, Err, IsUtf8, string_bytes, ◌-◌, ◌==◌, if◌then◌else◌, length, take, slice_index}
+use Rattle.std.specs.Prelude.{◌≡◌, ◌⊎◌, ℕ, List, [], ◌++◌, Result, Ok, Err, IsUtf8, string_bytes}
 use Rattle.std.specs.declared.io.ErrorKind.TheVariants.{InvalidData}
 use Rattle.lite_read.specs.Uses.{error_kind, Error, Poll, ReadMark, Runs, Global, String}
 use Rattle.lite_read.specs.ReadFold.{Gathers, GathersByRoom, ReadFold}
@@ -64,10 +64,6 @@ module _ {X R A : Type 0} (over : TextOver X R A) where
     pub empty : over.read y ≡ []
 
 -- How the bytes of a line become text.
-
--- The bytes without the last one if that is a carriage return, 0x0D.
-abbrev pub without_return : List ℕ → List ℕ
-without_return xs = if slice_index xs (length xs - 1) == 13 then take (length xs - 1) xs else xs
 
 -- The item for a line of these bytes: a `String` of exactly these bytes, or an `InvalidData` error if they are not
 -- UTF-8.

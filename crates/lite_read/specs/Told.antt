@@ -1,12 +1,8 @@
 -- What a reader produced while a call was waited for, without the `Pending`s.
 use Rattle.std.specs.Prelude.{◌≡◌, ◌≢◌, ◌≤◌, ◌<◌, ◌+◌, ◌⊎◌, ℕ, List, [], ◌∷◌, ◌++◌, length, Result, Ok, Err}
-use Rattle.lite_read.specs.Uses.{AllByRecursion, error_kind, Error, OutOfMemory, UnexpectedEof, Runs, ReadMark, bytes, strip_marks}
+use Rattle.lite_read.specs.Uses.{AllByRecursion, error_kind, Error, OutOfMemory, UnexpectedEof, ReadMark, bytes}
 use Rattle.lite_io_base.specs.Runs.{StandsFirst}
 use Rattle.lite_read.specs.Pieces.{through_first}
-
--- The reader produced just the marks `l`, if the `Pending`s are left out.
-abbrev pub ToldStripped : {R : Type 0} → Runs ReadMark R → Runs ReadMark R
-ToldStripped reads x l y = (told : List ReadMark) × reads x told y × (strip_marks told ≡ l)
 
 -- The marks are an end of file, and the error is `UnexpectedEof`. Or they are the error itself.
 abbrev pub EndsShort : List ReadMark → Error → Type 0

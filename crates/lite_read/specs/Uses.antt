@@ -5,12 +5,13 @@ pub use Rattle.futures.specs.declared.task.Poll.{Poll}
 pub use Rattle.futures.specs.declared.task.Poll.TheVariants.{Pending, Ready}
 pub use Rattle.lite_base.specs.Alike.{OptionBy, Sameness}
 pub use Rattle.lite_base.specs.Answers.{Answer, Comparable, ComparableBy, Waiting, items, strip}
-pub use Rattle.lite_base.specs.Calm.{CalmLaws, NoPending}
+pub use Rattle.lite_base.specs.Calm.{CalmLaws}
 pub use Rattle.lite_base.specs.Chain.{OneStep, Reaches}
-pub use Rattle.lite_base.specs.FutureLaws.{FutureLaws, FutureRunLaws}
+pub use Rattle.lite_base.specs.FutureLaws.{FutureLaws, FutureRunLaws, PolledByCalls}
 pub use Rattle.lite_base.specs.Laws.Answers.{up_to_once, up_to_one}
+pub use Rattle.lite_base.specs.Laws.Chain.{steps_answer}
+pub use Rattle.lite_base.specs.Laws.FutureLaws.{future_laws_of, goes_again, idle_join, polled_laws, polled_one}
 pub use Rattle.lite_base.specs.Laws.Ranks.{Terminates-map}
-pub use Rattle.lite_base.specs.Laws.FutureLaws.{future_laws_of}
 pub use Rattle.lite_base.specs.Laws.Segments.{segment_alone, segments_one}
 pub use Rattle.lite_base.specs.Laws.StreamLaws.{laws_of}
 pub use Rattle.lite_base.specs.Ranks.{Below, Lowers, Ranks, ranks_of}
@@ -22,10 +23,9 @@ pub use Rattle.lite_base.specs.StreamLaws.{RunLaws, StreamLaws}
 pub use Rattle.lite_io_base.specs.Counting.{ReadCounting, Falls}
 pub use Rattle.lite_io_base.specs.Laws.Counting.{GivenRun}
 pub use Rattle.lite_io_base.specs.Laws.Lent.{lent_still}
-pub use Rattle.lite_io_base.specs.Laws.Steady.{strip_marks-append}
 pub use Rattle.lite_io_base.specs.Marks.{ReadMark, bytes, fill_marks, filled_marks, given_count, moved_marks}
-pub use Rattle.lite_io_base.specs.Runs.{LendsFront, MarkLaws}
-pub use Rattle.lite_io_base.specs.Steady.{CalmReadLaws, NoPendingRead, SteadyReadLaws, strip_marks}
+pub use Rattle.lite_io_base.specs.Runs.{LendsFront, MarkLaws, without_return}
+pub use Rattle.lite_io_base.specs.Steady.{CalmReadLaws, NoPendingRead, SameByKind, SameOr, SteadyReadLaws, strip_marks}
 pub use Rattle.memchr.specs.Find.{IsFirstByte, is_byte}
 pub use Rattle.std.proofs.Common.{All, Global, add-one, ap, append-nil, append_assoc, arith, cond, eq-eqb, eqb-true}
 pub use Rattle.std.proofs.Common.{false, get_or, inl, inr, le_refl, leb, length-append, length-take-le, not, refl}

@@ -1,9 +1,8 @@
 ghost use Rattle.std.specs.Prelude.{None, ◌∷◌, [], ⊤};
-ghost use Rattle.lite_read.specs.Uses.{ranks_of, NoHint, HoldsWoken, Keeps, OnPending, Registered, Sameness};
+ghost use Rattle.lite_read.specs.Uses.{ranks_of, NoHint, HoldsWoken, Keeps, OnPending, Registered, Sameness, SameByKind};
 ghost use Rattle.lite_io_base.specs.Laws.Runs.{idle_laws};
 ghost use Rattle.lite_io_base.specs.Runs.{Idle};
 ghost use Rattle.lite_read.specs.Bytes.{BytesPend, GivesBytes};
-ghost use Rattle.lite_read.specs.Deterministic.{SameByKind};
 ghost use Rattle.lite_read.specs.Laws.Bytes.{bytes_counting, bytes_laws, inner_calm, inner_counting, inner_laws, inner_steady, bytes_steady};
 
 use lite_base::{Context, Counted, OkCounted, Poll, SteadyStream, Stream};

@@ -1,7 +1,7 @@
 ghost use Rattle.std.specs.Prelude.{◌≡◌, IsSome, IfSome, refl};
 ghost use Rattle.lite_read.specs.FillBuf.{FillsOnce};
-ghost use Rattle.lite_read.specs.Laws.Polled.{fill_calm, polled_laws};
-ghost use Rattle.lite_read.specs.Polled.{PolledByCalls};
+ghost use Rattle.lite_read.specs.Laws.Polled.{fill_calm};
+ghost use Rattle.lite_read.specs.Uses.{polled_laws, PolledByCalls};
 
 use lite_base::{CalmFuture, Context, Future, Poll};
 use lite_io_base::{AsyncBufRead, CalmRead, fill};

@@ -1,12 +1,12 @@
 ghost use Rattle.std.specs.Prelude.{⊤, ◌≡◌, ◌≤◌, ◌<◌, ◌++◌, ◌+◌, [], ◌∷◌, None, length, take, vec_capacity, IfErr, IfOk};
 ghost use Rattle.lite_read.specs.Uses.{is_ascii, error_kind, list_all, OutOfMemory, OneStep, Terminates-map, NoHint, bytes, Keeps, Registered, Sameness};
-ghost use Rattle.lite_read.specs.Deterministic.{SameOr};
+ghost use Rattle.lite_read.specs.Uses.{SameOr, without_return};
 ghost use Rattle.lite_read.specs.Laws.Counting.{flow_counting, flow_ranks, pieces_out};
 ghost use Rattle.lite_read.specs.Laws.DeterministicPieces.{FlowAlike, flow_calm, flow_steady, items_deterministic};
 ghost use Rattle.lite_read.specs.Laws.Marks.{SameText, line_one, text_one};
-ghost use Rattle.lite_read.specs.Laws.PollSteps.{takes_given};
+ghost use Rattle.lite_read.specs.Laws.ReadFold.{takes_given};
 ghost use Rattle.lite_read.specs.Laws.Segments.{flow_counting_laws};
-ghost use Rattle.lite_read.specs.Texts.{IsText, without_return};
+ghost use Rattle.lite_read.specs.Texts.{IsText};
 ghost use Rattle.lite_read.specs.Lines.{GivesLines, LineLacksRoom, lines_over, line_fold};
 ghost use Rattle.lite_read.specs.PollSteps.{TakesPieceIn};
 

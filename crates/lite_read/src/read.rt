@@ -1,5 +1,5 @@
-ghost use Rattle.lite_read.specs.Laws.Polled.{read_calm, polled_laws};
-ghost use Rattle.lite_read.specs.Polled.{PolledByCalls};
+ghost use Rattle.lite_read.specs.Laws.Polled.{read_calm};
+ghost use Rattle.lite_read.specs.Uses.{polled_laws, PolledByCalls};
 ghost use Rattle.lite_read.specs.Read.{Reads};
 
 use lite_base::{CalmFuture, Context, Future, Poll};

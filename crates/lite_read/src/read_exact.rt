@@ -1,7 +1,6 @@
 ghost use Rattle.std.specs.Prelude.{◌≤◌, ◌-◌, [], ◌∷◌, length};
-ghost use Rattle.lite_read.specs.Uses.{OneStep, Sameness};
+ghost use Rattle.lite_read.specs.Uses.{OneStep, Sameness, SameByKind};
 ghost use Rattle.lite_base.specs.Laws.Ranks.{Terminates-count};
-ghost use Rattle.lite_read.specs.Deterministic.{SameByKind};
 ghost use Rattle.lite_read.specs.PollSteps.{ReadsMore};
 ghost use Rattle.lite_read.specs.ReadExact.{ReadsExactly};
 ghost use Rattle.lite_read.specs.Laws.ReadExact.{exact_laws, room_falls, ExactAlike, exact_calm, exact_steady};

@@ -1,13 +1,12 @@
 ghost use Rattle.std.specs.Prelude.{⊤, ◌≡◌, ◌≤◌, ◌<◌, [], ◌++◌, ◌+◌, Ok, true, length, take, IfErr, IfOk, IsUtf8, string_bytes, vec_capacity};
-ghost use Rattle.lite_read.specs.Uses.{is_ascii, error_kind, list_all, OutOfMemory, OneStep, Terminates-map, bytes, Sameness};
-ghost use Rattle.lite_read.specs.Deterministic.{SameByKind};
+ghost use Rattle.lite_read.specs.Uses.{is_ascii, error_kind, list_all, OutOfMemory, OneStep, Terminates-map, bytes, Sameness, SameByKind};
 ghost use Rattle.lite_read.specs.Holding.{TextStays, room_for};
 ghost use Rattle.lite_read.specs.ReadLine.{LineHolds, LineLacksMemory, ReadsLine, ReadsLineByRoom, line_over, read_line_fold};
 ghost use Rattle.lite_read.specs.PollSteps.{AnswersTextByRoom, TakesTextIn};
 ghost use Rattle.lite_read.specs.Texts.{FinishesText};
 ghost use Rattle.lite_read.specs.Laws.Refusals.{room_calm};
 ghost use Rattle.lite_read.specs.Laws.Marks.{until_deterministic};
-ghost use Rattle.lite_read.specs.Laws.PollSteps.{takes_given};
+ghost use Rattle.lite_read.specs.Laws.ReadFold.{takes_given};
 ghost use Rattle.lite_read.specs.Laws.Texts.{TextAlike, text_steady, line_room, text_room_laws};
 
 use crate::find::find_line;

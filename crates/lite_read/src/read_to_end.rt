@@ -1,7 +1,6 @@
 ghost use Rattle.std.specs.Prelude.{◌≡◌, ◌≤◌, ◌<◌, ◌+◌, max, length, vec_capacity, ⊤, OnErr, OnOk};
-ghost use Rattle.lite_read.specs.Uses.{OneStep, Sameness};
+ghost use Rattle.lite_read.specs.Uses.{OneStep, Sameness, SameByKind};
 ghost use Rattle.lite_read.specs.ReadToEnd.{CanAppend, read_front, ReadsToEnd, ReadsToEndByRoom};
-ghost use Rattle.lite_read.specs.Deterministic.{SameByKind};
 ghost use Rattle.lite_read.specs.PollSteps.{AnswersByRoom, ReadsSome};
 ghost use Rattle.lite_read.specs.Laws.Refusals.{room_calm};
 ghost use Rattle.lite_read.specs.Laws.ReadToEnd.{some_falls, steps_on, to_end_room_laws, ToEndAlike, to_end_steady};

@@ -1,12 +1,11 @@
 ghost use Rattle.std.specs.Prelude.{⊤, ◌≡◌, ◌≤◌, ◌<◌, ◌+◌, max, length, take, OnErr, OnOk, string_bytes};
-ghost use Rattle.lite_read.specs.Uses.{OneStep, Sameness, Terminates-map, bytes};
-ghost use Rattle.lite_read.specs.Deterministic.{SameByKind};
+ghost use Rattle.lite_read.specs.Uses.{OneStep, Sameness, Terminates-map, bytes, SameByKind};
 ghost use Rattle.lite_read.specs.Holding.{TextStays, room_for};
 ghost use Rattle.lite_read.specs.ReadToString.{ReadsStringByRoom, StringHolds, StringLacksMemory, all_over, ReadsToString, read_to_string_fold, text_front};
 ghost use Rattle.lite_read.specs.PollSteps.{AnswersTextByRoom, TakesTextIn};
 ghost use Rattle.lite_read.specs.Texts.{FinishesText};
 ghost use Rattle.lite_read.specs.Laws.Refusals.{room_calm};
-ghost use Rattle.lite_read.specs.Laws.PollSteps.{takes_given};
+ghost use Rattle.lite_read.specs.Laws.ReadFold.{takes_given};
 ghost use Rattle.lite_read.specs.Laws.ReadToEnd.{appends_deterministic};
 ghost use Rattle.lite_read.specs.Laws.Texts.{TextAlike, text_steady, string_room, text_room_laws};
 

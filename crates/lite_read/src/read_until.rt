@@ -1,11 +1,10 @@
 ghost use Rattle.std.specs.Prelude.{⊤, ◌≤◌, [], ◌∷◌, length};
-ghost use Rattle.lite_read.specs.Uses.{OneStep, Sameness, Terminates-map, bytes};
-ghost use Rattle.lite_read.specs.Deterministic.{SameByKind};
+ghost use Rattle.lite_read.specs.Uses.{OneStep, Sameness, Terminates-map, bytes, SameByKind};
 ghost use Rattle.lite_read.specs.PollSteps.{AppendsMore};
 ghost use Rattle.lite_read.specs.ReadUntil.{ReadsUntil, ReadsUntilByRoom, UntilLacksRoom};
 ghost use Rattle.lite_read.specs.Laws.Refusals.{room_calm};
 ghost use Rattle.lite_read.specs.Laws.Marks.{UntilAlike, until_steady};
-ghost use Rattle.lite_read.specs.Laws.PollSteps.{takes_given};
+ghost use Rattle.lite_read.specs.Laws.ReadFold.{takes_given};
 ghost use Rattle.lite_read.specs.Laws.ReadUntil.{stays_within, until_room_laws};
 
 use crate::append::append;

@@ -1,6 +1,6 @@
 ghost use Rattle.std.specs.Prelude.{IsSome, refl};
-ghost use Rattle.lite_read.specs.Laws.Polled.{vectored_calm, polled_laws};
-ghost use Rattle.lite_read.specs.Polled.{PolledByCalls};
+ghost use Rattle.lite_read.specs.Laws.Polled.{vectored_calm};
+ghost use Rattle.lite_read.specs.Uses.{polled_laws, PolledByCalls};
 ghost use Rattle.lite_read.specs.ReadVectored.{ReadsVectored};
 
 use lite_base::{CalmFuture, Context, Future, Poll};

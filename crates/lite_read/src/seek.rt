@@ -1,5 +1,4 @@
-ghost use Rattle.lite_read.specs.Laws.Polled.{polled_laws};
-ghost use Rattle.lite_read.specs.Polled.{PolledByCalls};
+ghost use Rattle.lite_read.specs.Uses.{polled_laws, PolledByCalls};
 ghost use Rattle.lite_read.specs.Seek.{Seeks};
 
 use lite_base::{Context, Future, Poll};

@@ -1,8 +1,8 @@
 //! Bytes that become text.
 ghost use Rattle.std.specs.Prelude.{◌≡◌, ◌≤◌, ◌<◌, ◌+◌, ◌++◌, [], true, length, vec_capacity, IfErr, IfOk, IsUtf8, OnErr, OnOk};
-ghost use Rattle.lite_read.specs.Uses.{is_ascii, error_kind, list_all, OutOfMemory};
+ghost use Rattle.lite_read.specs.Uses.{is_ascii, error_kind, list_all, OutOfMemory, without_return};
 ghost use Rattle.lite_read.specs.Pieces.{AtEnd};
-ghost use Rattle.lite_read.specs.Texts.{IsText, without_return};
+ghost use Rattle.lite_read.specs.Texts.{IsText};
 
 use simdutf8::basic::from_utf8;
 use std::alloc::{AllocError, Global};

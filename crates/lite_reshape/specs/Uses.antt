@@ -25,10 +25,10 @@ pub use Rattle.lite_base.specs.Segments.{Segment}
 pub use Rattle.lite_base.specs.Steady.{SteadinessBy, SteadyLawsBy, TakesNone}
 pub use Rattle.lite_base.specs.StreamLaws.{PollsOn, RunLaws, StreamLaws}
 pub use Rattle.lite_stream.specs.Cutting.{Cuts}
-pub use Rattle.lite_stream.specs.EachItem.{AtEachItem, MayCallEach, items_in}
+pub use Rattle.lite_base.specs.EachItem.{AtEachItem, MayCallEach, items_in}
 pub use Rattle.lite_stream.specs.Laws.Agreeing.{AgreeingOver, through_alike, through_steady_over}
 pub use Rattle.lite_stream.specs.Laws.Calming.{Calming, through_calm}
-pub use Rattle.lite_stream.specs.Laws.EachItem.{each_along, each_asked, each_here}
+pub use Rattle.lite_base.specs.Laws.EachItem.{each_along, each_asked, each_here}
 pub use Rattle.lite_stream.specs.Laws.Placed.{PlacedFrom, placed_from_same}
 pub use Rattle.lite_stream.specs.Laws.Through.{AlsoBefore, Entails, Following, Relating, laws_following, through_on}
 pub use Rattle.lite_stream.specs.Laws.Through.{laws_unhinted, through_counting, through_runs}

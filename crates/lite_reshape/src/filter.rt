@@ -1,7 +1,7 @@
 ghost use Rattle.std.specs.Prelude.{Option, ℕ, ◌≡◌, []};
 ghost use Rattle.lite_reshape.specs.Uses.{ranks_of, CalledAt, Terminates-map, Accepts, through_counting, ok_counting, AgreeFrom, SameItem};
 ghost use Rattle.lite_reshape.specs.Uses.{through_calm, through_steady_over};
-ghost use Rattle.lite_stream.specs.EachItem.{MayShowEach};
+ghost use Rattle.lite_base.specs.EachItem.{MayShowEach};
 ghost use Rattle.lite_stream.specs.Laws.Pointwise.{asks_testing};
 ghost use Rattle.lite_stream.specs.Laws.Through.{laws_capped};
 ghost use Rattle.lite_reshape.specs.Filter.{CanFilter, Filters, filter_parts};
@@ -37,7 +37,7 @@ impl<S: Counted<Item: Drop>, P: FnMut(&S::Item) -> bool> PollSteps for Filter<S,
 
     ghost finite = { λ x c. Terminates-map (λ m. m.stream) (λ m n h. (h.1.0, [], h.1.1)) x (S.ends x.stream c.1) };
 
-    #[tactic(auto, using(lite_stream::specs::Laws::EachItem::each_rules))]
+    #[tactic(auto, using(lite_base::specs::Laws::EachItem::each_rules))]
     fn poll_step(&mut self, cx: &mut Context<'_>) -> Option<Poll<Option<S::Item>>> {
         match self.stream.poll_next(cx) {
             Poll::Ready(Some(item)) => {

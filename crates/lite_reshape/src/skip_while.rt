@@ -36,7 +36,7 @@ impl<S: Counted<Item: Drop>, P: FnMut(&S::Item) -> bool + Drop> PollSteps for Sk
 
     ghost finite = { λ x c. Terminates-map (λ m. m.stream) (λ m n h. (h.1.0, [], h.1.1)) x (S.ends x.stream c.1) };
 
-    #[tactic(auto, using(lite_stream::specs::Laws::EachItem::each_rules))]
+    #[tactic(auto, using(lite_base::specs::Laws::EachItem::each_rules))]
     fn poll_step(&mut self, cx: &mut Context<'_>) -> Option<Poll<Option<S::Item>>> {
         match self.stream.poll_next(cx) {
             Poll::Ready(Some(item)) => match &mut self.predicate {

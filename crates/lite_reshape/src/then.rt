@@ -58,7 +58,7 @@ impl<S: Stream, F: FnMut(S::Item) -> Fut, Fut: Future + Drop> Stream for Then<S,
 
     ghost laws = { then_laws F.FnMut S.laws Fut.laws };
 
-    #[tactic(auto, using(lite_stream::specs::Laws::EachItem::each_rules))]
+    #[tactic(auto, using(lite_base::specs::Laws::EachItem::each_rules))]
     fn poll_next(&mut self, cx: &mut Context<'_>) -> Poll<Option<Fut::Output>> {
         match &mut self.future {
             Some(future) => {

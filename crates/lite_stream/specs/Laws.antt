@@ -1,7 +1,6 @@
 pub mod Agreeing
 pub mod Calming
 pub mod Cutting
-pub mod EachItem
 pub mod Fuse
 pub mod Held
 pub mod Placed

@@ -1,6 +1,5 @@
 pub mod Copied
 pub mod Cutting
-pub mod EachItem
 pub mod Enumerate
 pub mod Fuse
 pub mod Inspect

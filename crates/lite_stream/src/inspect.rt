@@ -1,6 +1,5 @@
 ghost use Rattle.std.specs.Prelude.{⊤, None};
-ghost use Rattle.lite_stream.specs.Uses.{ranks_of, NoHint, CalledAt, ok_counting};
-ghost use Rattle.lite_stream.specs.EachItem.{MayShowEach};
+ghost use Rattle.lite_stream.specs.Uses.{ranks_of, NoHint, CalledAt, ok_counting, MayShowEach};
 ghost use Rattle.lite_stream.specs.Inspect.{Inspects, ShowsItem, inspect_parts};
 ghost use Rattle.lite_stream.specs.Laws.Agreeing.{through_steady_over, shows_match};
 ghost use Rattle.lite_stream.specs.Laws.Calming.{through_calm};
@@ -32,7 +31,7 @@ impl<S: Stream, F: FnMut(&S::Item)> Stream for Inspect<S, F> {
     ghost laws = { laws_unhinted inspect_parts S.laws (replaces_relating (ShowsItem (CalledAt F.FnMut)))
         (exchanges_on _ (CalledAt F.FnMut) (asks_showing _) inspect_parts S.laws) };
 
-    #[tactic(auto, using(crate::specs::Laws::EachItem::each_rules))]
+    #[tactic(auto, using(lite_base::specs::Laws::EachItem::each_rules))]
     fn poll_next(&mut self, cx: &mut Context<'_>) -> Poll<Option<S::Item>> {
         match ready!(self.stream.poll_next(cx)) {
             Some(item) => {

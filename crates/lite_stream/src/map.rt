@@ -1,5 +1,4 @@
-ghost use Rattle.lite_stream.specs.Uses.{ranks_of, Calls, ok_counting, AgreeOver, Answering};
-ghost use Rattle.lite_stream.specs.EachItem.{MayCallEach};
+ghost use Rattle.lite_stream.specs.Uses.{ranks_of, Calls, ok_counting, AgreeOver, Answering, MayCallEach};
 ghost use Rattle.lite_stream.specs.Map.{Maps, map_parts};
 ghost use Rattle.lite_stream.specs.Laws.Agreeing.{through_steady_over};
 ghost use Rattle.lite_stream.specs.Laws.Calming.{through_calm};
@@ -31,7 +30,7 @@ impl<U, S: Stream, F: FnMut(S::Item) -> U> Stream for Map<S, F> {
     ghost laws = { laws_hinted map_parts S.laws (replaces_relating (Calls F.FnMut))
         (exchanges_on _ (Calls F.FnMut) (asks_always _) map_parts S.laws) };
 
-    #[tactic(auto, using(crate::specs::Laws::EachItem::each_rules))]
+    #[tactic(auto, using(lite_base::specs::Laws::EachItem::each_rules))]
     fn poll_next(&mut self, cx: &mut Context<'_>) -> Poll<Option<U>> {
         match ready!(self.stream.poll_next(cx)) {
             Some(x) => Poll::Ready(Some((self.f)(x))),

@@ -1,6 +1,5 @@
 ghost use Rattle.std.specs.Prelude.{None};
-ghost use Rattle.lite_stream.specs.Uses.{ranks_of, Calls, NoHint, ok_counting, AgreeKeeping, Keeping};
-ghost use Rattle.lite_stream.specs.EachItem.{MayCallEach};
+ghost use Rattle.lite_stream.specs.Uses.{ranks_of, Calls, NoHint, ok_counting, AgreeKeeping, Keeping, MayCallEach};
 ghost use Rattle.lite_stream.specs.MapWhile.{MapsWhile, map_while_parts};
 ghost use Rattle.lite_stream.specs.Laws.Agreeing.{through_steady_over};
 ghost use Rattle.lite_stream.specs.Laws.Calming.{through_calm};
@@ -34,7 +33,7 @@ impl<B, S: Stream, F: FnMut(S::Item) -> Option<B>> Stream for MapWhile<S, F> {
     ghost laws = { laws_unhinted map_while_parts S.laws (exchanges_relating (Calls F.FnMut))
         (exchanges_on (Calls F.FnMut) _ (λ p q x y c. (y, c)) map_while_parts S.laws) };
 
-    #[tactic(auto, using(crate::specs::Laws::EachItem::each_rules))]
+    #[tactic(auto, using(lite_base::specs::Laws::EachItem::each_rules))]
     fn poll_next(&mut self, cx: &mut Context<'_>) -> Poll<Option<B>> {
         match ready!(self.stream.poll_next(cx)) {
             Some(item) => Poll::Ready((self.f)(item)),

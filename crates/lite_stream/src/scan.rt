@@ -1,6 +1,6 @@
 ghost use Rattle.std.specs.Prelude.{None};
 ghost use Rattle.lite_stream.specs.Uses.{ranks_of, CallsWith, NoHint, ok_counting, AgreeKeeping, Keeping};
-ghost use Rattle.lite_stream.specs.EachItem.{MayCallEachWith};
+ghost use Rattle.lite_base.specs.EachItem.{MayCallEachWith};
 ghost use Rattle.lite_stream.specs.Scan.{Scans, scan_parts};
 ghost use Rattle.lite_stream.specs.Laws.Agreeing.{through_steady_over};
 ghost use Rattle.lite_stream.specs.Laws.Calming.{through_calm};
@@ -34,7 +34,7 @@ impl<St, B, S: Stream, F: FnMut(&mut St, S::Item) -> Option<B>> Stream for Scan<
     ghost laws = { laws_unhinted scan_parts S.laws (exchanges_relating (CallsWith F.FnMut))
         (exchanges_on (CallsWith F.FnMut) _ (λ p q x y c. (y, c)) scan_parts S.laws) };
 
-    #[tactic(auto, using(crate::specs::Laws::EachItem::each_rules))]
+    #[tactic(auto, using(lite_base::specs::Laws::EachItem::each_rules))]
     fn poll_next(&mut self, cx: &mut Context<'_>) -> Poll<Option<B>> {
         match ready!(self.stream.poll_next(cx)) {
             Some(item) => Poll::Ready((self.f)(&mut self.state, item)),

@@ -1,6 +1,5 @@
 ghost use Rattle.std.specs.Prelude.{◌≡◌, None};
-ghost use Rattle.lite_stream.specs.Uses.{ranks_of, CalledAt, Accepts, NoHint, ok_counting, SameItem, AgreeFrom};
-ghost use Rattle.lite_stream.specs.EachItem.{MayShowEach};
+ghost use Rattle.lite_stream.specs.Uses.{ranks_of, CalledAt, Accepts, NoHint, ok_counting, SameItem, AgreeFrom, MayShowEach};
 ghost use Rattle.lite_stream.specs.TakeWhile.{TakesWhile, take_while_parts};
 ghost use Rattle.lite_stream.specs.Laws.Agreeing.{through_steady_over};
 ghost use Rattle.lite_stream.specs.Laws.Calming.{through_calm};
@@ -34,7 +33,7 @@ impl<S: Stream<Item: Drop>, P: FnMut(&S::Item) -> bool> Stream for TakeWhile<S, 
     ghost laws = { laws_unhinted take_while_parts S.laws (exchanges_relating (Accepts (CalledAt P.FnMut)))
         (exchanges_on _ (CalledAt P.FnMut) (asks_testing _) take_while_parts S.laws) };
 
-    #[tactic(auto, using(crate::specs::Laws::EachItem::each_rules))]
+    #[tactic(auto, using(lite_base::specs::Laws::EachItem::each_rules))]
     fn poll_next(&mut self, cx: &mut Context<'_>) -> Poll<Option<S::Item>> {
         match ready!(self.stream.poll_next(cx)) {
             Some(item) if (self.predicate)(&item) => Poll::Ready(Some(item)),

@@ -10,9 +10,9 @@ use Rattle.lite_io_base.specs.Runs.{StandsFirst}
 use Rattle.lite_read.specs.ReadExact.{Filling, filling_of, Fulfils, ReadsExactly, fills}
 use Rattle.lite_read.specs.Laws.Deterministic.{past_pending, past_value}
 use Rattle.lite_read.specs.Laws.ReadExact.{filled_by}
-use Rattle.lite_read.specs.Laws.Told.{told_follow, told_none}
+use Rattle.lite_io_base.specs.Laws.Told.{told_follow, told_none}
 use Rattle.lite_read.specs.Pieces.{CutsPiece}
-use Rattle.lite_read.specs.Polled.{PolledByCalls}
+use Rattle.lite_base.specs.FutureLaws.{PolledByCalls}
 use Rattle.lite_read.specs.Read.{Reads}
 use Rattle.lite_read.specs.ReadFold.{AnswerMarks, Gathers, ReadFold, ReadFolds}
 use Rattle.lite_read.specs.ReadUntil.{CountsPiece, ReadsUntilByRoom, UntilLacksRoom, until, read_of}

@@ -29,13 +29,14 @@ pub use Rattle.lite_io_base.specs.Steady.{NoPendingRead, strip_marks}
 pub use Rattle.lite_io_base.specs.WriteMarks.{TakesFront, WriteMark, bytes_taken}
 pub use Rattle.lite_merge.specs.declared.or.Or.{Or}
 pub use Rattle.lite_merge.specs.declared.race.Race.{Race}
-pub use Rattle.lite_read.specs.Deterministic.{SameByKind}
-pub use Rattle.lite_read.specs.Texts.{without_return}
+pub use Rattle.lite_io_base.specs.Steady.{SameByKind}
+pub use Rattle.lite_io_base.specs.Runs.{without_return}
 pub use Rattle.lite_read.specs.Lines.{line_fold}
 pub use Rattle.lite_read.specs.Pieces.{Cut}
 pub use Rattle.lite_read.specs.ReadToEnd.{Appended, next_read}
 pub use Rattle.lite_read.specs.Segments.{PieceSegments}
-pub use Rattle.lite_read.specs.Told.{FillsUp, PieceTold, PieceWithin, ToldStripped, VectorLacksRoom}
+pub use Rattle.lite_read.specs.Told.{FillsUp, PieceTold, PieceWithin, VectorLacksRoom}
+pub use Rattle.lite_io_base.specs.Steady.{ToldStripped}
 pub use Rattle.lite_stream.specs.declared.fuse.Fuse.{Fuse}
 pub use Rattle.lite_write.specs.Copy.{CopyRuns, NothingCopied, source_of}
 pub use Rattle.lite_write.specs.Handed.{FlushedUp, HandedUp, OnlyWrites}

@@ -1,7 +1,7 @@
 -- A closure that calls leave as it is may be asked about each item, where it may be asked about those of the list.
 use Rattle.std.specs.Prelude.{◌≡◌, List, [], ◌∷◌, ◌++◌, refl, Some}
 use Rattle.lite_views.specs.Uses.{sym, subst, AllByRecursion, FoldsTo, Ready, Answer, item, Question, Runs, items_in}
-use Rattle.lite_stream.specs.EachItem.{AtEachItem}
+use Rattle.lite_base.specs.EachItem.{AtEachItem}
 use Rattle.lite_views.specs.Lists.{Front}
 
 last_all : {A : Type 0} (P : A → Type 0) (ins : List (Answer A)) (x : A) (rest : List A)

@@ -8,7 +8,7 @@ use Rattle.lite_io_base.specs.Marks.{moved_marks, read_marks}
 use Rattle.lite_io_base.specs.Runs.{MarkLaws}
 use Rattle.lite_io_base.specs.Stored.{Arrives}
 use Rattle.lite_io_base.specs.WriteMarks.{done_marks, write_marks}
-use Rattle.lite_read.specs.Polled.{PolledByCalls}
+use Rattle.lite_base.specs.FutureLaws.{PolledByCalls}
 use Rattle.lite_read.specs.Read.{Reads}
 use Rattle.lite_read.specs.declared.read.ReadFuture.{ReadFuture}
 use Rattle.lite_write.specs.Close.{Closes}

@@ -56,7 +56,7 @@ pub use Rattle.lite_source.specs.Iter.{Iterates}
 pub use Rattle.lite_source.specs.Script.{GivesScript}
 pub use Rattle.lite_source.specs.declared.iter.Iter.{Iter}
 pub use Rattle.lite_stream.specs.Cutting.{Cuts}
-pub use Rattle.lite_stream.specs.EachItem.{items_in}
+pub use Rattle.lite_base.specs.EachItem.{items_in}
 pub use Rattle.lite_stream.specs.Fuse.{AllEnds, FusesOn}
 pub use Rattle.lite_stream.specs.Pointwise.{Exchanges, Replaces}
 pub use Rattle.lite_stream.specs.Take.{is_none_left, left_after}

@@ -21,10 +21,10 @@ pub use Rattle.lite_io_base.specs.Marks.{ReadMark, bytes}
 pub use Rattle.lite_io_base.specs.Runs.{MarkLaws}
 pub use Rattle.lite_io_base.specs.Steady.{CalmWriteLaws, NoPendingWrite}
 pub use Rattle.lite_io_base.specs.WriteMarks.{WriteMark, bytes_taken, done_marks, write_marks}
-pub use Rattle.lite_read.specs.Deterministic.{SameByKind}
-pub use Rattle.lite_read.specs.Laws.PollSteps.{idle_join}
-pub use Rattle.lite_read.specs.Laws.Polled.{polled_laws, polled_one}
-pub use Rattle.lite_read.specs.Polled.{PolledByCalls}
+pub use Rattle.lite_io_base.specs.Steady.{SameByKind}
+pub use Rattle.lite_base.specs.Laws.FutureLaws.{idle_join}
+pub use Rattle.lite_base.specs.Laws.FutureLaws.{polled_laws, polled_one}
+pub use Rattle.lite_base.specs.FutureLaws.{PolledByCalls}
 pub use Rattle.std.proofs.Common.{ap, append-nil, append_assoc, arith, length-append, refl, rules, subst, sym, ◌∙◌}
 pub use Rattle.std.proofs.lemmas.Grind.{common_steps}
 pub use Rattle.std.specs.Io.Slices.{io_slices_bytes}

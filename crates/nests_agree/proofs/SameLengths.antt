@@ -8,7 +8,7 @@ use Rattle.lite_base.specs.Runs.{Question}
 use Rattle.lite_base.specs.declared.future.ready.Ready.{Ready}
 use Rattle.nests_agree.specs.Lengths.{IsLength, IsTested, WillGiveLength}
 use Rattle.lite_read.specs.Laws.Marks.{SameText}
-use Rattle.lite_read.specs.Deterministic.{SameByKind, SameOr}
+use Rattle.lite_io_base.specs.Steady.{SameByKind, SameOr}
 
 same_length : (x w : Result (String Global) Error) (y z : Result ℕ Error) → SameOr SameText x w → IsLength x y
     → IsLength w z → SameByKind y z

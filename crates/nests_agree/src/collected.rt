@@ -3,7 +3,7 @@
 ghost use Rattle.lite_base.specs.Alike.{SameList};
 ghost use Rattle.lite_gather.specs.Agreeing.{SameCollected, TrySameCollected};
 ghost use Rattle.lite_read.specs.Laws.Marks.{SameText};
-ghost use Rattle.lite_read.specs.Deterministic.{SameByKind, SameOr};
+ghost use Rattle.lite_io_base.specs.Steady.{SameByKind, SameOr};
 ghost use Rattle.nests_agree.specs.Lines.{AmpleUnrefused, EachFound, WasFound};
 ghost use Rattle.std.specs.IoError.{error_kind};
 ghost use Rattle.std.specs.List.{AllZip};

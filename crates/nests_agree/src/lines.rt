@@ -6,7 +6,7 @@ ghost use Rattle.nests_agree.specs.Lengths.{WillGiveLength};
 ghost use Rattle.nests_agree.specs.Lines.{FromLines};
 ghost use Rattle.lite_read.specs.Laws.Marks.{SameText};
 ghost use Rattle.lite_read.specs.NoneRefused.{NoneRefused};
-ghost use Rattle.lite_read.specs.Deterministic.{SameByKind, SameOr};
+ghost use Rattle.lite_io_base.specs.Steady.{SameByKind, SameOr};
 ghost use Rattle.nests_agree.specs.Both.{Begins, BothAppended};
 
 use crate::both::{TwoRuns, both_appended};

@@ -1,7 +1,7 @@
 //! What two readers that are alike give, through a buffer, before some bytes, up to a number of bytes.
 ghost use Rattle.std.specs.Prelude.{◌≡◌, ◌++◌, ℕ, List, IfOk};
 ghost use Rattle.lite_theorems.specs.BothReaders.{HasReadMemory};
-ghost use Rattle.lite_read.specs.Deterministic.{SameByKind};
+ghost use Rattle.lite_io_base.specs.Steady.{SameByKind};
 
 use lite_buffered::BufReader;
 use lite_buffered::make::{chain, take};

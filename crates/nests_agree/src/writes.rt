@@ -1,7 +1,7 @@
 //! What two writers that are alike leave below, through a buffer; and copies to them.
 ghost use Rattle.std.specs.Prelude.{◌≡◌, IfOk, IsOk};
 ghost use Rattle.lite_buffered.specs.BufWriter.{unwritten, writer_inner};
-ghost use Rattle.lite_read.specs.Deterministic.{SameByKind};
+ghost use Rattle.lite_io_base.specs.Steady.{SameByKind};
 
 use lite_buffered::BufWriter;
 use lite_buffered::make::chain;

@@ -19,3 +19,10 @@ pub Reaches-back : {S : Type 0} {next : S → S → Type 0} (P : S → Type 0) �
     → (x y : S) → Reaches next x y → P y → P x
 Reaches-back P law x y Reaches.stay p = p
 Reaches-back P law x y (Reaches.more {y = w} q s) p = Reaches-back P law x w q (law w y s p)
+
+-- If one step before a poll result can be merged into it, then any number of steps can.
+pub steps_answer : {X A : Type 0} {steps : X → X → Type 0} {answers : X → A → X → Type 0}
+    → ((x y z : X) (a : A) → steps x y → answers y a z → answers x a z)
+    → {x z : X} {a : A} → (y : X) × Reaches steps x y × answers y a z → answers x a z
+steps_answer {answers} before {x} {z} {a} (y, goes, last) =
+    Reaches-back (λ v. answers v a z) (λ v w. before v w z a) x y goes last

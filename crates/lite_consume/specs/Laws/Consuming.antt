@@ -11,7 +11,7 @@ use Rattle.lite_base.specs.Laws.FutureLaws.{future_laws_of}
 use Rattle.lite_base.specs.Laws.Segments.{answers_by, to_value_join}
 use Rattle.lite_base.specs.Laws.StreamLaws.{runs_of}
 use Rattle.lite_base.specs.StreamLaws.{RunLaws}
-use Rattle.lite_stream.specs.Laws.EachItem.{each_along}
+use Rattle.lite_base.specs.Laws.EachItem.{each_along}
 use Rattle.std.specs.List.{AllByRecursion}
 use Rattle.lite_consume.specs.Consume.{Returns, CanFold, Folds}
 use Rattle.lite_consume.specs.Agreeing.{WithinWhere}

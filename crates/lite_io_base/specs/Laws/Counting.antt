@@ -1,11 +1,11 @@
 -- What follows from the laws of a counted reader's rank.
-use Rattle.std.specs.Prelude.{◌≡◌, ℕ, zero, suc, ◌+◌, List, [], ◌∷◌, ◌++◌, length, refl}
+use Rattle.std.specs.Prelude.{◌≡◌, ◌<◌, ℕ, zero, suc, ◌+◌, List, [], ◌∷◌, ◌++◌, length, refl}
 use Rattle.lite_io_base.specs.Uses.{inl, arith, ap, replicate, length-replicate, Terminates, AtMost, Below, Runs, Ranks, number_ranks}
 use Rattle.lite_base.specs.Laws.Ranks.{AtMost-both, AtMost-length, Below-after, Below-first, Below-trans, at_most_one, ranked_ends}
 use Rattle.std.proofs.Common.{inr, zero-add}
 use Rattle.lite_io_base.specs.Counting.{Falls, ReadCounting}
-use Rattle.lite_io_base.specs.Marks.{AllGiven, ReadMark, given_count}
-use Rattle.lite_io_base.specs.Laws.Marks.{given_all}
+use Rattle.lite_io_base.specs.Marks.{AllGiven, ReadMark, bytes, given_count}
+use Rattle.lite_io_base.specs.Laws.Marks.{bytes_given, given_all}
 
 -- What follows if reading lowers a rank.
 
@@ -20,6 +20,12 @@ falls_of_below (suc n) xs ys h = h
 -- A run of at least one byte or error, and of no other marks.
 abbrev pub GivenRun : {S : Type 0} → Runs ReadMark S → S → S → Type 0
 GivenRun run x y = (m : ReadMark) × (more : List ReadMark) × AllGiven (m ∷ more) × run x (m ∷ more) y
+
+-- A step that consumes at least one byte is a run of bytes.
+pub given_of : {S : Type 0} (reads : Runs ReadMark S) (s t : S) (xs : List ℕ) → 0 < length xs → reads s (bytes xs) t
+    → GivenRun reads s t
+given_of reads s t [] some h = absurd (omega (arith, some))
+given_of reads s t (x ∷ xs) some h = (ReadMark.byte x, bytes xs, bytes_given (x ∷ xs), h)
 
 module _ {S : Type 0} (run : Runs ReadMark S) (counts : S → Type 0) (rank : S → List ℕ)
     (kept : (x y : S) (l : List ReadMark) → counts x → run x l y → counts y)

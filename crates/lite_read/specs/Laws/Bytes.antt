@@ -4,7 +4,7 @@ use Rattle.lite_read.specs.Uses.{suc, refl, ap, subst, add-one, Error, Ready, Pe
 use Rattle.lite_read.specs.Uses.{Ranks, ranks_of, RunLaws, StreamLaws, laws_of, NoHint, Runs, ReadCounting, Falls}
 use Rattle.lite_read.specs.Uses.{ReadMark, given_count, MarkLaws, CalmReadLaws, SteadyReadLaws, ◌∙◌, inl, inr, sym}
 use Rattle.lite_read.specs.Uses.{error_kind, ErrorKind, Interrupted, OptionBy, Sameness, Comparable, ComparableBy}
-use Rattle.lite_read.specs.Uses.{strip, SteadyLawsBy, strip_marks}
+use Rattle.lite_read.specs.Uses.{strip, SteadyLawsBy, strip_marks, idle_join, SameByKind}
 use Rattle.lite_base.specs.Laws.Calm.{calm_part}
 use Rattle.lite_base.specs.Laws.Ranks.{Lowers-below}
 use Rattle.lite_base.specs.Laws.StreamLaws.{same_hint}
@@ -12,10 +12,8 @@ use Rattle.lite_base.specs.Ranks.{Counting}
 use Rattle.lite_io_base.specs.Laws.Lent.{counting_part}
 use Rattle.lite_io_base.specs.Marks.{AllGiven}
 use Rattle.lite_read.specs.Bytes.{GivesBytes, GivesEach}
-use Rattle.lite_read.specs.Laws.PollSteps.{idle_join}
 use Rattle.lite_read.specs.declared.bytes.Bytes.{Bytes}
 use Rattle.lite_base.specs.Laws.Alike.{comparable_nil}
-use Rattle.lite_read.specs.Deterministic.{SameByKind}
 
 tells_join : (i j : List ReadMark) (l m : List (Answer (Result ℕ Error))) → GivesEach i l → GivesEach j m
     → GivesEach (i ++ j) (l ++ m)

@@ -1,14 +1,15 @@
 -- The values that a deterministic fold makes of marks do not depend on their `Pending`s.
 use Rattle.std.specs.Prelude.{◌≡◌, ℕ, List, [], ◌∷◌, ◌++◌, Result, Ok, Err}
 use Rattle.lite_read.specs.Uses.{refl, subst, append_assoc, map-append, FoldsTo, Poll, Ready, Pending, Comparable}
-use Rattle.lite_read.specs.Uses.{ComparableBy, strip, NoPending, Runs, Segments, ReadMark, bytes, CalmReadLaws}
-use Rattle.lite_read.specs.Uses.{NoPendingRead, SteadyReadLaws, strip_marks, strip_marks-append, inl, inr, ◌∙◌, sym, ap, Error}
+use Rattle.lite_read.specs.Uses.{ComparableBy, strip, Runs, Segments, ReadMark, bytes, CalmReadLaws}
+use Rattle.lite_read.specs.Uses.{NoPendingRead, SteadyReadLaws, strip_marks, inl, inr, ◌∙◌, sym, ap, Error, SameByKind}
+use Rattle.lite_base.specs.Calm.{NoPending}
 use Rattle.lite_base.specs.Laws.Calling.{folds_follow}
 use Rattle.lite_base.specs.Laws.Segments.{segment_front}
 use Rattle.lite_io_base.specs.Laws.Steady.{comparable_fronts, comparable_rest, comparable_swapped, no_wait_parts}
-use Rattle.lite_io_base.specs.Laws.Steady.{strip_marks-bytes, stripped_no_pending}
+use Rattle.lite_io_base.specs.Laws.Steady.{strip_marks-append, strip_marks-bytes, stripped_no_pending}
 use Rattle.lite_read.specs.ReadFold.{AnswerMarks, ReadFold, Segmented}
-use Rattle.lite_read.specs.Deterministic.{IsDeterministic, MarkValues, SameByKind}
+use Rattle.lite_read.specs.Deterministic.{IsDeterministic, MarkValues}
 use Rattle.lite_read.specs.Texts.{AppendsText, Reading, ValueOf, in_text}
 
 -- If the marks are some bytes and then a `Pending`, the marks without `Pending`s begin with these bytes, and the rest

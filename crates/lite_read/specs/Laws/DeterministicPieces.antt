@@ -1,10 +1,10 @@
 -- The pieces that are cut out of marks do not depend on their `Pending`s.
 use Rattle.std.specs.Prelude.{⊤, ◌≡◌, ◌<◌, ℕ, List, [], ◌∷◌, Option, Some, None, Result, length}
 use Rattle.lite_read.specs.Uses.{◌∙◌, inl, inr, refl, ap, sym, arith, error_kind, Error, ErrorKind, OptionBy, Sameness, CalmLaws, SteadyLawsBy, Runs}
-use Rattle.lite_read.specs.Uses.{ReadMark, CalmReadLaws, SteadyReadLaws}
+use Rattle.lite_read.specs.Uses.{ReadMark, CalmReadLaws, SteadyReadLaws, SameOr}
 use Rattle.lite_read.specs.ReadFold.{ReadFold}
 use Rattle.lite_read.specs.Laws.Deterministic.{GivenBy, TakenAt, deterministic_by, segmented_alike, segmented_calm}
-use Rattle.lite_read.specs.Deterministic.{IsDeterministic, SameOr}
+use Rattle.lite_read.specs.Deterministic.{IsDeterministic}
 use Rattle.lite_read.specs.Laws.Segments.{flow_runs}
 use Rattle.lite_read.specs.Pieces.{Cut, CutsPiece, Itemised, pieces}
 use Rattle.lite_read.specs.Segments.{Flows, StreamOver}

@@ -1,11 +1,10 @@
 -- Laws of futures over a reader.
 use Rattle.std.specs.Prelude.{◌≡◌, List, [], ◌∷◌}
 use Rattle.lite_read.specs.Uses.{refl, Poll, ComparableBy, strip, CalmLaws, FutureRunLaws, up_to_once, Runs, ReadMark, MarkLaws, CalmReadLaws}
-use Rattle.lite_read.specs.Uses.{SteadyReadLaws}
+use Rattle.lite_read.specs.Uses.{SteadyReadLaws, idle_join}
 use Rattle.lite_base.specs.Laws.Answers.{waiting_up_to}
 use Rattle.lite_read.specs.Deterministic.{IsDeterministic}
 use Rattle.lite_read.specs.Laws.Deterministic.{segmented_alike, segmented_calm}
-use Rattle.lite_read.specs.Laws.PollSteps.{idle_join}
 use Rattle.lite_read.specs.Laws.Segments.{segmented_before, segmented_follow, segmented_none}
 use Rattle.lite_read.specs.PollSteps.{TakesBytes}
 use Rattle.lite_read.specs.ReadFold.{Gathers, ReadFold}

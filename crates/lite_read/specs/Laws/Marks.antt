@@ -1,16 +1,16 @@
 -- The results of `split`, `lines` and `read_until` do not depend on when their reader was pending, if no allocation
 -- failed.
 use Rattle.std.specs.Prelude.{◌≡◌, ℕ, List, [], ◌∷◌, ◌++◌, Ok, Err, length, string_bytes}
-use Rattle.lite_read.specs.Uses.{◌∙◌, Global, ap, sym, String, Vec, Sameness, FutureSteadyLawsBy, Runs, ReadMark, SteadyReadLaws}
+use Rattle.lite_read.specs.Uses.{◌∙◌, Global, ap, sym, String, Vec, Sameness, FutureSteadyLawsBy, Runs, ReadMark, SteadyReadLaws, SameByKind, without_return}
 use Rattle.std.proofs.lemmas.Str.{IsUtf8-string_bytes}
 use Rattle.lite_read.specs.Laws.Gathers.{gathers_alike}
-use Rattle.lite_read.specs.Deterministic.{IsDeterministic, SameByKind}
+use Rattle.lite_read.specs.Deterministic.{IsDeterministic}
 use Rattle.lite_read.specs.Laws.ReadUntil.{until_runs}
 use Rattle.lite_read.specs.Laws.DeterministicPieces.{BecomesOne, MakesOne, pieces_deterministic}
 use Rattle.lite_read.specs.Pieces.{Cut}
 use Rattle.lite_read.specs.ReadUntil.{read_of, CountsPiece, ReadsUntil, ReadsUntilByRoom, until}
 use Rattle.lite_read.specs.Split.{IsVec}
-use Rattle.lite_read.specs.Texts.{IsText, without_return}
+use Rattle.lite_read.specs.Texts.{IsText}
 use Rattle.lite_read.specs.declared.read_until.ReadUntilFuture.{ReadUntilFuture}
 
 -- Two vectors have equal bytes.

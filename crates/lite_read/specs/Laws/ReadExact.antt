@@ -2,13 +2,13 @@
 use Rattle.std.specs.Prelude.{◌≡◌, ◌≤◌, ◌<◌, ◌-◌, ℕ, List, [], ◌∷◌, length, Result, ◌++◌, Ok, Err}
 use Rattle.lite_read.specs.Uses.{◌∙◌, refl, ap, arith, append-nil, append_assoc, length-append, length-take, FoldsTo}
 use Rattle.lite_read.specs.Uses.{Error, Poll, FutureLaws, FutureRunLaws, Runs, ReadMark, future_laws_of, MarkLaws}
-use Rattle.lite_read.specs.Uses.{lent_still, sym, CalmLaws, Sameness, FutureSteadyLawsBy, CalmReadLaws, SteadyReadLaws}
+use Rattle.lite_read.specs.Uses.{lent_still, sym, CalmLaws, Sameness, FutureSteadyLawsBy, CalmReadLaws, SteadyReadLaws, SameByKind}
 use Rattle.lite_read.specs.Laws.Gathers.{KeepLaws, gathers_before, gathers_runs, gathers_alike, gathers_calm}
 use Rattle.lite_read.specs.ReadExact.{ExactStays, Filling, filling_of, ReadsExactly, fills, Fulfils}
 use Rattle.lite_read.specs.PollSteps.{ReadsMore}
 use Rattle.lite_read.specs.declared.read_exact.ReadExactFuture.{ReadExactFuture}
 use Rattle.lite_read.specs.Laws.Deterministic.{GivenBy, TakenAt, deterministic_by}
-use Rattle.lite_read.specs.Deterministic.{IsDeterministic, SameByKind}
+use Rattle.lite_read.specs.Deterministic.{IsDeterministic}
 
 -- The bytes consumed are those appended to the filled part, and the buffer's length stays.
 pub filled_by : (xs : List ℕ) (p q : Filling) → FoldsTo fills.takes p xs q → (q.0 ≡ p.0 ++ xs) × (q.1 ≡ p.1)

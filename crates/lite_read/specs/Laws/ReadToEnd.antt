@@ -3,17 +3,17 @@ use Rattle.std.specs.Prelude.{⊤, ◌≤◌, ◌+◌, ◌-◌, ℕ, List, [], �
 use Rattle.lite_read.specs.Uses.{◌∙◌, refl, ap, sym, arith, length-append, append-nil, append_assoc, length-take-le}
 use Rattle.lite_read.specs.Uses.{FoldsTo, Error, Poll, Terminates-map, FutureLaws, FutureRunLaws, Ranks, Runs}
 use Rattle.lite_read.specs.Uses.{ReadCounting, GivenRun, ReadMark, MarkLaws, future_laws_of, lent_still, Sameness}
-use Rattle.lite_read.specs.Uses.{FutureSteadyLawsBy, SteadyReadLaws}
+use Rattle.lite_read.specs.Uses.{FutureSteadyLawsBy, SteadyReadLaws, SameByKind}
 use Rattle.lite_base.specs.Ranks.{Terminates}
 use Rattle.lite_read.specs.Laws.Gathers.{KeepLaws, gathers_before, gathers_runs, gathers_alike}
 use Rattle.lite_read.specs.ReadToEnd.{CanAppend, ToEndStays, VectorGrows, ReadsToEnd, ReadsToEndByRoom, ToEndLacksRoom, appends, Appended}
 use Rattle.lite_read.specs.Laws.Refusals.{RoomLaws, room_runs, appends_weaker, gathers_weaker}
 use Rattle.lite_read.specs.ReadFold.{ReadFold}
-use Rattle.lite_read.specs.Laws.PollSteps.{takes_given}
+use Rattle.lite_read.specs.Laws.ReadFold.{takes_given}
 use Rattle.lite_read.specs.PollSteps.{AnswersUntrimmed, ReadsSome}
 use Rattle.lite_read.specs.declared.read_to_end.ReadToEndFuture.{ReadToEndFuture}
 use Rattle.lite_read.specs.Laws.Deterministic.{GivenBy, TakenAt, deterministic_by}
-use Rattle.lite_read.specs.Deterministic.{IsDeterministic, SameByKind}
+use Rattle.lite_read.specs.Deterministic.{IsDeterministic}
 
 -- The fold of `read_to_end` can append any bytes.
 pub appends_all : (m : Type 0) (start : ℕ) (g xs : List ℕ) → FoldsTo (appends m start).takes g xs (g ++ xs)

@@ -1,11 +1,11 @@
 -- Laws of streams over a reader.
 use Rattle.std.specs.Prelude.{ℕ, List, [], ◌∷◌, ◌++◌, Option}
 use Rattle.lite_read.specs.Uses.{◌∙◌, refl, FoldsTo, Poll, Reaches, RunLaws, StreamLaws, laws_of, NoHint, Runs, Ranks, ReadCounting, ReadMark, bytes, MarkLaws}
+use Rattle.lite_read.specs.Uses.{idle_join, steps_answer}
 use Rattle.lite_base.specs.Laws.Segments.{segments_join}
 use Rattle.lite_base.specs.StreamLaws.{PollsOn}
 use Rattle.lite_read.specs.ReadFold.{ReadFold}
 use Rattle.lite_read.specs.Laws.ReadFold.{answers_before}
-use Rattle.lite_read.specs.Laws.PollSteps.{idle_join, steps_answer}
 use Rattle.lite_read.specs.Segments.{Flows, Segmented, StreamOver}
 use Rattle.lite_read.specs.PollSteps.{TakesPieceIn}
 

@@ -2,7 +2,7 @@
 use Rattle.std.specs.Prelude.{◌≡◌, ◌+◌, ◌-◌, ℕ, List, [], ◌∷◌, Result, ⊤, string_bytes}
 use Rattle.lite_read.specs.Uses.{refl, ap, arith, FoldsTo, Error, Poll, FutureLaws, FutureRunLaws, Ranks, ReadCounting}
 use Rattle.lite_read.specs.Uses.{Runs, ReadMark, MarkLaws, future_laws_of, lent_still, Sameness, FutureSteadyLawsBy}
-use Rattle.lite_read.specs.Uses.{SteadyReadLaws}
+use Rattle.lite_read.specs.Uses.{SteadyReadLaws, SameByKind}
 use Rattle.lite_read.specs.ReadFold.{ReadFold}
 use Rattle.lite_read.specs.Laws.Gathers.{KeepLaws, gathers_before, gathers_runs, gathers_alike}
 use Rattle.lite_read.specs.Holding.{TextOver, TextStays}
@@ -13,7 +13,7 @@ use Rattle.lite_read.specs.ReadUntil.{CountsPiece}
 use Rattle.lite_read.specs.declared.read_to_string.ReadToStringFuture.{ReadToStringFuture}
 use Rattle.lite_read.specs.Texts.{ReadsText, ReadsTextByRoom, TextGrows, in_text, reading}
 use Rattle.lite_read.specs.PollSteps.{AnswersText, TakesTextIn}
-use Rattle.lite_read.specs.Deterministic.{IsDeterministic, SameByKind}
+use Rattle.lite_read.specs.Deterministic.{IsDeterministic}
 use Rattle.lite_read.specs.Laws.Deterministic.{text_deterministic}
 
 -- Bytes that the fold consumes leave the text unchanged.

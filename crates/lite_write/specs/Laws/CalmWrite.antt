@@ -1,6 +1,6 @@
 -- The futures of one write, one flush and one close are calm over a calm writer.
 use Rattle.lite_write.specs.Uses.{CalmLaws, Runs, CalmWriteLaws, WriteMark, PolledByCalls, refl, Poll, Ready, Pending, strip, FutureSteadyLaws, done_marks}
-use Rattle.lite_read.specs.Laws.Polled.{calls_calm, polled_runs}
+use Rattle.lite_base.specs.Laws.FutureLaws.{calls_calm, polled_runs}
 use Rattle.lite_write.specs.Close.{Closes}
 use Rattle.lite_write.specs.Flush.{Flushes}
 use Rattle.lite_write.specs.Write.{Writes}

@@ -12,7 +12,7 @@ use Rattle.lite_base.specs.Laws.Chain.{Reaches-back}
 use Rattle.lite_base.specs.Ranks.{Ranks}
 use Rattle.lite_io_base.specs.Counting.{ReadCounting}
 use Rattle.lite_io_base.specs.Laws.Counting.{GivenRun}
-use Rattle.lite_read.specs.Laws.PollSteps.{given_of}
+use Rattle.lite_io_base.specs.Laws.Counting.{given_of}
 use Rattle.std.proofs.Math.Nat.{mod-add-mod}
 use Rattle.std.proofs.lemmas.Grind.{flat_map-append}
 use Rattle.std.proofs.lemmas.List.Elements.{filter-append}

@@ -1,7 +1,7 @@
 use Rattle.nests_agree.proofs.FoundLines.{gathered_found}
 use Rattle.lite_base.specs.Alike.{Sameness}
 use Rattle.lite_read.specs.Laws.Marks.{SameText}
-use Rattle.lite_read.specs.Deterministic.{SameOr}
+use Rattle.lite_io_base.specs.Steady.{SameOr}
 use Rattle.nests_agree.proofs.Found.{both_found, gathered_as, same_items, taken_ample}
 use Rattle.nests_agree.proofs.collected.gathered_lines_agree.Goals as goal
 

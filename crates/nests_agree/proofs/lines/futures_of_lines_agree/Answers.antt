@@ -1,7 +1,7 @@
 use Rattle.std.proofs.Common.{rules, refl}
 use Rattle.lite_base.specs.Laws.Calling.{answers_agree_from}
 use Rattle.lite_read.specs.Laws.Marks.{SameText}
-use Rattle.lite_read.specs.Deterministic.{SameOr}
+use Rattle.lite_io_base.specs.Steady.{SameOr}
 use Rattle.nests_agree.proofs.Appended.{appended_as}
 use Rattle.nests_agree.proofs.Found.{through_from}
 use Rattle.nests_agree.proofs.LinesRead.{lines_read}

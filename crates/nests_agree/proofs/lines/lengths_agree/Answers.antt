@@ -3,7 +3,7 @@ use Rattle.lite_base.specs.Alike.{OptionBy}
 use Rattle.lite_base.specs.Answers.{strip}
 use Rattle.lite_base.specs.Calling.{Kin}
 use Rattle.lite_base.specs.Laws.Alike.{comparable_as, option_as}
-use Rattle.lite_read.specs.Deterministic.{SameByKind}
+use Rattle.lite_io_base.specs.Steady.{SameByKind}
 use Rattle.nests_agree.proofs.Appended.{appended_as}
 use Rattle.nests_agree.proofs.Found.{through_from}
 use Rattle.nests_agree.proofs.LinesRead.{lines_read}

@@ -1,6 +1,6 @@
 use Rattle.std.specs.Prelude.{string_bytes}
 use Rattle.futures_lite.specs.Uses.{refl, lines_over, pieces_listed}
-use Rattle.lite_read.specs.Texts.{without_return}
+use Rattle.lite_io_base.specs.Runs.{without_return}
 use Rattle.futures_lite.proofs.io.AsyncBufReadExt.lines.Goals as goal
 
 pub returns-clause-read : goal.returns-clause-read

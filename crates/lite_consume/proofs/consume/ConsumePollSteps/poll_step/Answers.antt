@@ -1,5 +1,5 @@
 use Rattle.std.specs.Prelude.{refl}
-use Rattle.lite_stream.specs.Laws.EachItem.{each_asked, each_here, each_pending}
+use Rattle.lite_base.specs.Laws.EachItem.{each_asked, each_here, each_pending}
 use Rattle.lite_consume.proofs.consume.ConsumePollSteps.poll_step.Goals as goal
 
 pub take_in-requires-clause-takes : goal.take_in-requires-clause-takes

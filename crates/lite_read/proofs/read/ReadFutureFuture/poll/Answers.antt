@@ -1,5 +1,4 @@
-use Rattle.lite_read.specs.Uses.{refl}
-use Rattle.lite_read.specs.Laws.Polled.{polled_one}
+use Rattle.lite_read.specs.Uses.{refl, polled_one}
 use Rattle.lite_read.specs.Read.{Reads}
 use Rattle.lite_read.proofs.read.ReadFutureFuture.poll.Goals as goal
 

@@ -1,5 +1,5 @@
 use Rattle.lite_read.specs.Laws.ReadExact.{step_before}
-use Rattle.lite_read.specs.Laws.PollSteps.{steps_answer}
+use Rattle.lite_read.specs.Uses.{steps_answer}
 use Rattle.lite_read.proofs.read_exact.ReadExactFutureFuture.poll.Goals as goal
 
 pub returns-clause-ran : goal.returns-clause-ran

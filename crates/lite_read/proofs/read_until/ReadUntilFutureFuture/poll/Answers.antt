@@ -1,4 +1,4 @@
-use Rattle.lite_read.specs.Laws.PollSteps.{goes_again}
+use Rattle.lite_read.specs.Uses.{goes_again}
 use Rattle.lite_read.specs.Laws.ReadUntil.{stays_within}
 use Rattle.lite_read.proofs.Until.{until_full}
 use Rattle.lite_read.proofs.read_until.ReadUntilFutureFuture.poll.Goals as goal

@@ -1,5 +1,4 @@
-use Rattle.lite_read.specs.Uses.{◌∙◌, refl, sym}
-use Rattle.lite_read.specs.Laws.Polled.{polled_one}
+use Rattle.lite_read.specs.Uses.{◌∙◌, refl, sym, polled_one}
 use Rattle.lite_read.specs.ReadVectored.{ReadsVectored}
 use Rattle.lite_read.proofs.read_vectored.ReadVectoredFutureFuture.poll.Goals as goal
 

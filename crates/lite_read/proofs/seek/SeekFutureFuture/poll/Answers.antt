@@ -1,5 +1,4 @@
-use Rattle.lite_read.specs.Uses.{refl}
-use Rattle.lite_read.specs.Laws.Polled.{polled_one}
+use Rattle.lite_read.specs.Uses.{refl, polled_one}
 use Rattle.lite_read.specs.Seek.{Seeks}
 use Rattle.lite_read.proofs.seek.SeekFutureFuture.poll.Goals as goal
 

@@ -1,5 +1,5 @@
 use Rattle.lite_reshape.specs.Uses.{refl, each_here}
-use Rattle.lite_stream.specs.Laws.EachItem.{each_end}
+use Rattle.lite_base.specs.Laws.EachItem.{each_end}
 use Rattle.lite_reshape.proofs.PollSteps.{steps_on}
 use Rattle.lite_reshape.proofs.filter_map.FilterMapPollSteps.poll_step.Goals as goal
 

@@ -1,8 +1,7 @@
 use Rattle.std.specs.Prelude.{Some}
-use Rattle.lite_stream.specs.Uses.{refl, rules, called_at, CalledAt, Always}
+use Rattle.lite_stream.specs.Uses.{refl, rules, called_at, CalledAt, Always, each_again, each_here}
 use Rattle.lite_stream.specs.Inspect.{ShowsItem}
 use Rattle.lite_stream.specs.Laws.Pointwise.{exchanged}
-use Rattle.lite_stream.specs.Laws.EachItem.{each_again, each_here}
 use Rattle.lite_stream.proofs.inspect.InspectStream.poll_next.Goals as goal
 
 pub f-requires : goal.f-requires

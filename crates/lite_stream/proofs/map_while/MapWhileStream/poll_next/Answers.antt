@@ -1,5 +1,4 @@
-use Rattle.lite_stream.specs.Uses.{rules}
-use Rattle.lite_stream.specs.Laws.EachItem.{each_again, each_here}
+use Rattle.lite_stream.specs.Uses.{rules, each_again, each_here}
 use Rattle.lite_stream.proofs.map_while.MapWhileStream.poll_next.Goals as goal
 
 pub f-requires : goal.f-requires

@@ -1,6 +1,5 @@
-use Rattle.lite_stream.specs.Uses.{refl, rules, CallsWith}
+use Rattle.lite_stream.specs.Uses.{refl, rules, CallsWith, each_again, each_here}
 use Rattle.lite_stream.specs.Laws.Pointwise.{exchanged}
-use Rattle.lite_stream.specs.Laws.EachItem.{each_again, each_here}
 use Rattle.lite_stream.proofs.scan.ScanStream.poll_next.Goals as goal
 
 pub f-requires : goal.f-requires

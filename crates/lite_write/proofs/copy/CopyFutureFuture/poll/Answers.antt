@@ -1,5 +1,5 @@
 use Rattle.lite_write.specs.Laws.Copy.{copy_answer}
-use Rattle.lite_read.specs.Laws.PollSteps.{goes_again}
+use Rattle.lite_base.specs.Laws.FutureLaws.{goes_again}
 use Rattle.lite_write.proofs.copy.CopyFutureFuture.poll.Goals as goal
 
 pub returns-clause-ran : goal.returns-clause-ran

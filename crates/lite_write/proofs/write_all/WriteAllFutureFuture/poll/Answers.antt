@@ -1,4 +1,4 @@
-use Rattle.lite_read.specs.Laws.PollSteps.{steps_answer}
+use Rattle.lite_base.specs.Laws.Chain.{steps_answer}
 use Rattle.lite_write.specs.Laws.WriteAll.{step_before}
 use Rattle.lite_write.proofs.write_all.WriteAllFutureFuture.poll.Goals as goal
 

@@ -1,9 +1,11 @@
 -- Laws about facts that hold of each item that a source may still yield.
-use Rattle.std.specs.Prelude.{◌≡◌, List, [], ◌∷◌, ◌++◌, Some, None}
-use Rattle.lite_stream.specs.Uses.{ap, refl, FoldsTo, Pending, Ready, Answer, end, item, Hints, Question, Runs, StreamLaws}
+use Rattle.std.specs.Prelude.{◌≡◌, List, [], ◌∷◌, ◌++◌, Some, None, refl}
+use Rattle.lite_base.specs.Uses.{FoldsTo, Pending, Ready, ap, append_assoc}
+use Rattle.lite_base.specs.Answers.{Answer, end, item}
+use Rattle.lite_base.specs.EachItem.{AtEachItem, items_in}
 use Rattle.lite_base.specs.Laws.Calling.{folds_follow}
-use Rattle.std.proofs.Common.{append_assoc}
-use Rattle.lite_stream.specs.EachItem.{AtEachItem, items_in}
+use Rattle.lite_base.specs.Runs.{Hints, Question, Runs}
+use Rattle.lite_base.specs.StreamLaws.{StreamLaws}
 
 items_in_join : {A : Type 0} (l m : List (Answer A)) → items_in (l ++ m) ≡ items_in l ++ items_in m
 items_in_join [] m = refl

@@ -1,8 +1,11 @@
 -- Facts about each item that a source may still yield, such as that a closure may be called with it.
 use Rattle.std.specs.Prelude.{List, [], ◌∷◌, ◌++◌, Some, None}
-use Rattle.lite_stream.specs.Uses.{CalledAt, FoldsTo, Bor, Ready, Pending, Answer, item, Calls, CallsWith, Question, Runs}
-use Rattle.std.specs.Fn.{Mut, TakesAt, TakesWithState}
-use denote.Ref.{MutBor}
+use Rattle.lite_base.specs.Uses.{FoldsTo, Mut, Pending, Ready}
+use Rattle.lite_base.specs.Answers.{Answer, item}
+use Rattle.lite_base.specs.Calling.{Calls, CallsWith}
+use Rattle.lite_base.specs.Runs.{Question, Runs}
+use Rattle.std.specs.Fn.{CalledAt, TakesAt, TakesWithState}
+use denote.Ref.{Bor, MutBor}
 
 -- The items among the poll results, in order.
 abbrev pub items_in : {A : Type 0} → List (Answer A) → List A
