@@ -298,13 +298,13 @@ def aliases():
 
 @functools.cache
 def passed_between():
-    """Returns which crate and module of the library below the facade pass on a word of another crate's file, beside those that files share."""
+    """Returns which crate and module of the library below the facade pass on a word of another file, beside those that files share."""
     found = {}
     for (crate, part, file), text in texts().items():
         if part == "specs" and crate in libraries() and crate != FACADE and file != f"{USES}.antt":
             for it in PASSED_WORDS.finditer(text):
                 names = (it["names"] or "").split(",")
-                found.update({(it["crate"], it["part"], it["module"], name.strip()): (crate, module_of(file)) for name in names if it["crate"] != crate})
+                found.update({(it["crate"], it["part"], it["module"], name.strip()): (crate, module_of(file)) for name in names})
     return found
 
 
