@@ -48,8 +48,8 @@ pub use lite_stream::Or;
         "futures_lite",
         "future.rt",
         """//! Futures.
-pub use lite_base::future::either::{Or, Other};
-pub use lite_base::future::make::or;
+pub use lite_future::either::{Or, Other};
+pub use lite_future::make::or;
 pub use lite_base::stray;
 """,
     ),
@@ -57,7 +57,7 @@ pub use lite_base::stray;
     (
         "lite_stream",
         "or.rt",
-        """use lite_base::Other;
+        """use lite_future::Other;
 
 /// The stream of both. Returned by [`or`].
 pub struct Or<S, T> {
@@ -79,7 +79,7 @@ impl<S, T> Or<S, T>
 where
     S: Drop,
 {
-    /// Returns the first stream of an [`or`](crate::make::or). It needs no [`Other`](lite_base::Other).
+    /// Returns the first stream of an [`or`](crate::make::or). It needs no [`Other`](lite_future::Other).
     ///
     /// # Examples
     ///
@@ -107,7 +107,7 @@ where
 }
 """,
     ),
-    ("lite_stream", "make.rt", "use crate::Or;\nuse lite_base::Other;\n/// Returns a stream of both: the items\n/// of each.\npub fn or<S: Other, T>(first: S, second: T) -> Or<S, T> {\n}\n/// Swaps.\npub fn swap<S, T>(it: Or<S, T>) -> Or<T, S> {\n}\n"),
+    ("lite_stream", "make.rt", "use crate::Or;\nuse lite_future::Other;\n/// Returns a stream of both: the items\n/// of each.\npub fn or<S: Other, T>(first: S, second: T) -> Or<S, T> {\n}\n/// Swaps.\npub fn swap<S, T>(it: Or<S, T>) -> Or<T, S> {\n}\n"),
     (
         "lite_stream",
         "count.rt",
@@ -136,13 +136,13 @@ pub fn count<S: Stream<Item = S::Item>>(stream: S) -> CountFuture<S>
     ),
     ("futures_lite", "laws.rt", "//! Laws.\npub use lite_theorems::collect_or;\n"),
     ("lite_theorems", "lib.rt", "use lite_stream::Or;\n/// Collects.\npub fn collect_or<S, T>(both: Or<S, T>) -> usize {\n}\n"),
-    ("lite_base", "lib.rt", "pub mod future;\npub use future::either::Other;\n/// Is in no group.\npub fn stray() -> u8 {\n}\n"),
-    ("lite_base", "future.rt", "pub mod either;\npub mod make;\npub use either::Or;\n"),
-    ("lite_base", "future/either.rt", OTHER),
+    ("lite_base", "lib.rt", "/// Is in no group.\npub fn stray() -> u8 {\n}\n"),
+    ("lite_future", "lib.rt", "pub mod either;\npub mod make;\npub use either::{Or, Other};\n"),
+    ("lite_future", "either.rt", OTHER),
     (
-        "lite_base",
-        "future/make.rt",
-        """use super::Or;
+        "lite_future",
+        "make.rt",
+        """use crate::Or;
 /// Returns a future of either.
 ///
 /// # Examples
@@ -233,7 +233,7 @@ class TwoModules(unittest.TestCase):
     def test_an_item_is_told_by_its_own_source(self):
         self.assertIn("The stream of both.", self.entry("stream", "struct `Or`"))
         self.assertIn("The future of either.", self.entry("future", "struct `Or`"))
-        self.assertIn("crates/lite_base/src/future/make.rt", self.entry("future", "fn `or`"))
+        self.assertIn("crates/lite_future/src/make.rt", self.entry("future", "fn `or`"))
         self.assertNotIn("let _ =", self.entry("stream", "fn `or`"))
 
     def test_a_method_is_of_the_type_of_its_module(self):

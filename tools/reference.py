@@ -32,9 +32,9 @@ GROUPS = {
             "lite_base/src/future/block_on.rt",
             "lite_base/src/future/waits.rt",
         ),
-        "Making a future": tuple(f"lite_base/src/future/{it}.rt" for it in ("pending", "poll_fn", "ready", "yield_now")),
+        "Making a future": tuple(f"lite_future/src/{it}.rt" for it in ("pending", "poll_fn", "ready", "yield_now")),
         "Combining futures": tuple(
-            f"lite_base/src/future/{it}.rt" for it in ("either", "fuse", "or", "poll_limited", "poll_once", "race", "zip", "try_zip")
+            f"lite_future/src/{it}.rt" for it in ("either", "fuse", "or", "poll_limited", "poll_once", "race", "zip", "try_zip")
         ),
     },
     "stream": {

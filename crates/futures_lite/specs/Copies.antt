@@ -1,5 +1,5 @@
 -- Copies from a reader to a writer: the bytes that were told and taken, and where pendings and errors stand.
-pub use Rattle.lite_base.specs.Future.Spent.{AtEachOk}
+pub use Rattle.lite_base.specs.Spent.{AtEachOk}
 pub use Rattle.lite_write.specs.Copy.{Copied, CopyValue, RegistersIn, NothingCopied}
 pub use Rattle.lite_write.specs.MarkLists.{bytes_told, waits_told, waits_taken}
 pub use Rattle.lite_theorems.specs.Chained.{CopiesBoth, CopiesWhole, WritesWhole, ReadsBoth, ReadsRest, ReadsWhole}

@@ -1,6 +1,6 @@
 -- Functions of lists that contracts of streams cite and for which std has no word; what it is that the items of a
 -- stream are a list, that a future has a value, and when it returns that. A proof may open all of these.
-pub use Rattle.lite_base.specs.Future.TryZip.{try_pair}
+pub use Rattle.lite_future.specs.TryZip.{try_pair}
 pub use Rattle.lite_views.specs.Answering.{HasOk, HasValueAs, PickedValue, ReturnedBy, WhenLeft}
 unfoldable pub use Rattle.lite_views.specs.Answering.{AtOnce, NeverReady}
 pub use Rattle.lite_views.specs.Futures.{RestIfFound, behind_match}

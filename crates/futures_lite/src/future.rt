@@ -4,20 +4,21 @@ ghost use Rattle.futures_lite.specs.Uses.{LeftAs, HasValue, Seen, ValueIs, Waite
 ghost use Rattle.futures_lite.specs.Uses.{ValueHolds, AtOnce, NeverReady, TryZipRuns, ZipRuns};
 ghost use Rattle.futures.specs.declared.task.Poll.{Poll};
 ghost use Rattle.lite_base.specs.Answers.{Gives};
-ghost use Rattle.lite_base.specs.Future.Spent.{Finishes};
-ghost use Rattle.lite_base.specs.Future.TryZip.{try_pair};
-ghost use Rattle.lite_base.specs.declared.future.side.Side.TheVariants.{Asked};
+ghost use Rattle.lite_base.specs.Spent.{Finishes};
+ghost use Rattle.lite_future.specs.TryZip.{try_pair};
+ghost use Rattle.lite_future.specs.declared.side.Side.TheVariants.{Asked};
 ghost use Rattle.lite_views.specs.Answering.{HasOk, HasValueAs, PickedValue, ReturnedBy, LeftSeen};
 
 pub use lite_base::Future;
+pub use lite_base::future::Waits;
 pub use lite_base::future::block_on::BlockOn;
-use lite_base::future::make;
-pub use lite_base::future::make::{fuse, poll_once, yield_now};
-pub use lite_base::future::{
-    Either, Exhausted, Fuse, Or, Pending, PollFn, PollLimited, PollOnce, Race, Ready, TryZip,
-    Waits, YieldNow, Zip,
-};
 use lite_base::{Context, Poll};
+use lite_future::make;
+pub use lite_future::make::{fuse, poll_once, yield_now};
+pub use lite_future::{
+    Either, Exhausted, Fuse, Or, Pending, PollFn, PollLimited, PollOnce, Race, Ready, TryZip,
+    YieldNow, Zip,
+};
 use rand_core::{Rng, SeedableRng};
 use rand_pcg::Pcg32;
 use std::alloc::{AllocError, AllocGlobal};

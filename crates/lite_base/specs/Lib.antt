@@ -4,14 +4,15 @@ pub mod Calling
 pub mod Calm
 pub mod Chain
 pub mod EachItem
-pub mod Future
 pub mod FutureLaws
 pub mod Laws
+pub mod Pollers
 pub mod Ranks
 pub mod Registered
 pub mod Runs
+pub mod Segments
+pub mod Spent
 pub mod Steady
 pub mod StreamLaws
-pub mod Segments
 pub mod Streams
 pub mod Uses

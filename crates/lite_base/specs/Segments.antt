@@ -1,8 +1,9 @@
 -- A source's list that is cut into segments, one for each result that is made of it.
-use Rattle.std.specs.Prelude.{◌≡◌, List, [], ◌∷◌, ◌++◌, map, Bool, true, false, ◌⊎◌, ℕ, ◌-◌, Some, None}
+use Rattle.std.specs.Prelude.{◌≡◌, ◌%◌, ◌==◌, List, [], ◌∷◌, ◌++◌, map, Bool, true, false, ◌⊎◌, ℕ, ◌-◌, Some, None}
 use Rattle.lite_base.specs.Uses.{FoldsTo, Poll, Ready, Pending}
+use Rattle.rand_core.specs.Stream.{Stream, next_u32}
 use Rattle.lite_base.specs.Answers.{UpToValue, Answer}
-use Rattle.lite_base.specs.Runs.{Question}
+use Rattle.lite_base.specs.Runs.{Question, Runs}
 
 -- One segment of the source's list: the things `taken` are consumed one after the other, and the rest, `last`,
 -- determines the result. `shows` says how such a thing appears in the list, `takes` how it is consumed, and `gives`
@@ -61,3 +62,14 @@ abbrev pub left_behind : {A : Type 0} → ℕ → Answer A → ℕ → ℕ
 left_behind budget Pending n = budget
 left_behind budget (Ready None) n = n
 left_behind budget (Ready (Some x)) n = n - 1
+
+-- The order of the rows, as a random generator says it.
+
+-- The words that the generator returned in order. The first stream has all words that are to come, and the second those
+-- that are left.
+abbrev pub Words : Runs ℕ Stream
+Words = FoldsTo (λ s word left. (word, left) ≡ next_u32 s)
+
+-- The first future is polled first if the lowest bit of the word is 1.
+abbrev pub is_first : ℕ → Bool
+is_first word = word % 2 == 1

@@ -4,8 +4,7 @@ pub use Rattle.futures.specs.Task.{Holds, Keeps, Lasting}
 pub use Rattle.futures.specs.declared.task.Poll.{Poll}
 pub use Rattle.futures.specs.declared.task.Poll.TheVariants.{Pending, Ready}
 pub use Rattle.futures.specs.declared.task.context.Context.{Context}
-pub use Rattle.rand_core.specs.Stream.{Stream}
-pub use Rattle.std.proofs.Common.{ap, append-nil, append_assoc, arith, inl, inr, length-append, rules, subst, sym, ◌∙◌}
+pub use Rattle.std.proofs.Common.{ap, append_assoc, arith, inl, inr, rules, subst, sym, ◌∙◌}
 pub use Rattle.std.proofs.lemmas.List.{map-append}
 pub use Rattle.std.specs.Fn.{Called, Mut}
 pub use Rattle.std.specs.List.{AllByRecursion, FoldsTo}

@@ -1,4 +1,4 @@
-//! The trait of futures, functions that make futures, and combinators of two futures.
+//! The trait of futures, and calls that wait for one.
 ghost use Rattle.std.specs.Prelude.{[], ◌∷◌, ⊤};
 ghost use Rattle.lite_base.specs.Uses.{OnPending, Keeps, Lasting, Poll};
 ghost use Rattle.lite_base.specs.FutureLaws.{FutureLaws};
@@ -9,39 +9,12 @@ use futures::task::{Context, Poll};
 
 pub mod block_on;
 mod calm;
-mod either;
-mod fuse;
-pub mod make;
-mod or;
-mod pending;
-mod picks;
-mod poll_fn;
-mod poll_limited;
-mod poll_once;
-mod race;
-mod ready;
-mod side;
 mod steady;
-mod try_zip;
 mod waits;
-mod yield_now;
-mod zip;
 
 pub use calm::CalmFuture;
-pub use either::Either;
-pub use fuse::Fuse;
-pub use or::Or;
-pub use pending::Pending;
-pub use poll_fn::PollFn;
-pub use poll_limited::{Exhausted, PollLimited};
-pub use poll_once::PollOnce;
-pub use race::Race;
-pub use ready::Ready;
 pub use steady::SteadyFuture;
-pub use try_zip::TryZip;
 pub use waits::Waits;
-pub use yield_now::YieldNow;
-pub use zip::Zip;
 
 /// A computation that may not be done yet, and returns its value when polled.
 ///

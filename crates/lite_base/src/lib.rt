@@ -1,4 +1,4 @@
-//! What the other crates build on: the traits of futures and streams, ranks, the futures, and `drive`, the loop
+//! What the other crates build on: the traits of futures and streams, ranks, `block_on`, and `drive`, the loop
 //! of all polls.
 #![tactic(auto)]
 

@@ -3,7 +3,7 @@ use Rattle.std.specs.Prelude.{◌≡◌, ◌⊎◌, ◌<◌, ℕ, List, [], leng
 use Rattle.lite_laws.specs.Uses.{Poll, Answer}
 use Rattle.lite_base.specs.Alike.{SameAnswer, SameItem, Sameness}
 use Rattle.lite_base.specs.Answers.{ComparableBy, strip}
-use Rattle.lite_base.specs.Future.Spent.{Finishes}
+use Rattle.lite_base.specs.Spent.{Finishes}
 use Rattle.lite_base.specs.Runs.{Runs}
 
 -- Two streams return the results `l` and `m`, from `x` and from `y`. If no allocation failed in either run, or no poll

@@ -1,7 +1,7 @@
 -- `race`: two streams are merged, and a random generator says which is polled first in each row.
 use Rattle.std.specs.Prelude.{◌≡◌, ℕ, List, [], ◌∷◌, map}
 use Rattle.lite_merge.specs.Uses.{Stream, Answer, Ranks, Runs}
-use Rattle.lite_base.specs.Future.Race.{Words, is_first}
+use Rattle.lite_base.specs.Segments.{Words, is_first}
 use Rattle.lite_merge.specs.Merge.{Merges, merge_ranks}
 use Rattle.lite_merge.specs.declared.race.Race.{Race}
 

@@ -3,7 +3,7 @@
 use Rattle.std.specs.Prelude.{◌≡◌, ◌+◌, List, [], ◌∷◌, ◌++◌, length, Some, None}
 use Rattle.lite_merge.specs.Uses.{Poll, Answer, Endless, end, Runs, AllEnds, Through, Relates}
 use Rattle.lite_base.specs.Answers.{Waiting}
-use Rattle.lite_base.specs.Future.Spent.{Finishes}
+use Rattle.lite_base.specs.Spent.{Finishes}
 use Rattle.lite_merge.specs.declared.stop_after_future.StopAfterFuture.{StopAfterFuture}
 use Rattle.lite_merge.specs.declared.stop_after_future.Stopping.TheVariants.{Holding, TakenOut, Stopped}
 use Rattle.lite_merge.specs.declared.stop_after_future.Stopping.{Stopping}

@@ -1,7 +1,7 @@
 -- `then`: each item is replaced by the results of the future that the function makes of it, its value as an item.
 use Rattle.std.specs.Prelude.{◌≡◌, ℕ, ◌+◌, ◌-◌, ◌^◌, min, List, [], Option, Some, None, IfSome, cond, nat_lt}
 use Rattle.lite_reshape.specs.Uses.{Mut, Poll, Answer, handed, Calls, Question, Runs, AtEachItem, AdapterParts, Through, parts_of}
-use Rattle.lite_base.specs.Future.Spent.{Spends}
+use Rattle.lite_base.specs.Spent.{Spends}
 use Rattle.std.specs.Fn.{Called}
 use Rattle.lite_reshape.specs.Expanding.{Expanding}
 use Rattle.lite_reshape.specs.declared.then.Then.{Then}

@@ -8,7 +8,7 @@ pub use Rattle.lite_base.specs.Calling.{Accepts, AgreeFrom, AgreeKeeping, Calls,
 pub use Rattle.lite_base.specs.Calm.{CalmLaws, NoPending, waits}
 pub use Rattle.lite_base.specs.Chain.{NextStep, Reaches}
 pub use Rattle.lite_base.specs.Ranks.{Terminates, ItemRun, Below, Lowers, Counting, Ranks, count_held, ranks_of}
-pub use Rattle.lite_base.specs.Future.Spent.{handed}
+pub use Rattle.lite_base.specs.Spent.{handed}
 pub use Rattle.lite_base.specs.Laws.Alike.{answer_items, both_items, comparable_as, comparable_nil, ends_same, same_answer}
 pub use Rattle.lite_base.specs.Laws.Answers.{all_any, all_split, strip_join, endless_join, IsItem, OfItem, items_each, not_empty}
 pub use Rattle.lite_base.specs.Laws.Calling.{MatchesFrom, agree_from_matches, makes_on}

@@ -5,15 +5,15 @@ pub use Rattle.lite_base.specs.Alike.{Alike, OptionBy, SameAnswer, SameItem, Sam
 pub use Rattle.lite_base.specs.Answers.{Answer, Comparable, ComparableBy, Waiting, before_end, end, item, strip}
 pub use Rattle.lite_base.specs.Calling.{AgreeFrom, Calls, MakesAlways}
 pub use Rattle.lite_base.specs.Calm.{CalmLaws, NoPending}
-pub use Rattle.lite_base.specs.Future.Calls.{AlwaysObeys, CallAnswers, NeverPends, Poller}
-pub use Rattle.lite_base.specs.Future.Spent.{Finishes, handed, Spends}
+pub use Rattle.lite_base.specs.Pollers.{AlwaysObeys, CallAnswers, NeverPends, Poller}
+pub use Rattle.lite_base.specs.Spent.{Finishes, handed, Spends}
 pub use Rattle.lite_base.specs.FutureLaws.{FutureLaws, FutureRunLaws}
 pub use Rattle.lite_base.specs.Laws.Alike.{alike_agrees}
 pub use Rattle.lite_base.specs.Laws.Answers.{all_append}
 pub use Rattle.lite_base.specs.Laws.Calling.{folds_follow, makes_on}
 pub use Rattle.lite_base.specs.Laws.Calm.{calm_both, no_pending_join}
 pub use Rattle.lite_base.specs.Laws.Ranks.{Below-one, Lowers-at_most, Lowers-below, ok_counting, number_counting}
-pub use Rattle.lite_base.specs.Laws.Future.Spent.{handed_gives, handed_no_pending, handed_waits}
+pub use Rattle.lite_base.specs.Laws.Spent.{handed_gives, handed_no_pending, handed_waits}
 pub use Rattle.lite_base.specs.Laws.StreamLaws.{same_hint, laws_of}
 pub use Rattle.lite_base.specs.Laws.Steady.{steady_always}
 pub use Rattle.lite_base.specs.Ranks.{Lowers, Counting, Ranks, number_ranks}

@@ -1,6 +1,6 @@
 ghost use Rattle.std.specs.Prelude.{⊤, None};
 ghost use Rattle.lite_source.specs.Uses.{FoldsTo, ap, AlwaysObeys, CallAnswers, NoHint, Alike, NeverPends};
-ghost use Rattle.lite_base.specs.Future.Calls.{CallRegisters};
+ghost use Rattle.lite_base.specs.Pollers.{CallRegisters};
 ghost use Rattle.lite_source.specs.Laws.Folds.{folds_laws, folds_steady, obeys_still};
 ghost use Rattle.lite_source.specs.Laws.PollFn.{poll_fn_calm};
 

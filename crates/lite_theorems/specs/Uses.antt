@@ -3,7 +3,7 @@ pub use Rattle.futures.specs.declared.task.Poll.{Poll}
 pub use Rattle.futures.specs.declared.task.Poll.TheVariants.{Pending, Ready}
 pub use Rattle.lite_base.proofs.Waited.{WaitedFor, done}
 pub use Rattle.lite_base.specs.Answers.{Answer, Gives, end, item, strip}
-pub use Rattle.lite_base.specs.Future.Spent.{AtEachOk}
+pub use Rattle.lite_base.specs.Spent.{AtEachOk}
 pub use Rattle.lite_base.specs.FutureLaws.{FutureLaws}
 pub use Rattle.lite_base.specs.Laws.Segments.{segment_front}
 pub use Rattle.lite_base.specs.Runs.{Lent, Runs}

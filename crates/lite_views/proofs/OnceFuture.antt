@@ -1,7 +1,7 @@
 -- The item of `once_future`, by the value of its future.
 use Rattle.std.specs.Prelude.{◌≡◌, List, [], ◌∷◌, map, Option, Some, None}
 use Rattle.lite_views.specs.Uses.{AllByRecursion, Answer, end, Poll, Runs, handed}
-use Rattle.lite_base.specs.Future.Spent.{Spends}
+use Rattle.lite_base.specs.Spent.{Spends}
 use Rattle.lite_source.specs.OnceFuture.{GivesFuture}
 use Rattle.lite_source.specs.declared.once_future.OnceFuture.{OnceFuture}
 use Rattle.lite_views.specs.Views.{Fits, HasValue, ListsAs}

@@ -1,23 +1,23 @@
 -- The values of `or`, `race`, `zip`, `try_zip` and `poll_fn`, which share their first lemmas; and that `pending` has none.
-use Rattle.lite_base.specs.declared.future.pending.Pending.{Pending as PendingFuture}
-use Rattle.lite_base.specs.declared.future.poll_fn.PollFn.{PollFn}
-use Rattle.lite_base.specs.Future.Zip.{FutureZips}
-use Rattle.lite_base.specs.declared.future.zip.Zip.{Zip}
+use Rattle.lite_future.specs.declared.pending.Pending.{Pending as PendingFuture}
+use Rattle.lite_future.specs.declared.poll_fn.PollFn.{PollFn}
+use Rattle.lite_future.specs.Zip.{FutureZips}
+use Rattle.lite_future.specs.declared.zip.Zip.{Zip}
 use Rattle.std.specs.Prelude.{◌≡◌, ◌+◌, ◌⊎◌, ⊤, List, [], ◌∷◌, ◌++◌, map, refl, Bool, true, Result, Ok, Err}
 use Rattle.lite_views.specs.Uses.{length, inl, inr, ap, sym, subst, arith, AllByRecursion, Stream, Poll, Ready, Pending, Gives, Waiting, Finishes}
 use Rattle.lite_views.specs.Uses.{Runs, is_first, TryZips, Called, Context, MutBor, Poller, rows_by, TryZip, CallAnswers, FoldsTo}
-use Rattle.lite_base.specs.Future.Calls.{Polled}
-use Rattle.lite_base.specs.Future.Side.{Stands}
-use Rattle.lite_base.specs.Future.Or.{FutureOrs}
-use Rattle.lite_base.specs.Future.Picks.{PickRow, PickRows, Picks}
-use Rattle.lite_base.specs.Future.Race.{FutureRacesOn}
-use Rattle.lite_base.specs.Future.Together.{PairRows}
-use Rattle.lite_base.specs.Future.TryZip.{try_pair}
+use Rattle.lite_base.specs.Pollers.{Polled}
+use Rattle.lite_future.specs.Side.{Stands}
+use Rattle.lite_future.specs.Or.{FutureOrs}
+use Rattle.lite_future.specs.Picks.{PickRow, PickRows, Picks}
+use Rattle.lite_future.specs.Race.{FutureRacesOn}
+use Rattle.lite_future.specs.Together.{PairRows}
+use Rattle.lite_future.specs.TryZip.{try_pair}
 use Rattle.lite_base.specs.Laws.Answers.{waiting_not_gives}
-use Rattle.lite_base.specs.declared.future.side.Side.{Side}
-use Rattle.lite_base.specs.declared.future.side.Side.TheVariants.{Asked, Gave, Taken}
-use Rattle.lite_base.specs.declared.future.or.Or.{Or}
-use Rattle.lite_base.specs.declared.future.race.Race.{Race}
+use Rattle.lite_future.specs.declared.side.Side.{Side}
+use Rattle.lite_future.specs.declared.side.Side.TheVariants.{Asked, Gave, Taken}
+use Rattle.lite_future.specs.declared.or.Or.{Or}
+use Rattle.lite_future.specs.declared.race.Race.{Race}
 use Rattle.lite_views.specs.Answering.{AtOnce, HasOk, HasValueAs, NeverReady, PickedValue, ReturnedBy}
 use Rattle.lite_views.specs.Futures.{TryZipRuns, ZipRuns}
 use Rattle.lite_views.specs.Views.{HasValue, ValueHolds, ValueIs}

@@ -1,8 +1,8 @@
 -- The value of `ready`, and that its first poll returns it.
-use Rattle.lite_base.specs.declared.future.ready.Ready.{Ready as ReadyFuture}
+use Rattle.lite_future.specs.declared.ready.Ready.{Ready as ReadyFuture}
 use Rattle.std.specs.Prelude.{◌≡◌, List, [], ◌∷◌, Option, Some, None}
 use Rattle.lite_views.specs.Uses.{Poll, Ready, Pending, Gives}
-use Rattle.lite_base.specs.Future.Ready.{GivesHeld}
+use Rattle.lite_future.specs.Ready.{GivesHeld}
 use Rattle.lite_views.specs.Answering.{AtOnce}
 use Rattle.lite_views.specs.Views.{HasValue}
 

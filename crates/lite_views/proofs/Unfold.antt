@@ -2,7 +2,7 @@
 use Rattle.std.specs.Prelude.{◌≡◌, List, [], ◌∷◌, ◌++◌, map, flat_map, refl, Option, Some, None, MatchOption, Result}
 use Rattle.lite_views.specs.Uses.{Answer, Called, Finishes, FoldsTo, Gives, Mut, Pending, Poll, Ready, Runs, Waiting, handed, inl, inr, subst, sym}
 use Rattle.lite_base.specs.FutureLaws.{FutureRunLaws}
-use Rattle.lite_base.specs.Laws.Future.Spent.{finishes_later}
+use Rattle.lite_base.specs.Laws.Spent.{finishes_later}
 use Rattle.lite_source.specs.TryUnfold.{TryUnfoldsBy, try_item_of, try_seed_of}
 use Rattle.lite_source.specs.Unfold.{UnfoldsBy, item_of, seed_of}
 use Rattle.lite_source.specs.Unfolding.{Holding, Leads, UnfoldPart, comes}

@@ -4,8 +4,8 @@ use Rattle.lite_views.specs.Views.{ListsAs}
 use Rattle.lite_views.specs.Uses.{Mut, MutBor, Poll, Answer, Lent, Question, Runs, Folds, fold_of, counts, finds, folds}
 use Rattle.lite_views.specs.Uses.{lasts, nths, try_fold_steps, Consume, Find, Last, Nth, TryFold, TryZip, TryZips}
 use Rattle.lite_consume.specs.Fold.{CallsBoth}
-use Rattle.lite_base.specs.Future.Zip.{FutureZips}
-use Rattle.lite_base.specs.declared.future.zip.Zip.{Zip}
+use Rattle.lite_future.specs.Zip.{FutureZips}
+use Rattle.lite_future.specs.declared.zip.Zip.{Zip}
 use Rattle.lite_consume.specs.declared.count.Count.{Count}
 use Rattle.lite_consume.specs.declared.fold.Fold.{Fold}
 

@@ -4,14 +4,14 @@ pub use Rattle.futures.specs.declared.task.Poll.TheVariants.{Pending, Ready}
 pub use Rattle.futures.specs.declared.task.context.Context.{Context}
 pub use Rattle.lite_base.specs.Answers.{Answer, Endless, Gives, Waiting, end, item, items, until_end}
 pub use Rattle.lite_base.specs.Calling.{Accepts, Always}
-pub use Rattle.lite_base.specs.Future.Calls.{CallAnswers, Poller}
-pub use Rattle.lite_base.specs.Future.Spent.{Finishes, handed}
-pub use Rattle.lite_base.specs.Future.Race.{is_first}
-pub use Rattle.lite_base.specs.Future.TryZip.{TryZips}
+pub use Rattle.lite_base.specs.Pollers.{CallAnswers, Poller}
+pub use Rattle.lite_base.specs.Spent.{Finishes, handed}
+pub use Rattle.lite_base.specs.Segments.{is_first}
+pub use Rattle.lite_future.specs.TryZip.{TryZips}
 pub use Rattle.lite_base.specs.Laws.Segments.{rows_by, to_value_last}
 pub use Rattle.lite_base.specs.Runs.{Lent, Hints, Question, Runs}
 pub use Rattle.lite_base.specs.StreamLaws.{StreamLaws}
-pub use Rattle.lite_base.specs.declared.future.try_zip.TryZip.{TryZip}
+pub use Rattle.lite_future.specs.declared.try_zip.TryZip.{TryZip}
 pub use Rattle.lite_consume.specs.Consume.{Folds}
 pub use Rattle.lite_consume.specs.Consuming.{Consumes, Decides, Fold, TakesIn, fold_of}
 pub use Rattle.lite_consume.specs.Count.{counts}

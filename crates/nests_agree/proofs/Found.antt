@@ -7,7 +7,7 @@ use Rattle.std.specs.declared.string.String.{String}
 use Rattle.futures.specs.declared.task.Poll.{Poll}
 use Rattle.lite_base.specs.Alike.{SameItem, SameList, Sameness}
 use Rattle.lite_base.specs.Answers.{Answer}
-use Rattle.lite_base.specs.Future.Spent.{Finishes}
+use Rattle.lite_base.specs.Spent.{Finishes}
 use Rattle.lite_base.specs.Runs.{Runs}
 use Rattle.lite_gather.specs.Agreeing.{HoldsSame, HoldsSameBoth, SameCollected, TrySameCollected}
 use Rattle.lite_gather.specs.declared.refused.TryCollectError.{TryCollectError}

@@ -9,7 +9,7 @@ use Rattle.std.specs.declared.vec.Vec.{Vec}
 use Rattle.futures.specs.declared.task.Poll.{Poll}
 use Rattle.futures.specs.declared.task.Poll.TheVariants.{Ready, Pending}
 use Rattle.lite_base.specs.Answers.{Answer, item}
-use Rattle.lite_base.specs.Future.Spent.{Finishes}
+use Rattle.lite_base.specs.Spent.{Finishes}
 use Rattle.lite_base.specs.Runs.{Runs}
 use Rattle.lite_consume.specs.Consume.{Folds}
 use Rattle.lite_consume.specs.Consuming.{fold_of}

@@ -5,7 +5,7 @@ use Rattle.std.specs.declared.string.String.{String}
 use Rattle.lite_base.specs.Calling.{AgreeFrom, KinAnswers}
 use Rattle.lite_base.specs.Laws.Calling.{agree_narrower, answers_agree_from, kin_answers_by}
 use Rattle.lite_base.specs.Runs.{Question}
-use Rattle.lite_base.specs.declared.future.ready.Ready.{Ready}
+use Rattle.lite_future.specs.declared.ready.Ready.{Ready}
 use Rattle.nests_agree.specs.Lengths.{IsLength, IsTested, WillGiveLength}
 use Rattle.lite_read.specs.Laws.Marks.{SameText}
 use Rattle.lite_io_base.specs.Steady.{SameByKind, SameOr}

@@ -3,7 +3,7 @@ use Rattle.std.specs.Prelude.{◌≡◌, ℕ, Result, Bool, true, nat_lt, length
 use Rattle.std.proofs.Common.{Ok, Err, Global, Some}
 use Rattle.std.specs.declared.io.Error.{Error}
 use Rattle.std.specs.declared.string.String.{String}
-use Rattle.lite_base.specs.declared.future.ready.Ready.{Ready}
+use Rattle.lite_future.specs.declared.ready.Ready.{Ready}
 
 -- The length of a line, or the same error.
 abbrev pub IsLength : Result (String Global) Error → Result ℕ Error → Type 0

@@ -7,8 +7,8 @@ ghost use Rattle.lite_laws.specs.Recorded.{Recorded};
 ghost use Rattle.nests_agree.specs.Both.{Begins, BothAppended};
 
 use crate::both::{TwoRuns, both_appended};
-use lite_base::future::make::{ready, yield_now, zip};
 use lite_base::{Context, Poll};
+use lite_future::make::{ready, yield_now, zip};
 use lite_laws::run_calm;
 use lite_reshape::make::{chain, filter, flat_map, then};
 use lite_source::Script;

@@ -1,8 +1,8 @@
 //! The value of one nest of futures, at two of them.
 ghost use Rattle.std.specs.Prelude.{◌≡◌, IfOk};
 
-use lite_base::future::YieldNow;
-use lite_base::future::make::{ready, zip};
+use lite_future::YieldNow;
+use lite_future::make::{ready, zip};
 use lite_laws::block_on_both;
 use std::alloc::{AllocError, AllocGlobal};
 use std::random::RandomSource;

@@ -10,7 +10,7 @@ use Rattle.futures.specs.declared.task.Poll.TheVariants.{Ready, Pending}
 use Rattle.futures.specs.declared.task.context.Context.{Context}
 use Rattle.lite_base.specs.Alike.{Alike}
 use Rattle.lite_base.specs.Calm.{NoPending}
-use Rattle.lite_base.specs.Future.Calls.{CallAnswers, NeverPends, Poller}
+use Rattle.lite_base.specs.Pollers.{CallAnswers, NeverPends, Poller}
 use Rattle.lite_source.specs.Iter.{Iterates, Nexts}
 use Rattle.lite_source.specs.Laws.Folds.{folds_alike}
 use Rattle.lite_source.specs.RepeatWith.{Call}

@@ -12,8 +12,8 @@ use crate::streams::{
     filter_is_alike, filter_map_is_alike, map_is_alike, map_while_is_alike, scan_is_alike,
     skip_while_is_alike, take_while_is_alike,
 };
-use lite_base::future::make::ready;
 use lite_base::{Context, Poll};
+use lite_future::make::ready;
 use lite_merge::Drain;
 use lite_source::make::once;
 use lite_source::{Once, Script};

@@ -2,17 +2,17 @@
 //! A poll of `PollOnce` and of `Ready` is never pending, and one of `Pending` registers nothing: they have no line on that.
 ghost use Rattle.std.specs.Prelude.{Some, false, true, ◌≡◌};
 ghost use Rattle.lite_base.specs.Alike.{Alike};
-ghost use Rattle.lite_base.specs.Future.Calls.{NeverPends, Polled, CallRegisters};
+ghost use Rattle.lite_base.specs.Pollers.{NeverPends, Polled, CallRegisters};
 ghost use Rattle.lite_base.specs.Registered.{HoldsWoken};
-ghost use Rattle.lite_base.specs.declared.future.either.Either.TheVariants.{Left, Right};
-ghost use Rattle.lite_base.specs.declared.future.side.Side.TheVariants.{Asked};
+ghost use Rattle.lite_future.specs.declared.either.Either.TheVariants.{Left, Right};
+ghost use Rattle.lite_future.specs.declared.side.Side.TheVariants.{Asked};
 ghost use Rattle.properties_met.specs.Registering.{TellsAll};
 
-use lite_base::future::{
-    Either, Fuse, Or, Pending, PollFn, PollLimited, PollOnce, Race, Ready, TryZip, YieldNow, Zip,
-};
 use lite_base::{
     CalmFuture, CalmStream, Context, Future, Poll, SteadyFuture, SteadyStream, Stream,
+};
+use lite_future::{
+    Either, Fuse, Or, Pending, PollFn, PollLimited, PollOnce, Race, Ready, TryZip, YieldNow, Zip,
 };
 use rand_core::Rng;
 

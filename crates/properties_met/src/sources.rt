@@ -6,7 +6,7 @@ ghost use Rattle.std.specs.Prelude.{◌∷◌, Some, None, [], ◌≡◌};
 ghost use Rattle.futures.specs.declared.task.Poll.TheVariants.{Pending as Waits, Ready};
 ghost use Rattle.lite_base.specs.Alike.{Alike, SameItem};
 ghost use Rattle.lite_base.specs.Calling.{AgreeFrom, Calls, MakesAlways};
-ghost use Rattle.lite_base.specs.Future.Calls.{CallAnswers, NeverPends, CallRegisters};
+ghost use Rattle.lite_base.specs.Pollers.{CallAnswers, NeverPends, CallRegisters};
 ghost use Rattle.lite_reshape.specs.Cloned.{NoCloneRefused};
 ghost use Rattle.lite_source.specs.Iter.{Iterates};
 ghost use Rattle.lite_source.specs.RepeatWith.{Call};

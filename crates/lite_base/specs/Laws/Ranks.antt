@@ -1,11 +1,12 @@
 -- Laws of a rank that falls with the items.
 use Rattle.std.specs.Prelude.{ℕ, ◌+◌, ◌<◌, ◌≡◌, refl, replicate, zero, suc, ◌≤◌, List, [], ◌∷◌, ◌++◌, length, Some, map, None, Result, Ok}
-use Rattle.lite_base.specs.Uses.{sym, subst, inl, inr, ap, ◌∙◌, arith, length-append, Ready, Pending, MutBor}
+use Rattle.lite_base.specs.Uses.{sym, subst, inl, inr, ap, ◌∙◌, arith, Ready, Pending, MutBor}
 use mathlib.Core.WellFounded.{Acc, WellFounded}
 use lib.WfN.{lt-wf_rel}
 use Rattle.lite_base.specs.Chain.{After, Reaches}
 use Rattle.lite_base.specs.Laws.Chain.{Reaches-on, Reaches-then}
 use Rattle.lite_base.specs.Ranks.{Terminates, Below, AtMost, Lowers, ItemRun, Counting, Ranks, number_ranks, ranks_of, OkCounting, OkRun, all_ok}
+use Rattle.std.proofs.Common.{length-append}
 use Rattle.std.proofs.Math.Nat.{eq-or-lt_of_le}
 use Rattle.std.proofs.lemmas.List.{length-replicate}
 use lib.Measure.{by_dom}

@@ -1,14 +1,13 @@
 -- Laws of lists that are cut into segments.
 use Rattle.std.specs.Prelude.{◌≡◌, List, [], ◌∷◌, ◌++◌, map, refl, ◌%◌, ℕ, Bool, true, false, ◌≤◌, ◌+◌, ◌-◌, Some, None, length}
-use Rattle.lite_base.specs.Uses.{◌∙◌, ap, append-nil, append_assoc, subst, sym, map-append, AllByRecursion, FoldsTo, Poll, Ready, inl, inr, arith, Pending}
+use Rattle.lite_base.specs.Uses.{◌∙◌, ap, append_assoc, subst, sym, map-append, AllByRecursion, FoldsTo, Poll, Ready, inl, inr, arith, Pending}
 use Rattle.lite_base.specs.Answers.{Waiting, Answer, before_end, items, strip}
 use Rattle.lite_base.specs.Laws.Answers.{up_to_one, waiting_up_to}
 use Rattle.lite_base.specs.Laws.Calling.{folds_follow}
 use Rattle.lite_base.specs.Runs.{Question}
-use Rattle.lite_base.specs.Segments.{OneAnswer, Segment, Segments, SegmentsToValue, Rows, Paces, left_behind}
-use Rattle.std.proofs.Common.{eq-eqb}
+use Rattle.lite_base.specs.Segments.{OneAnswer, Segment, Segments, SegmentsToValue, Rows, Paces, is_first, left_behind}
+use Rattle.std.proofs.Common.{append-nil, eq-eqb}
 use Rattle.std.proofs.lemmas.Bool.{ne_eqb}
-use Rattle.lite_base.specs.Future.Race.{is_first}
 use Rattle.lite_base.specs.Ranks.{Lowers}
 
 module _ {M I O : Type 0} (one : Question M (List I) O) where

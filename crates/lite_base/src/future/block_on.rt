@@ -2,7 +2,7 @@
 ghost use Rattle.std.specs.Prelude.{◌≡◌, IfOk, IsOk, List, OnErr};
 ghost use Rattle.lite_base.specs.Uses.{Poll};
 ghost use Rattle.lite_base.specs.Answers.{Gives};
-ghost use Rattle.lite_base.specs.Future.Spent.{Finishes};
+ghost use Rattle.lite_base.specs.Spent.{Finishes};
 
 use super::{Future, Waits};
 use crate::Poll;

@@ -2,7 +2,7 @@
 use Rattle.std.specs.Prelude.{◌≡◌, ◌⊎◌, List, [], ◌∷◌, Option, Some, None, refl, ⊤}
 use Rattle.lite_consume.specs.Uses.{inl, inr, subst, Poll, Ready, SameAnswer, SameItem, Sameness, Answer, Gives, both_items, Runs}
 use Rattle.lite_base.specs.Answers.{ComparableBy, strip}
-use Rattle.lite_base.specs.Future.Spent.{Finishes}
+use Rattle.lite_base.specs.Spent.{Finishes}
 use Rattle.lite_base.specs.Laws.Alike.{comparable_nil, gives_strip, item_same}
 use Rattle.lite_base.specs.Steady.{FutureSteadyLawsBy, SteadyLawsBy, TakesNone}
 use Rattle.lite_consume.specs.Agreeing.{FoldSteadyLaws, Within, WithinWhere}

@@ -6,7 +6,7 @@ use Rattle.lite_merge.specs.Uses.{before_end, end, items, same_hint, PollsOn, St
 use Rattle.lite_merge.specs.Uses.{AllEnds, Relating, laws_capped}
 use Rattle.lite_base.specs.FutureLaws.{FutureLaws}
 use Rattle.lite_base.specs.Laws.Answers.{all_append, waiting_waiting}
-use Rattle.lite_base.specs.Laws.Future.Spent.{finishes_later}
+use Rattle.lite_base.specs.Laws.Spent.{finishes_later}
 use Rattle.lite_base.specs.Laws.FutureLaws.{future_runs_of}
 use Rattle.lite_stream.specs.Laws.Calming.{Calming}
 use Rattle.std.proofs.lemmas.List.{append-nil}

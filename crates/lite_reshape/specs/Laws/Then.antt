@@ -7,7 +7,7 @@ use Rattle.lite_reshape.specs.Uses.{SteadyLawsBy, makes_on, AgreeFrom, Calls, ag
 use Rattle.lite_reshape.specs.Uses.{FoldsTo, PollsOn, Runs, StreamLaws, ap, each_along, items_in, subst}
 use Rattle.lite_base.specs.FutureLaws.{FutureLaws, FutureRunLaws}
 use Rattle.lite_base.specs.Laws.Alike.{alike_agrees}
-use Rattle.lite_base.specs.Laws.Future.Spent.{handed_no_pending, handed_waiting, shown_gives, spends_follow, spends_found, spends_rest, spends_stay}
+use Rattle.lite_base.specs.Laws.Spent.{handed_no_pending, handed_waiting, shown_gives, spends_follow, spends_found, spends_rest, spends_stay}
 use Rattle.lite_base.specs.Laws.FutureLaws.{future_runs_of}
 use Rattle.lite_base.specs.Steady.{FutureSteadyLawsBy}
 use Rattle.lite_stream.specs.Laws.Agreeing.{through_steady_by}

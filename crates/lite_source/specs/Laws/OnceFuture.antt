@@ -8,7 +8,7 @@ use Rattle.lite_source.specs.Uses.{Lowers, Counting, number_counting, FutureStea
 use Rattle.lite_source.specs.Uses.{StreamLaws, laws_of, handed, NoHint, Runs}
 use Rattle.lite_base.specs.Laws.Alike.{comparable_nil, ends_same, same_answer}
 use Rattle.lite_base.specs.Laws.Ranks.{waiting_lowers}
-use Rattle.lite_base.specs.Laws.Future.Spent.{handed_waiting, spends_follow, spends_found, spends_on, spends_rest, spends_stay}
+use Rattle.lite_base.specs.Laws.Spent.{handed_waiting, spends_follow, spends_found, spends_on, spends_rest, spends_stay}
 use Rattle.lite_base.specs.Laws.FutureLaws.{future_runs_of}
 use Rattle.lite_source.specs.OnceFuture.{GivesFuture, once_future_ranks}
 use Rattle.lite_source.specs.Laws.Always.{answers_no_pending, answers_same, no_items_lower}

@@ -1,7 +1,7 @@
 -- Laws about `poll_fn`.
 use Rattle.std.specs.Prelude.{List, Option}
 use Rattle.lite_source.specs.Uses.{FoldsTo, Answer, CalmLaws, calm_both, CallAnswers, NeverPends, Poller}
-use Rattle.lite_base.specs.Laws.Future.Calls.{never_pends_on}
+use Rattle.lite_base.specs.Laws.Pollers.{never_pends_on}
 use Rattle.lite_source.specs.declared.poll_fn.PollFn.{PollFn}
 
 -- A `poll_fn` is calm, if no call of its function returns `Pending`.

@@ -9,7 +9,7 @@ use Rattle.lite_source.specs.Uses.{Runs, makes_on}
 use Rattle.lite_base.specs.Laws.Alike.{equal_options}
 use Rattle.lite_base.specs.Laws.Answers.{strip_join}
 use Rattle.lite_base.specs.Laws.Calling.{agree_from_matches}
-use Rattle.lite_base.specs.Laws.Future.Spent.{finishes_found, finishes_later}
+use Rattle.lite_base.specs.Laws.Spent.{finishes_found, finishes_later}
 use Rattle.lite_base.specs.Steady.{TakesNone}
 use Rattle.lite_source.specs.Laws.Always.{answers_no_pending}
 use Rattle.lite_source.specs.Unfolding.{BothHave, Holding, HoldingsBy, IfHeldFuture, IsCurrent, Leads, PartOf, UnfoldAlike, UnfoldPart, Unfolds, comes}

@@ -19,7 +19,7 @@ use Rattle.std.proofs.lemmas.List.Elements.{filter-append}
 use Rattle.lite_write.specs.Copy.{Copied, CopyRuns, CopyValue, Moves, CopiesSome, source_of, held_of, met_in}
 use Rattle.lite_write.specs.MarkLists.{BytesAlone, TakesSome, WritesUpTo, ReadsUpTo, byte_in, bytes_told, is_taken_wait, is_told_wait, waits_taken, waits_told}
 use Rattle.lite_write.specs.declared.copy.CopyFuture.{CopyFuture}
-use Rattle.lite_base.specs.Future.Spent.{Finishes}
+use Rattle.lite_base.specs.Spent.{Finishes}
 use Rattle.lite_base.specs.Laws.Alike.{gives_strip}
 use Rattle.lite_base.specs.Steady.{FutureSteadyLawsBy, TakesNone}
 use Rattle.lite_io_base.specs.Laws.Steady.{comparable_behind, strip_marks-append}

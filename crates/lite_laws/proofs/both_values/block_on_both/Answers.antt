@@ -1,5 +1,5 @@
 use Rattle.lite_base.specs.Laws.Alike.{alike_agrees}
-use Rattle.lite_base.specs.Laws.Future.Spent.{finishes_found}
+use Rattle.lite_base.specs.Laws.Spent.{finishes_found}
 use Rattle.lite_laws.proofs.both_values.block_on_both.Goals as goal
 
 pub returns : goal.returns

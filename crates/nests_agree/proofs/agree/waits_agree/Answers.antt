@@ -1,9 +1,9 @@
 use Rattle.std.proofs.Common.{rules, ◌≡◌, refl, Some, ℕ, false}
 use Rattle.lite_base.specs.Laws.Calling.{answers_agree}
-use Rattle.lite_base.specs.declared.future.side.Side.TheVariants.{Asked}
-use Rattle.lite_base.specs.declared.future.ready.Ready.{Ready}
-use Rattle.lite_base.specs.declared.future.yield_now.YieldNow.{YieldNow}
-use Rattle.lite_base.specs.declared.future.zip.Zip.{Zip}
+use Rattle.lite_future.specs.declared.side.Side.TheVariants.{Asked}
+use Rattle.lite_future.specs.declared.ready.Ready.{Ready}
+use Rattle.lite_future.specs.declared.yield_now.YieldNow.{YieldNow}
+use Rattle.lite_future.specs.declared.zip.Zip.{Zip}
 use Rattle.nests_agree.proofs.Appended.{appended_as}
 use Rattle.nests_agree.proofs.agree.waits_agree.Goals as goal
 

@@ -1,7 +1,7 @@
 use Rattle.std.proofs.Common.{◌≡◌, ◌<◌, ℕ, List, [], ◌∷◌, rules}
 use Rattle.std.specs.Prelude.{Option, Some, None, IfSome}
-use Rattle.lite_base.specs.Future.Ready.{GivesHeld}
-use Rattle.lite_base.specs.declared.future.ready.Ready.{Ready as ReadyFuture}
+use Rattle.lite_future.specs.Ready.{GivesHeld}
+use Rattle.lite_future.specs.declared.ready.Ready.{Ready as ReadyFuture}
 use Rattle.futures_lite.specs.Answers.{Gives, Pending, Poll, Ready}
 use Rattle.futures_lite.specs.Futures.{Finishes}
 use Rattle.futures_lite.specs.Laws.Each.{each_any, each_handed, each_expanding}

@@ -1,6 +1,6 @@
 use Rattle.std.proofs.Common.{rules, ◌≡◌, refl, ℕ, Some}
 use Rattle.lite_base.specs.Laws.Calling.{answers_agree}
-use Rattle.lite_base.specs.declared.future.ready.Ready.{Ready}
+use Rattle.lite_future.specs.declared.ready.Ready.{Ready}
 use Rattle.lite_source.specs.declared.once.Once.{Once}
 use Rattle.properties_met.proofs.conditions.making_closures_agree.Goals as goal
 

@@ -1,6 +1,6 @@
 use Rattle.std.proofs.Common.{rules, ◌≡◌, refl, ℕ, Ok, Option, Result, Some}
 use Rattle.lite_base.specs.Laws.Calling.{answers_agree}
-use Rattle.lite_base.specs.declared.future.ready.Ready.{Ready}
+use Rattle.lite_future.specs.declared.ready.Ready.{Ready}
 use Rattle.properties_met.proofs.Polled.{calls_alike, iterates_alike, polls_alike, polls_no_pending}
 use Rattle.properties_met.proofs.conditions.polled_closures_agree.Goals as goal
 

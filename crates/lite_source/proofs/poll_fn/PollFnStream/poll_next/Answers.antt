@@ -1,6 +1,6 @@
 use Rattle.std.specs.Prelude.{[]}
 use Rattle.lite_source.specs.Uses.{refl}
-use Rattle.lite_base.specs.Laws.Future.Calls.{obeys_on}
+use Rattle.lite_base.specs.Laws.Pollers.{obeys_on}
 use Rattle.lite_source.proofs.poll_fn.PollFnStream.poll_next.Goals as goal
 
 pub f-requires : goal.f-requires

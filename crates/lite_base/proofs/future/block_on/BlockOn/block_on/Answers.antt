@@ -1,4 +1,4 @@
-use Rattle.lite_base.specs.Laws.Future.Spent.{gave_finishes}
+use Rattle.lite_base.specs.Laws.Spent.{gave_finishes}
 use Rattle.lite_base.proofs.future.block_on.BlockOn.block_on.Goals as goal
 
 pub returns-clause-gave : goal.returns-clause-gave

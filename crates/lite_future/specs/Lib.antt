@@ -1,0 +1,15 @@
+pub mod Either
+pub mod Fuse
+pub mod Laws
+pub mod Or
+pub mod Picks
+pub mod PollLimited
+pub mod PollOnce
+pub mod Race
+pub mod Ready
+pub mod Side
+pub mod Together
+pub mod TryZip
+pub mod Uses
+pub mod YieldNow
+pub mod Zip
