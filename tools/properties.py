@@ -36,20 +36,20 @@ def type_of(parameters, written):
 
 @functools.cache
 def impls():
-    """Returns each public type of the library with a trait that it has."""
+    """Returns each public type of the library with a trait that it has, and the crate of that impl."""
     found = []
     for crate in with_below(crates_in(TOP), [FACADE]):
         texts = [read_text(it) for it in sorted(glob.glob(f"{TOP}/crates/{crate}/src/**/*.rt", recursive=True))]
         hidden = {name for text in texts for public, name in DECLARED.findall(text) if public.strip() != "pub"}
         every = ((type_of(parameters, written), trait) for text in texts for parameters, trait, written in IMPL.findall(text))
-        found += [(name, trait) for name, trait in every if name not in hidden]
+        found += [(name, trait, crate) for name, trait in every if name not in hidden]
     return found
 
 
 @functools.cache
 def of_kind(kind):
     """Returns the properties of each type of a kind. A type whose impls name its argument stands once for each of these arguments."""
-    traits = {name: {trait for it, trait in impls() if it == name} for name, trait in impls() if trait in (kind, *PROPERTIES[kind])}
+    traits = {name: {trait for it, trait, _ in impls() if it == name} for name, trait, _ in impls() if trait in (kind, *PROPERTIES[kind])}
     every = (name for name in traits if not any(other.startswith(f"{name}<") for other in traits))
     return {name: traits[name].intersection(PROPERTIES[kind]) for name in sorted(every, key=lambda it: (it.startswith("&"), it))}
 
@@ -61,13 +61,15 @@ def rows(kind):
 
 
 def tables():
-    """Returns of each kind, by the name of its markers in the page, its types, and those that lack a property."""
+    """Returns of each kind, by the name of its markers in the page, its types by their crates, and those that lack a property."""
     found = {}
     for kind in PROPERTIES:
         there = of_kind(kind)
+        crates = {name: crate for name, trait, crate in impls() if trait in (kind, *PROPERTIES[kind]) and name in there}
+        types = [f"- `{crate}`: {', '.join(f'`{name}`' for name in there if crates[name] == crate)}." for crate in dict.fromkeys(crates.values())]
         lacks = {it: [f"`{name}`" for name, has in there.items() if it not in has] for it in PROPERTIES[kind]}
-        lines = [f"- `{it}`: all but {', '.join(names)}." for it, names in lacks.items()]
-        found[kind] = "\n".join(["", "", wrapped(f"Types: {', '.join(f'`{name}`' for name in there)}."), "", *(wrapped(it, "  ") for it in lines), "", ""])
+        lines = ["Types by their crates:", "", *types, "", "Properties:", "", *(f"- `{it}`: all but {', '.join(names)}." for it, names in lacks.items())]
+        found[kind] = "\n".join(["", "", *(wrapped(it, "  ") for it in lines), "", ""])
     return found
 
 
