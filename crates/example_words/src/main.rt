@@ -23,7 +23,7 @@ mod words;
 use fault::WordsError;
 use futures_lite::AsyncReadExt;
 use futures_lite::future::BlockOn;
-use futures_lite::io::{AssertAsync, BufReader, BufWriter};
+use futures_lite::io::{AssertAsync, AsyncBufRead, AsyncWrite, BufReader, BufWriter, CountedRead};
 use map::map;
 use programs::{Command, Watched, end, misused};
 use reduce::reduce;
@@ -90,8 +90,25 @@ where
     let Ok(mut writer) = BufWriter::with_capacity(rt.alloc(), BUFFER, output) else {
         return Err(WordsError::Memory);
     };
+    run(&mut on, rt, mode, &mut reader, &mut writer)
+}
+
+/// Runs from a reader to a writer.
+fn run<R, T, O>(
+    on: &mut BlockOn,
+    rt: &R,
+    mode: Mode,
+    reader: &mut T,
+    writer: &mut O,
+) -> Result<(), WordsError>
+where
+    R: Wait + AllocGlobal,
+    T: AsyncBufRead + CountedRead,
+    O: AsyncWrite,
+    requires { T.ranks.counts reader.old }
+{
     match mode {
-        Mode::Map => map(&mut on, rt, &mut reader, &mut writer),
-        Mode::Reduce => reduce(&mut on, rt, &mut reader, &mut writer),
+        Mode::Map => map(on, rt, reader, writer),
+        Mode::Reduce => reduce(on, rt, reader, writer),
     }
 }

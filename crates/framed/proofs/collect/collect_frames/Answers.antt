@@ -21,7 +21,7 @@ loop-init g c = (
 
 pub returns-in-Err-clause-told : goal.returns-in-Err-clause-told
 returns-in-Err-clause-told g c phase =
-    let is : c.wait_frame.result ≡ Some (Ok c.in-Some-Ok.frame) = search rules in
+    let is : c.wait_frame.result ≡ Some (Ok c.in-Some-Ok.frame) = rw c.in-Some-Ok.field-0-is at c.in-Some-Ok.is in
     let kind : error_kind c.from.result ≡ OutOfMemory = search rules in
     refused g.D.Decoder.gives g.D.Error.From.from_gives (ToldStripped g.T.ReadSpec.reads) (stripped_laws g.T.ReadSpec.read_laws)
     g.met.D.Decoder.stable c.args.framed.now _ _ c.from.result _
@@ -31,7 +31,7 @@ returns-in-Err-clause-told g c phase =
 
 pub loop-preserved : goal.loop-preserved
 loop-preserved g c =
-    let is : c.wait_frame.result ≡ Some (Ok c.in-Some-Ok.frame) = search rules in
+    let is : c.wait_frame.result ≡ Some (Ok c.in-Some-Ok.frame) = rw c.in-Some-Ok.field-0-is at c.in-Some-Ok.is in
     let pushed = c.in_default.ensures.items in (
       tt,
       tt,
@@ -51,21 +51,21 @@ loop-preserved g c =
 
 pub returns-in-Some-Err-clause-told : goal.returns-in-Some-Err-clause-told
 returns-in-Some-Err-clause-told g c phase =
-    let is : c.wait_frame.result ≡ Some (Err c.in-Some-Err.e) = search rules in
+    let is : c.wait_frame.result ≡ Some (Err c.in-Some-Err.e) = rw c.in-Some-Err.field-0-is at c.in-Some-Err.is in
     stops g.D.Decoder.gives g.D.Error.From.from_gives (ToldStripped g.T.ReadSpec.reads) (stripped_laws g.T.ReadSpec.read_laws)
     g.met.D.Decoder.stable c.args.framed.now c.loop.frames.items c.loop.framed _ c.in-Some-Err.e (c.loop.invariant.3 phase)
     (rw is at c.wait_frame.ensures.told)
 
 pub returns-in-None-wait_frame-clause-told : goal.returns-in-None-wait_frame-clause-told
 returns-in-None-wait_frame-clause-told g c phase =
-    let is : c.wait_frame.result ≡ None = search rules in
+    let is : c.wait_frame.result ≡ None = c.in-None-wait_frame.is in
     all_frames g.D.Decoder.gives g.D.Error.From.from_gives (ToldStripped g.T.ReadSpec.reads) (stripped_laws g.T.ReadSpec.read_laws)
     g.met.D.Decoder.stable c.args.framed.now c.loop.frames c.loop.frames.items (search rules) c.loop.framed _
     (c.loop.invariant.3 phase) (rw is at c.wait_frame.ensures.told)
 
 pub returns-in-Err-clause-rest : goal.returns-in-Err-clause-rest
 returns-in-Err-clause-rest g c phase =
-    let is : c.wait_frame.result ≡ Some (Ok c.in-Some-Ok.frame) = search rules in
+    let is : c.wait_frame.result ≡ Some (Ok c.in-Some-Ok.frame) = rw c.in-Some-Ok.field-0-is at c.in-Some-Ok.is in
     let kind : error_kind c.from.result ≡ OutOfMemory = search rules in
     last_refused g.D.Decoder.gives g.D.Error.From.from_gives
     (ToldStripped g.T.ReadSpec.reads) (stripped_laws g.T.ReadSpec.read_laws) g.met.D.Decoder.stable c.args.framed.now _ _ c.from.result _
@@ -75,7 +75,7 @@ returns-in-Err-clause-rest g c phase =
 
 pub returns-in-Err-clause-over : goal.returns-in-Err-clause-over
 returns-in-Err-clause-over g c phase =
-    let is : c.wait_frame.result ≡ Some (Ok c.in-Some-Ok.frame) = search rules in
+    let is : c.wait_frame.result ≡ Some (Ok c.in-Some-Ok.frame) = rw c.in-Some-Ok.field-0-is at c.in-Some-Ok.is in
     let none = nothing_left g.D.Decoder.gives g.D.Error.From.from_gives
     (ToldStripped g.T.ReadSpec.reads) (stripped_laws g.T.ReadSpec.read_laws) g.met.D.Decoder.stable c.args.framed.now c.loop.framed _ (Some (Ok c.in-Some-Ok.frame))
     (c.loop.invariant.5 phase).0 phase (rw is at c.wait_frame.ensures.told) in
@@ -83,14 +83,14 @@ returns-in-Err-clause-over g c phase =
 
 pub returns-in-Some-Err-clause-rest : goal.returns-in-Some-Err-clause-rest
 returns-in-Some-Err-clause-rest g c phase =
-    let is : c.wait_frame.result ≡ Some (Err c.in-Some-Err.e) = search rules in
+    let is : c.wait_frame.result ≡ Some (Err c.in-Some-Err.e) = rw c.in-Some-Err.field-0-is at c.in-Some-Err.is in
     last_stops g.D.Decoder.gives g.D.Error.From.from_gives
     (ToldStripped g.T.ReadSpec.reads) (stripped_laws g.T.ReadSpec.read_laws) g.met.D.Decoder.stable c.args.framed.now c.loop.frames.items c.loop.framed _ c.in-Some-Err.e (c.loop.invariant.4 phase)
     (rw is at c.wait_frame.ensures.told)
 
 pub returns-in-Some-Err-clause-over : goal.returns-in-Some-Err-clause-over
 returns-in-Some-Err-clause-over g c phase =
-    let is : c.wait_frame.result ≡ Some (Err c.in-Some-Err.e) = search rules in
+    let is : c.wait_frame.result ≡ Some (Err c.in-Some-Err.e) = rw c.in-Some-Err.field-0-is at c.in-Some-Err.is in
     let none = nothing_left g.D.Decoder.gives g.D.Error.From.from_gives
     (ToldStripped g.T.ReadSpec.reads) (stripped_laws g.T.ReadSpec.read_laws) g.met.D.Decoder.stable c.args.framed.now c.loop.framed _ (Some (Err c.in-Some-Err.e))
     (c.loop.invariant.5 phase).0 phase (rw is at c.wait_frame.ensures.told) in
@@ -98,14 +98,14 @@ returns-in-Some-Err-clause-over g c phase =
 
 pub returns-in-None-wait_frame-clause-rest : goal.returns-in-None-wait_frame-clause-rest
 returns-in-None-wait_frame-clause-rest g c phase =
-    let is : c.wait_frame.result ≡ None = search rules in
+    let is : c.wait_frame.result ≡ None = c.in-None-wait_frame.is in
     all_left g.D.Decoder.gives g.D.Error.From.from_gives
     (ToldStripped g.T.ReadSpec.reads) (stripped_laws g.T.ReadSpec.read_laws) g.met.D.Decoder.stable c.args.framed.now c.loop.frames c.loop.frames.items (search rules) c.loop.framed _
     (c.loop.invariant.4 phase) (rw is at c.wait_frame.ensures.told)
 
 pub returns-in-None-wait_frame-clause-over : goal.returns-in-None-wait_frame-clause-over
 returns-in-None-wait_frame-clause-over g c phase =
-    let is : c.wait_frame.result ≡ None = search rules in
+    let is : c.wait_frame.result ≡ None = c.in-None-wait_frame.is in
     let none = nothing_left g.D.Decoder.gives g.D.Error.From.from_gives
     (ToldStripped g.T.ReadSpec.reads) (stripped_laws g.T.ReadSpec.read_laws) g.met.D.Decoder.stable c.args.framed.now c.loop.framed _ None
     (c.loop.invariant.5 phase).0 phase (rw is at c.wait_frame.ensures.told) in

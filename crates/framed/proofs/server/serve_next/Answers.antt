@@ -35,7 +35,7 @@ returns-in-Err-flush_by-clause-served g c =
 
 pub returns-in-Ok-flush_by-clause-served : goal.returns-in-Ok-flush_by-clause-served
 returns-in-Ok-flush_by-clause-served g c =
-    let s : c.serve_one.result ≡ Ok (Err c.in-Ok-Err.stopped) = search rules in
+    let s : c.serve_one.result ≡ Ok (Err c.in-Ok-Err.stopped) = rw c.in-Ok-Err.field-0-is at c.in-Ok-Err.is in
     let f : c.flush_by-in-Ok-Err.result ≡ Ok tt = search rules in
     flushed g.D.Decoder.gives g.S.Error.From.from_gives g.T.ReadSpec.reads g.T.AsyncBufRead.buffer_of g.O.WriteSpec.writes
     g.E.Encoder.encodes g.E.Encoder.refuses g.S.Service.answers g.S.Service.refuses _
@@ -49,7 +49,7 @@ returns-in-Ok-flush_by-clause-served g c =
 
 pub returns-in-Err-flush_by-2-clause-served : goal.returns-in-Err-flush_by-2-clause-served
 returns-in-Err-flush_by-2-clause-served g c =
-    let s : c.serve_one.result ≡ Ok (Err c.in-Ok-Err.stopped) = search rules in
+    let s : c.serve_one.result ≡ Ok (Err c.in-Ok-Err.stopped) = rw c.in-Ok-Err.field-0-is at c.in-Ok-Err.is in
     unflushed g.D.Decoder.gives g.S.Error.From.from_gives g.T.ReadSpec.reads g.T.AsyncBufRead.buffer_of g.O.WriteSpec.writes
     g.E.Encoder.encodes g.E.Encoder.refuses g.S.Service.answers g.S.Service.refuses _
     (record {

@@ -11,8 +11,8 @@ returns-in-None-clause-served g c =
 
 pub returns-in-Ok-Ok-clause-served : goal.returns-in-Ok-Ok-clause-served
 returns-in-Ok-Ok-clause-served g c =
-    let t : c.in_ok-take.field-0 ≡ Some (Ok c.in-Some-Ok.request) = search rules in
-    let s : c.send_all.result ≡ Ok (Ok tt) = search rules in
+    let t : c.in_ok-take.field-0 ≡ Some (Ok c.in-Some-Ok.request) = rw c.in-Some-Ok.field-0-is at c.in-Some-Ok.is in
+    let s : c.send_all.result ≡ Ok (Ok tt) = rw c.in-Ok-Ok.field-0-is at c.in-Ok-Ok.is in
     went g.D.Decoder.gives g.S.Error.From.from_gives g.T.ReadSpec.reads g.T.AsyncBufRead.buffer_of g.O.WriteSpec.writes
     g.E.Encoder.encodes g.E.Encoder.refuses g.S.Service.answers g.S.Service.refuses _
     _ c.in-Some-Ok.request _ (stepped g.D.Decoder.gives g.S.Error.From.from_gives g.T.ReadSpec.reads g.T.AsyncBufRead.buffer_of g.O.WriteSpec.writes
@@ -22,8 +22,8 @@ returns-in-Ok-Ok-clause-served g c =
 
 pub returns-in-Ok-Err-clause-served : goal.returns-in-Ok-Err-clause-served
 returns-in-Ok-Err-clause-served g c =
-    let t : c.in_ok-take.field-0 ≡ Some (Ok c.in-Some-Ok.request) = search rules in
-    let s : c.send_all.result ≡ Ok (Err c.in-Ok-Err.e) = search rules in
+    let t : c.in_ok-take.field-0 ≡ Some (Ok c.in-Some-Ok.request) = rw c.in-Some-Ok.field-0-is at c.in-Some-Ok.is in
+    let s : c.send_all.result ≡ Ok (Err c.in-Ok-Err.e) = rw c.in-Ok-Err.field-0-is at c.in-Ok-Err.is in
     not_written g.D.Decoder.gives g.S.Error.From.from_gives g.T.ReadSpec.reads g.T.AsyncBufRead.buffer_of g.O.WriteSpec.writes
     g.E.Encoder.encodes g.E.Encoder.refuses g.S.Service.answers g.S.Service.refuses _
     _ (Ok c.in-Some-Ok.request) _ _ _ (rw t at c.in_ok-take.ensures.taken) (rw c.in-Ok.is at c.answer.ensures)
@@ -31,7 +31,7 @@ returns-in-Ok-Err-clause-served g c =
 
 pub returns-in-Err-clause-served : goal.returns-in-Err-clause-served
 returns-in-Err-clause-served g c =
-    let t : c.in_ok-take.field-0 ≡ Some (Ok c.in-Some-Ok.request) = search rules in
+    let t : c.in_ok-take.field-0 ≡ Some (Ok c.in-Some-Ok.request) = rw c.in-Some-Ok.field-0-is at c.in-Some-Ok.is in
     not_encoded g.D.Decoder.gives g.S.Error.From.from_gives g.T.ReadSpec.reads g.T.AsyncBufRead.buffer_of g.O.WriteSpec.writes
     g.E.Encoder.encodes g.E.Encoder.refuses g.S.Service.answers g.S.Service.refuses _
     _ (Ok c.in-Some-Ok.request) _ _ _ (rw t at c.in_ok-take.ensures.taken) (rw c.in-Ok.is at c.answer.ensures)
@@ -39,8 +39,8 @@ returns-in-Err-clause-served g c =
 
 pub returns-in-Ok-Ok-send_all-clause-served : goal.returns-in-Ok-Ok-send_all-clause-served
 returns-in-Ok-Ok-send_all-clause-served g c =
-    let t : c.in_ok-take.field-0 ≡ Some (Err c.in-Some-Err.error) = search rules in
-    let s : c.send_all-in-Some-Err.result ≡ Ok (Ok tt) = search rules in
+    let t : c.in_ok-take.field-0 ≡ Some (Err c.in-Some-Err.error) = rw c.in-Some-Err.field-0-is at c.in-Some-Err.is in
+    let s : c.send_all-in-Some-Err.result ≡ Ok (Ok tt) = rw c.in-Ok-Ok-send_all.field-0-is at c.in-Ok-Ok-send_all.is in
     stepped g.D.Decoder.gives g.S.Error.From.from_gives g.T.ReadSpec.reads g.T.AsyncBufRead.buffer_of g.O.WriteSpec.writes
     g.E.Encoder.encodes g.E.Encoder.refuses g.S.Service.answers g.S.Service.refuses _
     _ (Err c.in-Some-Err.error) false _ _ (rw t at c.in_ok-take.ensures.taken)
@@ -48,8 +48,8 @@ returns-in-Ok-Ok-send_all-clause-served g c =
 
 pub returns-in-Ok-Err-send_all-clause-served : goal.returns-in-Ok-Err-send_all-clause-served
 returns-in-Ok-Err-send_all-clause-served g c =
-    let t : c.in_ok-take.field-0 ≡ Some (Err c.in-Some-Err.error) = search rules in
-    let s : c.send_all-in-Some-Err.result ≡ Ok (Err c.in-Ok-Err-send_all.e) = search rules in
+    let t : c.in_ok-take.field-0 ≡ Some (Err c.in-Some-Err.error) = rw c.in-Some-Err.field-0-is at c.in-Some-Err.is in
+    let s : c.send_all-in-Some-Err.result ≡ Ok (Err c.in-Ok-Err-send_all.e) = rw c.in-Ok-Err-send_all.field-0-is at c.in-Ok-Err-send_all.is in
     not_written g.D.Decoder.gives g.S.Error.From.from_gives g.T.ReadSpec.reads g.T.AsyncBufRead.buffer_of g.O.WriteSpec.writes
     g.E.Encoder.encodes g.E.Encoder.refuses g.S.Service.answers g.S.Service.refuses _
     _ (Err c.in-Some-Err.error) false _ _ (rw t at c.in_ok-take.ensures.taken)
@@ -57,7 +57,7 @@ returns-in-Ok-Err-send_all-clause-served g c =
 
 pub returns-in-Err-send_all-clause-served : goal.returns-in-Err-send_all-clause-served
 returns-in-Err-send_all-clause-served g c =
-    let t : c.in_ok-take.field-0 ≡ Some (Err c.in-Some-Err.error) = search rules in
+    let t : c.in_ok-take.field-0 ≡ Some (Err c.in-Some-Err.error) = rw c.in-Some-Err.field-0-is at c.in-Some-Err.is in
     not_encoded g.D.Decoder.gives g.S.Error.From.from_gives g.T.ReadSpec.reads g.T.AsyncBufRead.buffer_of g.O.WriteSpec.writes
     g.E.Encoder.encodes g.E.Encoder.refuses g.S.Service.answers g.S.Service.refuses _
     _ (Err c.in-Some-Err.error) false _ _ (rw t at c.in_ok-take.ensures.taken)
@@ -65,10 +65,10 @@ returns-in-Err-send_all-clause-served g c =
 
 pub returns-in_default-clause-served : goal.returns-in_default-clause-served
 returns-in_default-clause-served g c =
-    let t : c.in_ok-take.field-0 ≡ Some (Ok c.in-Some-Ok.request) = search rules in
+    let t : c.in_ok-take.field-0 ≡ Some (Ok c.in-Some-Ok.request) = rw c.in-Some-Ok.field-0-is at c.in-Some-Ok.is in
     (Ok c.in-Some-Ok.request, rw t at c.in_ok-take.ensures.taken, search rules, refl)
 
 pub returns-in_default-refuse-clause-served : goal.returns-in_default-refuse-clause-served
 returns-in_default-refuse-clause-served g c =
-    let t : c.in_ok-take.field-0 ≡ Some (Err c.in-Some-Err.error) = search rules in
+    let t : c.in_ok-take.field-0 ≡ Some (Err c.in-Some-Err.error) = rw c.in-Some-Err.field-0-is at c.in-Some-Err.is in
     (Err c.in-Some-Err.error, rw t at c.in_ok-take.ensures.taken, search rules, refl)

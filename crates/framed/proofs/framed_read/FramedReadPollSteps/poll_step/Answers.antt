@@ -16,7 +16,7 @@ returns-in-Ready-Ok-true-clause-stepped g c =
 pub returns-in-Ready-Err-clause-stepped : goal.returns-in-Ready-Err-clause-stepped
 returns-in-Ready-Err-clause-stepped g c =
     let p : c.in_hand.result ≡ Pending = search rules in
-    let is : c.fill.result ≡ Ready (Err c.in-Ready-Err.e) = search rules in
+    let is : c.fill.result ≡ Ready (Err c.in-Ready-Err.e) = rw c.in-Ready-Err.field-0-is at c.in-Ready-Err.is in
     rw c.fail.ensures.item (failed g.D.Decoder.gives g.D.Error.From.from_gives g.T.ReadSpec.reads g.T.ReadSpec.read_laws
     g.met.D.Decoder.partial_has_no_frame g.T.AsyncBufRead.buffer_of c.args.self.now c.in_hand.new.self c.fail.new.self
     (rw p at c.in_hand.ensures) c.in-Ready-Err.e _ _ (rw is at c.fill.ensures.ran) c.from.ensures
