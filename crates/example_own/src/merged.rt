@@ -2,7 +2,7 @@
 ghost use Rattle.std.specs.Prelude.{◌≡◌, ◌==◌, ◌%◌, ◌*◌, ◌^◌, ◌++◌, IfOk, map};
 ghost use Rattle.std.specs.List.{filter};
 ghost use Rattle.std.specs.List.Sorted.{IsNonDecreasing, IsPermutation};
-ghost use Rattle.futures_lite.specs.Lists.{Lists};
+ghost use Rattle.futures_lite.specs.Lists.{Lists, OfItems};
 ghost use Rattle.example_own.specs.MergeSorted.{merge_sorted};
 
 use crate::counter::Counter;
@@ -34,8 +34,18 @@ where
     R: Wait + RandomSource + AllocGlobal,
     ensures { IfOk result (λ v. v.items ≡ merge_sorted left.items right.items) }
 {
-    let both = merge_sorted(iter_vec(left), iter_vec(right));
-    block_on(rt, both.collect::<Vec<u32>>(rt.alloc()))?.map_err(|_| AllocError)
+    collected(rt, merge_sorted(iter_vec(left), iter_vec(right)))
+}
+
+/// The items of a stream, in a vector. `Err` where memory is refused.
+fn collected<R, S>(rt: &R, stream: S) -> Result<Vec<u32>, AllocError>
+where
+    R: Wait + RandomSource + AllocGlobal,
+    S: Counted<Item = u32> + Drop,
+    requires { S.can_poll stream × S.ranks.counts stream }
+    ensures { OfItems S.run stream (λ xs. IfOk result (λ v. v.items ≡ xs)) }
+{
+    block_on(rt, stream.collect::<Vec<u32>>(rt.alloc()))?.map_err(|_| AllocError)
 }
 
 /// The items of both vectors, each as often as it is in the two, and in order if both are. `Err` where memory is refused.
@@ -64,5 +74,5 @@ where
 {
     let triples = thirds.map(|n: u32| n.wrapping_mul(3));
     let evens = merge_sorted(triples, numbers).filter(|n| *n % 2 == 0);
-    block_on(rt, evens.collect::<Vec<u32>>(rt.alloc()))?.map_err(|_| AllocError)
+    collected(rt, evens)
 }
