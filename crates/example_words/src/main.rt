@@ -93,7 +93,7 @@ where
     run(&mut on, rt, mode, &mut reader, &mut writer)
 }
 
-/// Runs from a reader to a writer.
+/// Counts the words that the reader gives (`map`), or adds counts up (`reduce`), as `mode` says.
 fn run<R, T, O>(
     on: &mut BlockOn,
     rt: &R,
