@@ -1,0 +1,9 @@
+use Rattle.std.specs.Io.Slices.{io_slices_bytes}
+use Rattle.compat.specs.Laws.FromKit.{write_ran}
+use Rattle.compat.proofs.from_kit.writer.CompatAsyncWrite.poll_write_vectored.Goals as goal
+
+pub returns-clause-ran : goal.returns-clause-ran
+returns-clause-ran g c =
+    let e = c.poll_write_vectored.ensures in
+    write_ran c.args.self.now (record c.args.self.now { inner = c.poll_write_vectored.new.self })
+    c.poll_write_vectored.result (io_slices_bytes c.args.bufs.now) e.bytes e.failed

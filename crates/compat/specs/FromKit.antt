@@ -1,0 +1,68 @@
+-- The runs of a future, stream, reader or writer of the toolchain, from what its own traits say of each call.
+use Rattle.std.specs.Prelude.{◌≡◌, ◌⊎◌, ⊤, ℕ, Bool, true, false, List, [], ◌∷◌, ◌++◌, Option, Some, None, flat_map}
+use Rattle.compat.specs.Uses.{Answer, Error, FoldsTo, Lasting, Passes, Pending, Poll, ReadMark, Ready, Runs, WriteMark, bytes, error_kind}
+use Rattle.compat.specs.declared.compat.Compat.{Compat}
+use Rattle.futures.specs.Runs.{After, Runs as Answers, Within}
+
+-- What a `Pending` of the toolchain has registered: that the task is polled again, and each source that is needed.
+abbrev pub Needs : (ℕ → Type 0) → Lasting → Type 0
+Needs needs fact = (fact ≡ Lasting.armed) ⊎ ((s : ℕ) × needs s × (fact ≡ Lasting.hears s))
+
+-- One poll of a future of the toolchain. A `Pending` leaves one that gives no other value. A value is one that it gives.
+abbrev pub FutureStep : {F A : Type 0} → (F → Type 0) → (F → A → Type 0) → Compat F → Poll A → Compat F → Type 0
+FutureStep {A = A} can_poll gives x Pending y = can_poll y.inner × ((v : A) → gives y.inner v → gives x.inner v)
+FutureStep can_poll gives x (Ready v) y = gives x.inner v
+
+-- It holds, unless the stream has ended.
+abbrev pub Unended : Bool → Type 0 → Type 0
+Unended true P = ⊤
+Unended false P = P
+
+-- One poll of a stream of the toolchain, until it has ended; then each poll returns the end.
+abbrev pub StreamStep : {S A : Type 0} → (S → Type 0) → (S → Answers A) → Compat S → Answer A → Compat S → Type 0
+StreamStep can_poll yields x Pending y =
+    (x.ended ≡ false) × (y.ended ≡ false) × can_poll y.inner × Within (yields x.inner) (yields y.inner)
+StreamStep can_poll yields x (Ready (Some v)) y =
+    (x.ended ≡ false) × (y.ended ≡ false) × can_poll y.inner × yields x.inner [] (Some v)
+    × After (yields x.inner) v (yields y.inner)
+StreamStep can_poll yields x (Ready None) y =
+    (y.ended ≡ true) × (((x.ended ≡ false) × yields x.inner [] None) ⊎ ((x.ended ≡ true) × (y ≡ x)))
+
+-- Some items and one more answer fit the list: they are a prefix of it, and all of it at the end.
+abbrev pub KitFits : {A : Type 0} → List A → Option A → List A → Type 0
+KitFits ys None xs = ys ≡ xs
+KitFits {A} ys (Some v) xs = (rest : List A) × (xs ≡ ys ++ v ∷ rest)
+
+-- What a stream of the toolchain may yield is this list, or a part of it from the front on.
+abbrev pub KitLists : {A : Type 0} → Answers A → List A → Type 0
+KitLists {A} yields xs = (ys : List A) (last : Option A) → yields ys last → KitFits ys last xs
+
+-- One call on a reader of tokio, and its marks.
+module _ {R : Type 0} (reads : Passes R) (is_at_end : R → Type 0) (fails : R → Error → Type 0) where
+  pub data ReadCall (x : R) : List ReadMark → R → Type 0 where
+    gave : {y : R} (xs : List ℕ) → reads x xs y → ReadCall x (bytes xs) y
+    waited : {y : R} → reads x [] y → ReadCall x (ReadMark.pending ∷ []) y
+    failed : {y : R} (e : Error) → reads x [] y → fails y e → ReadCall x (ReadMark.fault (error_kind e) ∷ []) y
+    ended : {y : R} → reads x [] y → is_at_end y → ReadCall x (ReadMark.end ∷ []) y
+
+  -- Such calls one after the other.
+  pub record Reads (x : Compat R) (l : List ReadMark) (y : Compat R) : Type 0 where
+    pub calls : List (List ReadMark)
+    pub folds : FoldsTo ReadCall x.inner calls y.inner
+    pub joined : l ≡ flat_map (λ call. call) calls
+
+-- One call on a writer of tokio, and its mark.
+module _ {W : Type 0} (writes : Passes W) (is_flushed is_shut_down : W → Type 0) (fails : W → Error → Type 0) where
+  pub data WriteCall (x : W) : List WriteMark → W → Type 0 where
+    took : {y : W} (xs : List ℕ) → writes x xs y → WriteCall x (WriteMark.wrote xs ∷ []) y
+    waited : {y : W} → writes x [] y → WriteCall x (WriteMark.pending ∷ []) y
+    nothing : {y : W} → writes x [] y → WriteCall x (WriteMark.nothing ∷ []) y
+    failed : {y : W} (e : Error) → writes x [] y → fails y e → WriteCall x (WriteMark.fault (error_kind e) ∷ []) y
+    flushed : {y : W} → writes x [] y → is_flushed y → WriteCall x (WriteMark.flushed ∷ []) y
+    closed : {y : W} → writes x [] y → is_shut_down y → WriteCall x (WriteMark.closed ∷ []) y
+
+  -- Such calls one after the other.
+  pub record Writes (x : Compat W) (l : List WriteMark) (y : Compat W) : Type 0 where
+    pub calls : List (List WriteMark)
+    pub folds : FoldsTo WriteCall x.inner calls y.inner
+    pub joined : l ≡ flat_map (λ call. call) calls

@@ -1,0 +1,195 @@
+-- Laws of the toolchain's futures, streams, readers and writers as this library's.
+use Rattle.std.specs.Prelude.{◌≡◌, ℕ, Bool, true, false, List, [], ◌∷◌, ◌++◌, map, Option, None, Some, ◌≤◌, ◌<◌, ◌⊎◌, flat_map, length, take, Result, Ok, Err}
+use Rattle.lite_io_base.specs.Marks.{moved_marks}
+use Rattle.std.proofs.Common.{arith, length-take-le}
+use lib.Seq.{take-nil}
+use Rattle.tokio.specs.Io.Moved.{IfReadyErr, OnReadyOk, bytes_moved, count_moved}
+use Rattle.std.proofs.lemmas.Grind.{flat_map-append}
+use Rattle.lite_base.specs.Laws.Calling.{folds_follow}
+use Rattle.lite_write.specs.Laws.Copy.{told_both}
+use Rattle.lite_io_base.specs.Laws.Marks.{taken_both}
+use Rattle.futures_lite.specs.Own.{ItemsAfter, lists_as, lists_by_relation}
+use Rattle.lite_views.specs.Views.{ListsAs}
+use Rattle.compat.specs.Laws.ToKit.{told_bytes}
+use Rattle.compat.specs.FromKit.{FutureStep, KitFits, KitLists, Reads, StreamStep, Unended, Writes, ReadCall, WriteCall}
+use Rattle.compat.specs.Uses.{Answer, Error, FoldsTo, MarkLaws, Passes, PassesInOrder, PassesNothing, Pending, Poll, ReadMark, Ready, WriteMark, ap, bytes_taken, bytes_told, inl, inr, append-nil, done_marks, read_marks, refl, subst, sym, write_marks, ◌∙◌}
+use Rattle.compat.specs.declared.compat.Compat.{Compat}
+use Rattle.futures.specs.Poll.{IfReady, OnPending}
+use Rattle.futures.specs.Runs.{Runs as Answers}
+use Rattle.lite_theorems.specs.Futures.{StepsToValue}
+
+kit_rest : {A : Type 0} (v : A) (ys rest : List A) (last : Option A) (xs : List A) → xs ≡ v ∷ rest
+    → KitFits (v ∷ ys) last xs → KitFits ys last rest
+kit_rest v ys rest None xs e h = cc
+kit_rest v ys rest (Some u) xs e h = (h.0, cc h.1)
+
+module _ {S A : Type 0} (can_poll : S → Type 0) (yields : S → Answers A) where
+  -- What may be polled may be polled again.
+  pub step_keeps : (x y : Compat S) (a : Answer A) → Unended x.ended (can_poll x.inner)
+      → StreamStep can_poll yields x a y → Unended y.ended (can_poll y.inner)
+  step_keeps x y Pending c h = rw h.1 h.2
+  step_keeps x y (Ready (Some v)) c h = rw h.1 h.2
+  step_keeps x y (Ready None) c h = rw h.0 tt
+
+-- One poll of a future of the toolchain, by what the toolchain says of it.
+pub future_ran : {F A : Type 0} (can_poll : F → Type 0) (gives : F → A → Type 0) (x y : Compat F) (r : Poll A)
+    → IfReady r (gives x.inner) → OnPending r (can_poll y.inner) → OnPending r ((v : A) → gives y.inner v → gives x.inner v)
+    → StepsToValue (FutureStep can_poll gives) x (r ∷ []) y
+future_ran can_poll gives x y Pending value again same = (tt, (y, (again, same), refl))
+future_ran can_poll gives x y (Ready v) value again same = (refl, (y, value, refl))
+
+none_moved : (n : ℕ) (buf : List ℕ) → n ≤ length buf → take n buf ≡ [] → ◌≡◌ {A = Poll (Result ℕ Error)} (Ready (Ok n)) (Ready (Ok 0))
+none_moved n buf fits e = ap (λ k. Ready (Ok k)) (sym (length-take-le n buf fits) ∙ ap length e)
+
+module _ {R : Type 0} {reads : Passes R} {is_at_end : R → Type 0} {fails : R → Error → Type 0} where
+  reads_rest : (x : Compat R) → Reads reads is_at_end fails x [] x
+  reads_rest x = record { calls = []; folds = refl; joined = refl }
+
+  reads_follow : (x y z : Compat R) (l m : List ReadMark) → Reads reads is_at_end fails x l y
+      → Reads reads is_at_end fails y m z → Reads reads is_at_end fails x (l ++ m) z
+  reads_follow x y z l m h k =
+      record {
+        calls = h.calls ++ k.calls;
+        folds = folds_follow _ x.inner y.inner z.inner h.calls k.calls h.folds k.folds;
+        joined = rw (h.joined, k.joined, flat_map-append (λ call. call) h.calls k.calls);
+      }
+
+  one_read : (x y : Compat R) (l : List ReadMark) → ReadCall reads is_at_end fails x.inner l y.inner
+      → Reads reads is_at_end fails x l y
+  one_read x y l h = record { calls = l ∷ []; folds = (inner y, h, refl); joined = sym (append-nil l) }
+
+  moved_ran : (x y : Compat R) (buf xs : List ℕ) → reads x.inner xs y.inner
+      → (xs ≡ [] → 0 < length buf → is_at_end y.inner) → Reads reads is_at_end fails x (moved_marks buf xs) y
+  moved_ran x y buf (b ∷ xs) h end = one_read x y _ (ReadCall.gave (b ∷ xs) h)
+  moved_ran x y [] [] h end = one_read x y _ (ReadCall.gave [] h)
+  moved_ran x y (r ∷ room) [] h end = one_read x y _ (ReadCall.ended h (end refl (omega arith)))
+
+  -- One read of tokio, by what it says of it.
+  pub read_ran : (x y : Compat R) (r : Poll (Result ℕ Error)) (buf : List ℕ) → count_moved r ≤ length buf
+      → reads x.inner (bytes_moved r buf) y.inner
+      → (r ≡ Ready (Ok 0) → 0 < length buf → is_at_end y.inner) → IfReadyErr r (fails y.inner)
+      → Reads reads is_at_end fails x (read_marks r buf) y
+  read_ran x y Pending buf fits h end failed = one_read x y _ (ReadCall.waited h)
+  read_ran x y (Ready (Err e)) buf fits h end failed = one_read x y _ (ReadCall.failed e h failed)
+  read_ran x y (Ready (Ok n)) buf fits h end failed =
+      moved_ran x y buf (take n buf) h (λ e some. end (none_moved n buf fits e) some)
+
+  pub reads_laws : MarkLaws (Reads reads is_at_end fails)
+  reads_laws = record { rests = reads_rest; follows = reads_follow }
+
+module _ {W : Type 0} {writes : Passes W} {is_flushed is_shut_down : W → Type 0} {fails : W → Error → Type 0} where
+  writes_rest : (x : Compat W) → Writes writes is_flushed is_shut_down fails x [] x
+  writes_rest x = record { calls = []; folds = refl; joined = refl }
+
+  writes_follow : (x y z : Compat W) (l m : List WriteMark) → Writes writes is_flushed is_shut_down fails x l y
+      → Writes writes is_flushed is_shut_down fails y m z
+      → Writes writes is_flushed is_shut_down fails x (l ++ m) z
+  writes_follow x y z l m h k =
+      record {
+        calls = h.calls ++ k.calls;
+        folds = folds_follow _ x.inner y.inner z.inner h.calls k.calls h.folds k.folds;
+        joined = rw (h.joined, k.joined, flat_map-append (λ call. call) h.calls k.calls);
+      }
+
+  one_write : (x y : Compat W) (l : List WriteMark) → WriteCall writes is_flushed is_shut_down fails x.inner l y.inner
+      → Writes writes is_flushed is_shut_down fails x l y
+  one_write x y l h = record { calls = l ∷ []; folds = (inner y, h, refl); joined = sym (append-nil l) }
+
+  -- One write of tokio, by what it says of it.
+  pub write_ran : (x y : Compat W) (r : Poll (Result ℕ Error)) (buf : List ℕ) → writes x.inner (bytes_moved r buf) y.inner
+      → IfReadyErr r (fails y.inner) → Writes writes is_flushed is_shut_down fails x (write_marks r buf) y
+  write_ran x y Pending buf h failed = one_write x y _ (WriteCall.waited h)
+  write_ran x y (Ready (Err e)) buf h failed = one_write x y _ (WriteCall.failed e h failed)
+  write_ran x y (Ready (Ok n)) [] h failed =
+      one_write x y _ (WriteCall.nothing (subst (λ l. writes x.inner l y.inner) (take-nil n) h))
+  write_ran x y (Ready (Ok n)) (b ∷ buf) h failed = one_write x y _ (WriteCall.took (take n (b ∷ buf)) h)
+
+  -- One flush.
+  pub flush_ran : (x y : Compat W) (r : Poll (Result (Unit {0}) Error)) → writes x.inner [] y.inner
+      → OnReadyOk r (is_flushed y.inner) → IfReadyErr r (fails y.inner)
+      → Writes writes is_flushed is_shut_down fails x (done_marks WriteMark.flushed r) y
+  flush_ran x y Pending h done failed = one_write x y _ (WriteCall.waited h)
+  flush_ran x y (Ready (Err e)) h done failed = one_write x y _ (WriteCall.failed e h failed)
+  flush_ran x y (Ready (Ok u)) h done failed = one_write x y _ (WriteCall.flushed h done)
+
+  -- One shutdown.
+  pub close_ran : (x y : Compat W) (r : Poll (Result (Unit {0}) Error)) → writes x.inner [] y.inner
+      → OnReadyOk r (is_shut_down y.inner) → IfReadyErr r (fails y.inner)
+      → Writes writes is_flushed is_shut_down fails x (done_marks WriteMark.closed r) y
+  close_ran x y Pending h done failed = one_write x y _ (WriteCall.waited h)
+  close_ran x y (Ready (Err e)) h done failed = one_write x y _ (WriteCall.failed e h failed)
+  close_ran x y (Ready (Ok u)) h done failed = one_write x y _ (WriteCall.closed h done)
+
+  pub writes_laws : MarkLaws (Writes writes is_flushed is_shut_down fails)
+  writes_laws = record { rests = writes_rest; follows = writes_follow }
+
+-- The bytes of the marks are those that tokio's calls moved.
+module _ {R : Type 0} {reads : Passes R} (is_at_end : R → Type 0) (fails : R → Error → Type 0)
+    (nothing : PassesNothing reads) (in_order : PassesInOrder reads) where
+  call_told : (x y : R) (l : List ReadMark) → ReadCall reads is_at_end fails x l y → reads x (bytes_told l) y
+  call_told x y l (ReadCall.gave xs h) = subst (λ b. reads x b y) (sym (told_bytes xs)) h
+  call_told x y l (ReadCall.waited h) = h
+  call_told x y l (ReadCall.failed e h f) = h
+  call_told x y l (ReadCall.ended h e) = h
+
+  calls_told : (x y : R) (calls : List (List ReadMark)) → FoldsTo (ReadCall reads is_at_end fails) x calls y
+      → reads x (bytes_told (flat_map (λ call. call) calls)) y
+  calls_told x y [] h = subst (reads x []) h (nothing x)
+  calls_told x y (c ∷ calls) h =
+      subst (λ b. reads x b y) (sym (told_both c (flat_map (λ call. call) calls)))
+      (in_order x (bytes_told c) h.0 _ y (call_told x h.0 c h.1) (calls_told h.0 y calls h.2))
+
+  pub reads_told : (x y : Compat R) (l : List ReadMark) → Reads reads is_at_end fails x l y
+      → reads x.inner (bytes_told l) y.inner
+  reads_told x y l h =
+      subst (λ m. reads x.inner (bytes_told m) y.inner) (sym h.joined) (calls_told x.inner y.inner h.calls h.folds)
+
+module _ {W : Type 0} {writes : Passes W} (is_flushed is_shut_down : W → Type 0) (fails : W → Error → Type 0)
+    (nothing : PassesNothing writes) (in_order : PassesInOrder writes) where
+  call_taken : (x y : W) (l : List WriteMark) → WriteCall writes is_flushed is_shut_down fails x l y
+      → writes x (bytes_taken l) y
+  call_taken x y l (WriteCall.took xs h) = subst (λ b. writes x b y) (sym (append-nil xs)) h
+  call_taken x y l (WriteCall.waited h) = h
+  call_taken x y l (WriteCall.nothing h) = h
+  call_taken x y l (WriteCall.failed e h f) = h
+  call_taken x y l (WriteCall.flushed h d) = h
+  call_taken x y l (WriteCall.closed h d) = h
+
+  calls_taken : (x y : W) (calls : List (List WriteMark))
+      → FoldsTo (WriteCall writes is_flushed is_shut_down fails) x calls y
+      → writes x (bytes_taken (flat_map (λ call. call) calls)) y
+  calls_taken x y [] h = subst (writes x []) h (nothing x)
+  calls_taken x y (c ∷ calls) h =
+      subst (λ b. writes x b y) (sym (taken_both c (flat_map (λ call. call) calls)))
+      (in_order x (bytes_taken c) h.0 _ y (call_taken x h.0 c h.1) (calls_taken h.0 y calls h.2))
+
+  pub writes_taken : (x y : Compat W) (l : List WriteMark) → Writes writes is_flushed is_shut_down fails x l y
+      → writes x.inner (bytes_taken l) y.inner
+  writes_taken x y l h =
+      subst (λ m. writes x.inner (bytes_taken m) y.inner) (sym h.joined) (calls_taken x.inner y.inner h.calls h.folds)
+
+-- If the stream of the toolchain has a list, this library's has it.
+module _ {S A : Type 0} (can_poll : S → Type 0) (yields : S → Answers A) where
+  abbrev Left : Compat S → List A → Type 0
+  Left x xs = ((x.ended ≡ false) × KitLists (yields x.inner) xs) ⊎ ((x.ended ≡ true) × (xs ≡ []))
+
+  left_after : (x y : Compat S) (a : Answer A) (xs : List A) → KitLists (yields x.inner) xs → x.ended ≡ false
+      → StreamStep can_poll yields x a y → ItemsAfter Left a y xs
+  left_after x y Pending xs known running h = inl (h.1, λ ys last k. known ys last (h.3 ys last k))
+  left_after x y (Ready None) xs known running (e, inl h) = sym (known [] None h.1)
+  left_after x y (Ready None) xs known running (e, inr h) = absurd (let d = h.0 in cc)
+  left_after x y (Ready (Some v)) xs known running h =
+      let first = known [] (Some v) h.3 in
+      (first.0, first.1, inl (h.1, λ ys last k. kit_rest v ys first.0 last xs first.1 (known (v ∷ ys) last (h.4 ys last k))))
+
+  moves : (x y : Compat S) (a : Answer A) (xs : List A) → Left x xs → StreamStep can_poll yields x a y
+      → ItemsAfter Left a y xs
+  moves x y a xs (inl (running, known)) h = left_after x y a xs known running h
+  moves x y Pending xs (inr (over, none)) h = absurd (let d = h.0 in cc)
+  moves x y (Ready (Some v)) xs (inr (over, none)) h = absurd (let d = h.0 in cc)
+  moves x y (Ready None) xs (inr (over, none)) h = none
+
+  pub kit_lists : (x : Compat S) (xs : List A) → x.ended ≡ false → KitLists (yields x.inner) xs
+      → ListsAs (FoldsTo (StreamStep can_poll yields)) x xs
+  kit_lists x xs running known =
+      lists_as _ x xs (lists_by_relation (StreamStep can_poll yields) Left moves x xs (inl (running, known)))

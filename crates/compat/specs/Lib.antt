@@ -1,0 +1,4 @@
+pub mod FromKit
+pub mod Laws
+pub mod ToKit
+pub mod Uses

@@ -1,0 +1,22 @@
+//! Readers of the toolchain's `tokio` as those of this library.
+ghost use Rattle.compat.specs.FromKit.{Needs, Reads};
+ghost use Rattle.compat.specs.Laws.FromKit.{reads_laws};
+
+use crate::compat::Compat;
+use futures_lite::io::{AsyncRead, ReadSpec};
+use futures_lite::{Context, Poll};
+use std::io;
+
+impl<R: tokio::io::AsyncRead> ReadSpec for Compat<R> {
+    ghost reads = { Reads R.reads R.is_at_end R.fails };
+
+    ghost read_laws = { reads_laws };
+}
+
+impl<R: tokio::io::AsyncRead> AsyncRead for Compat<R> {
+    ghost registers = { λ k. Needs (R.needs k.inner) };
+
+    fn poll_read(&mut self, cx: &mut Context<'_>, buf: &mut [u8]) -> Poll<io::Result<usize>> {
+        self.inner.poll_read(cx, buf)
+    }
+}

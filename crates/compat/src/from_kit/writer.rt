@@ -1,0 +1,39 @@
+//! Writers of the toolchain's `tokio` as those of this library.
+ghost use Rattle.compat.specs.FromKit.{Needs, Writes};
+ghost use Rattle.compat.specs.Laws.FromKit.{writes_laws};
+
+use crate::compat::Compat;
+use futures_lite::io::{AsyncWrite, WriteSpec};
+use futures_lite::{Context, Poll};
+use std::io;
+use std::io::IoSlice;
+
+impl<W: tokio::io::AsyncWrite> WriteSpec for Compat<W> {
+    ghost writes = { Writes W.writes W.is_flushed W.is_shut_down W.fails };
+
+    ghost write_laws = { writes_laws };
+}
+
+impl<W: tokio::io::AsyncWrite> AsyncWrite for Compat<W> {
+    ghost write_registers = { λ k. Needs (W.needs k.inner) };
+
+    fn poll_write(&mut self, cx: &mut Context<'_>, buf: &[u8]) -> Poll<io::Result<usize>> {
+        self.inner.poll_write(cx, buf)
+    }
+
+    fn poll_write_vectored(
+        &mut self,
+        cx: &mut Context<'_>,
+        bufs: &[IoSlice<'_>],
+    ) -> Poll<io::Result<usize>> {
+        self.inner.poll_write_vectored(cx, bufs)
+    }
+
+    fn poll_flush(&mut self, cx: &mut Context<'_>) -> Poll<io::Result<()>> {
+        self.inner.poll_flush(cx)
+    }
+
+    fn poll_close(&mut self, cx: &mut Context<'_>) -> Poll<io::Result<()>> {
+        self.inner.poll_shutdown(cx)
+    }
+}

@@ -1,0 +1,21 @@
+//! Futures, streams, readers and writers of this library as those of the toolchain's crates `futures` and `tokio`, and
+//! theirs as those of this library.
+//!
+//! A value of either side is wrapped by [`compat`](CompatExt::compat), as by the crates `async-compat` and
+//! `tokio_util::compat`. What is wrapped has the traits of the other side, so that the toolchain's executors, channels,
+//! timers and sockets can be used with this library's combinators. Nothing here needs a handle.
+//!
+//! Chapter 23 (`docs/guide/23-runtimes.md`) shows programs.
+#![tactic(auto)]
+
+mod compat;
+mod from_kit;
+mod laws;
+#[cfg(test)]
+mod tests;
+mod to_kit;
+mod wait;
+
+pub use compat::{Compat, CompatExt};
+pub use laws::{reads_same, stream_from_kit, writes_same};
+pub use wait::{collect_from_kit, wait_from_kit};

@@ -1,0 +1,23 @@
+//! Futures of this library as those of the toolchain.
+ghost use Rattle.std.specs.Prelude.{List};
+ghost use Rattle.compat.specs.Uses.{Finishes, Lasting, Poll};
+
+use crate::compat::Compat;
+use futures_lite::{Context, Future, Poll};
+
+impl<F: Future + Drop> futures::Future for Compat<F> {
+    type Output = F::Output;
+
+    ghost can_poll = { λ k. F.can_poll k.inner };
+
+    ghost needs = { λ k s. F.registers k.inner (Lasting.hears s) };
+
+    ghost gives = { λ k v. (ins : List (Poll F.Output)) × Finishes F.run k.inner ins v };
+
+    fn poll(&mut self, cx: &mut Context<'_>) -> Poll<F::Output> {
+        match self.inner.poll(cx) {
+            Poll::Ready(value) => Poll::Ready(value),
+            Poll::Pending => cx.register(&self.source, &mut self.slot),
+        }
+    }
+}
