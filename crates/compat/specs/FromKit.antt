@@ -1,6 +1,6 @@
 -- The runs of a future, stream, reader or writer of the toolchain, from what its own traits say of each call.
 use Rattle.std.specs.Prelude.{◌≡◌, ◌⊎◌, ⊤, ℕ, Bool, true, false, List, [], ◌∷◌, ◌++◌, Option, Some, None, flat_map}
-use Rattle.compat.specs.Uses.{Answer, Error, FoldsTo, Lasting, Passes, Pending, Poll, ReadMark, Ready, Runs, WriteMark, bytes, error_kind}
+use Rattle.compat.specs.Uses.{Answer, Error, FoldsTo, Lasting, Passes, Pending, Poll, ReadMark, Ready, WriteMark, bytes, error_kind}
 use Rattle.compat.specs.declared.compat.Compat.{Compat}
 use Rattle.futures.specs.Runs.{After, Runs as Answers, Within}
 
@@ -37,7 +37,7 @@ KitFits {A} ys (Some v) xs = (rest : List A) × (xs ≡ ys ++ v ∷ rest)
 abbrev pub KitLists : {A : Type 0} → Answers A → List A → Type 0
 KitLists {A} yields xs = (ys : List A) (last : Option A) → yields ys last → KitFits ys last xs
 
--- One call on a reader of tokio, and its marks.
+-- One call on a reader of tokio, and the marks that it leaves.
 module _ {R : Type 0} (reads : Passes R) (is_at_end : R → Type 0) (fails : R → Error → Type 0) where
   pub data ReadCall (x : R) : List ReadMark → R → Type 0 where
     gave : {y : R} (xs : List ℕ) → reads x xs y → ReadCall x (bytes xs) y
@@ -45,24 +45,19 @@ module _ {R : Type 0} (reads : Passes R) (is_at_end : R → Type 0) (fails : R �
     failed : {y : R} (e : Error) → reads x [] y → fails y e → ReadCall x (ReadMark.fault (error_kind e) ∷ []) y
     ended : {y : R} → reads x [] y → is_at_end y → ReadCall x (ReadMark.end ∷ []) y
 
-  -- Such calls one after the other.
+  -- Such calls one after the other, and the marks of all of them.
   pub record Reads (x : Compat R) (l : List ReadMark) (y : Compat R) : Type 0 where
     pub calls : List (List ReadMark)
     pub folds : FoldsTo ReadCall x.inner calls y.inner
     pub joined : l ≡ flat_map (λ call. call) calls
 
--- One call on a writer of tokio, and its mark.
+-- One call on a writer of tokio, by the mark that it leaves.
 module _ {W : Type 0} (writes : Passes W) (is_flushed is_shut_down : W → Type 0) (fails : W → Error → Type 0) where
-  pub data WriteCall (x : W) : List WriteMark → W → Type 0 where
-    took : {y : W} (xs : List ℕ) → writes x xs y → WriteCall x (WriteMark.wrote xs ∷ []) y
-    waited : {y : W} → writes x [] y → WriteCall x (WriteMark.pending ∷ []) y
-    nothing : {y : W} → writes x [] y → WriteCall x (WriteMark.nothing ∷ []) y
-    failed : {y : W} (e : Error) → writes x [] y → fails y e → WriteCall x (WriteMark.fault (error_kind e) ∷ []) y
-    flushed : {y : W} → writes x [] y → is_flushed y → WriteCall x (WriteMark.flushed ∷ []) y
-    closed : {y : W} → writes x [] y → is_shut_down y → WriteCall x (WriteMark.closed ∷ []) y
-
-  -- Such calls one after the other.
-  pub record Writes (x : Compat W) (l : List WriteMark) (y : Compat W) : Type 0 where
-    pub calls : List (List WriteMark)
-    pub folds : FoldsTo WriteCall x.inner calls y.inner
-    pub joined : l ≡ flat_map (λ call. call) calls
+  abbrev pub WriteStep : Compat W → WriteMark → Compat W → Type 0
+  WriteStep x (WriteMark.wrote xs) y = writes x.inner xs y.inner
+  WriteStep x WriteMark.nothing y = writes x.inner [] y.inner
+  WriteStep x WriteMark.pending y = writes x.inner [] y.inner
+  WriteStep x (WriteMark.fault kind) y =
+      writes x.inner [] y.inner × ((e : Error) × fails y.inner e × (error_kind e ≡ kind))
+  WriteStep x WriteMark.flushed y = writes x.inner [] y.inner × is_flushed y.inner
+  WriteStep x WriteMark.closed y = writes x.inner [] y.inner × is_shut_down y.inner

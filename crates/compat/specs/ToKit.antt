@@ -1,6 +1,10 @@
 -- What the toolchain's traits say of the runs of a stream, reader or writer of this library.
 use Rattle.std.specs.Prelude.{◌≡◌, ℕ, List, [], ◌∷◌, ◌++◌, map, Option, Some}
-use Rattle.compat.specs.Uses.{Answer, Error, ReadMark, Runs, WriteMark, bytes_taken, bytes_told, error_kind, strip}
+use Rattle.compat.specs.Uses.{Answer, Error, Finishes, Poll, ReadMark, Runs, WriteMark, bytes_taken, bytes_told, error_kind, strip}
+
+-- The future may be polled to this value.
+abbrev pub FinishesWith : {F A : Type 0} → Runs (Poll A) F → F → A → Type 0
+FinishesWith {A = A} run f v = (ins : List (Poll A)) × Finishes run f ins v
 
 -- The stream gave the items `xs`, and then one more answer: `last`, an item or its end. `Pending`s are left out.
 pub record Yields {S A : Type 0} (run : Runs (Answer A) S) (x : S) (xs : List A) (last : Option A) : Type 0 where

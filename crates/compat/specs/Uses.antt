@@ -7,7 +7,7 @@ pub use Rattle.lite_base.specs.Answers.{Answer, strip}
 pub use Rattle.lite_base.specs.Runs.{Runs}
 pub use Rattle.lite_base.specs.Spent.{Finishes}
 pub use Rattle.lite_io_base.specs.Marks.{ReadMark, bytes, read_marks}
-pub use Rattle.lite_io_base.specs.Runs.{MarkLaws}
+pub use Rattle.lite_io_base.specs.Runs.{MarkLaws, Steps}
 pub use Rattle.lite_io_base.specs.WriteMarks.{WriteMark, bytes_taken, write_marks, done_marks}
 pub use Rattle.lite_write.specs.MarkLists.{bytes_told}
 pub use Rattle.std.proofs.Common.{ap, append_assoc, append-nil, inl, inr, refl, subst, sym, ◌∙◌}

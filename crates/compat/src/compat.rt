@@ -56,7 +56,9 @@ pub struct Compat<T> {
 
 impl<T: fmt::Debug> fmt::Debug for Compat<T> {
     fn fmt<W: fmt::Write>(&self, f: &mut fmt::Formatter<W>) -> fmt::Result {
-        f.debug_struct("Compat").field("inner", &self.inner).finish_non_exhaustive()
+        f.debug_struct("Compat")
+            .field("inner", &self.inner)
+            .finish_non_exhaustive()
     }
 }
 

@@ -17,5 +17,9 @@ mod to_kit;
 mod wait;
 
 pub use compat::{Compat, CompatExt};
-pub use laws::{reads_same, stream_from_kit, writes_same};
+pub use laws::{
+    future_and_back, kit_future_and_back, kit_reader_and_back, kit_stream_and_back,
+    kit_writer_and_back, reader_and_back, reads_same, stream_and_back, stream_from_kit,
+    writer_and_back, writes_same,
+};
 pub use wait::{collect_from_kit, wait_from_kit};

@@ -156,7 +156,11 @@ fn buf_writer_under_tokio(rt: HostRuntime) -> Result<(), Fail> {
     let Ok(writer) = BufWriter::new(alloc, Compat::new(near)) else {
         return Err(AllocError.into());
     };
-    let copying = tokio::io::copy(alloc, b"by tokio, over ours".as_slice(), Compat::new(writer))?;
+    let copying = tokio::io::copy(
+        alloc,
+        b"by tokio, over ours".as_slice(),
+        Compat::new(writer),
+    )?;
     let reading = read_to_end(far, BytesMut::new(alloc));
     let (copied, read) = kit_block_on(&rt, join(copying.map(|c| c.map(|(n, _, _)| n)), reading))?;
     assert_eq!(rt; copied?, 19);

@@ -39,25 +39,30 @@ wait_gives can_poll gives x (Ok v) h = finishes_gives can_poll gives x h.0 v h.1
 wait_gives can_poll gives x (Err e) h = tt
 
 module _ {S A : Type 0} (can_poll : S → Type 0) (yields : S → Answers A) where
-  ended_none : (x y : Compat S) → x.ended ≡ false → StreamStep can_poll yields x (Ready None) y
-      → yields x.inner [] None
+  ended_none : (x y : Compat S) → x.ended ≡ false → StreamStep can_poll yields x (Ready None) y → yields x.inner [] None
   ended_none x y running (e, inl h) = h.1
   ended_none x y running (e, inr h) = absurd (let d = h.0 in cc)
 
-  -- The items up to the end are items that the stream of the toolchain yields up to its end.
-  pub step_items : (x y : Compat S) (l : List (Answer A)) (xs : List A) (rest : List (Option A)) → x.ended ≡ false
-      → FoldsTo (StreamStep can_poll yields) x l y → strip l ≡ map Some xs ++ None ∷ rest → yields x.inner xs None
-  step_items x y [] [] rest running h e = absurd (cc e)
-  step_items x y [] (w ∷ xs) rest running h e = absurd (cc e)
-  step_items x y (Pending ∷ l) xs rest running h e = h.1.3 xs None (step_items h.0 y l xs rest h.1.1 h.2 e)
-  step_items x y (Ready None ∷ l) [] rest running h e = ended_none x h.0 running h.1
-  step_items x y (Ready None ∷ l) (w ∷ xs) rest running h e = absurd (cc e)
-  step_items x y (Ready (Some v) ∷ l) [] rest running h e = absurd (cc e)
-  step_items x y (Ready (Some v) ∷ l) (w ∷ xs) rest running h e =
+  -- Some items and one more answer, up to the end at most, are such that the stream of the toolchain yields them.
+  pub step_yields : (x y : Compat S) (l : List (Answer A)) (xs : List A) (last : Option A) (rest : List (Option A))
+      → x.ended ≡ false → FoldsTo (StreamStep can_poll yields) x l y → strip l ≡ map Some xs ++ last ∷ rest
+      → yields x.inner xs last
+  step_yields x y [] [] last rest running h e = absurd (cc e)
+  step_yields x y [] (w ∷ xs) last rest running h e = absurd (cc e)
+  step_yields x y (Pending ∷ l) xs last rest running h e =
+      h.1.3 xs last (step_yields h.0 y l xs last rest h.1.1 h.2 e)
+  step_yields x y (Ready None ∷ l) [] last rest running h e =
+      let same : None ≡ last = cc e in
+      subst (yields x.inner []) same (ended_none x h.0 running h.1)
+  step_yields x y (Ready None ∷ l) (w ∷ xs) last rest running h e = absurd (cc e)
+  step_yields x y (Ready (Some v) ∷ l) [] last rest running h e =
+      let same : Some v ≡ last = cc e in
+      subst (yields x.inner []) same h.1.3
+  step_yields x y (Ready (Some v) ∷ l) (w ∷ xs) last rest running h e =
       let same : v ≡ w = cc e in
-      let tail : strip l ≡ map Some xs ++ None ∷ rest = cc e in
-      subst (λ u. yields x.inner (u ∷ xs) None) same
-      (h.1.4 xs None (step_items h.0 y l xs rest h.1.1 h.2 tail))
+      let tail : strip l ≡ map Some xs ++ last ∷ rest = cc e in
+      subst (λ u. yields x.inner (u ∷ xs) last) same
+      (h.1.4 xs last (step_yields h.0 y l xs last rest h.1.1 h.2 tail))
 
 -- A budget adds `Pending`s alone.
 paced : {A : Type 0} (out ins : List (Answer A)) (p q : ℕ × ℕ) → Paces Pending left_behind p ins out q
@@ -89,6 +94,6 @@ module _ {S C A : Type 0} (can_poll : S → Type 0) (yields : S → Answers A) (
       let stripped = paced h.ins h.came.ins _ _ h.came.related ∙ ap strip w.cut ∙ whole w.body w.no_end in (
         items_given w.body,
         w.held,
-        step_items can_poll yields x.stream.stream y.stream.stream h.came.ins (items_given w.body) [] running h.came.came
+        step_yields can_poll yields x.stream.stream y.stream.stream h.came.ins (items_given w.body) None [] running h.came.came
             stripped,
       )

@@ -11,8 +11,8 @@ use Rattle.lite_io_base.specs.Laws.Marks.{taken_both}
 use Rattle.futures_lite.specs.Own.{ItemsAfter, lists_as, lists_by_relation}
 use Rattle.lite_views.specs.Views.{ListsAs}
 use Rattle.compat.specs.Laws.ToKit.{told_bytes}
-use Rattle.compat.specs.FromKit.{FutureStep, KitFits, KitLists, Reads, StreamStep, Unended, Writes, ReadCall, WriteCall}
-use Rattle.compat.specs.Uses.{Answer, Error, FoldsTo, MarkLaws, Passes, PassesInOrder, PassesNothing, Pending, Poll, ReadMark, Ready, WriteMark, ap, bytes_taken, bytes_told, inl, inr, append-nil, done_marks, read_marks, refl, subst, sym, write_marks, ◌∙◌}
+use Rattle.compat.specs.FromKit.{FutureStep, KitFits, KitLists, ReadCall, Reads, StreamStep, Unended, WriteStep}
+use Rattle.compat.specs.Uses.{Answer, Error, FoldsTo, MarkLaws, Passes, PassesInOrder, PassesNothing, Pending, Poll, ReadMark, Ready, Steps, WriteMark, ap, bytes_taken, bytes_told, inl, inr, append-nil, done_marks, read_marks, refl, subst, sym, write_marks, ◌∙◌}
 use Rattle.compat.specs.declared.compat.Compat.{Compat}
 use Rattle.futures.specs.Poll.{IfReady, OnPending}
 use Rattle.futures.specs.Runs.{Runs as Answers}
@@ -56,7 +56,7 @@ module _ {R : Type 0} {reads : Passes R} {is_at_end : R → Type 0} {fails : R �
 
   one_read : (x y : Compat R) (l : List ReadMark) → ReadCall reads is_at_end fails x.inner l y.inner
       → Reads reads is_at_end fails x l y
-  one_read x y l h = record { calls = l ∷ []; folds = (inner y, h, refl); joined = sym (append-nil l) }
+  one_read x y l h = record { calls = l ∷ []; folds = (y.inner, h, refl); joined = sym (append-nil l) }
 
   moved_ran : (x y : Compat R) (buf xs : List ℕ) → reads x.inner xs y.inner
       → (xs ≡ [] → 0 < length buf → is_at_end y.inner) → Reads reads is_at_end fails x (moved_marks buf xs) y
@@ -77,51 +77,28 @@ module _ {R : Type 0} {reads : Passes R} {is_at_end : R → Type 0} {fails : R �
   pub reads_laws : MarkLaws (Reads reads is_at_end fails)
   reads_laws = record { rests = reads_rest; follows = reads_follow }
 
-module _ {W : Type 0} {writes : Passes W} {is_flushed is_shut_down : W → Type 0} {fails : W → Error → Type 0} where
-  writes_rest : (x : Compat W) → Writes writes is_flushed is_shut_down fails x [] x
-  writes_rest x = record { calls = []; folds = refl; joined = refl }
-
-  writes_follow : (x y z : Compat W) (l m : List WriteMark) → Writes writes is_flushed is_shut_down fails x l y
-      → Writes writes is_flushed is_shut_down fails y m z
-      → Writes writes is_flushed is_shut_down fails x (l ++ m) z
-  writes_follow x y z l m h k =
-      record {
-        calls = h.calls ++ k.calls;
-        folds = folds_follow _ x.inner y.inner z.inner h.calls k.calls h.folds k.folds;
-        joined = rw (h.joined, k.joined, flat_map-append (λ call. call) h.calls k.calls);
-      }
-
-  one_write : (x y : Compat W) (l : List WriteMark) → WriteCall writes is_flushed is_shut_down fails x.inner l y.inner
-      → Writes writes is_flushed is_shut_down fails x l y
-  one_write x y l h = record { calls = l ∷ []; folds = (inner y, h, refl); joined = sym (append-nil l) }
-
+module _ {W : Type 0} (writes : Passes W) (is_flushed is_shut_down : W → Type 0) (fails : W → Error → Type 0) where
   -- One write of tokio, by what it says of it.
   pub write_ran : (x y : Compat W) (r : Poll (Result ℕ Error)) (buf : List ℕ) → writes x.inner (bytes_moved r buf) y.inner
-      → IfReadyErr r (fails y.inner) → Writes writes is_flushed is_shut_down fails x (write_marks r buf) y
-  write_ran x y Pending buf h failed = one_write x y _ (WriteCall.waited h)
-  write_ran x y (Ready (Err e)) buf h failed = one_write x y _ (WriteCall.failed e h failed)
-  write_ran x y (Ready (Ok n)) [] h failed =
-      one_write x y _ (WriteCall.nothing (subst (λ l. writes x.inner l y.inner) (take-nil n) h))
-  write_ran x y (Ready (Ok n)) (b ∷ buf) h failed = one_write x y _ (WriteCall.took (take n (b ∷ buf)) h)
+      → IfReadyErr r (fails y.inner) → Steps (WriteStep writes is_flushed is_shut_down fails) x (write_marks r buf) y
+  write_ran x y Pending buf h failed = (y, h, refl)
+  write_ran x y (Ready (Err e)) buf h failed = (y, (h, (e, failed, refl)), refl)
+  write_ran x y (Ready (Ok n)) [] h failed = (y, subst (λ l. writes x.inner l y.inner) (take-nil n) h, refl)
+  write_ran x y (Ready (Ok n)) (b ∷ buf) h failed = (y, h, refl)
 
   -- One flush.
   pub flush_ran : (x y : Compat W) (r : Poll (Result (Unit {0}) Error)) → writes x.inner [] y.inner
-      → OnReadyOk r (is_flushed y.inner) → IfReadyErr r (fails y.inner)
-      → Writes writes is_flushed is_shut_down fails x (done_marks WriteMark.flushed r) y
-  flush_ran x y Pending h done failed = one_write x y _ (WriteCall.waited h)
-  flush_ran x y (Ready (Err e)) h done failed = one_write x y _ (WriteCall.failed e h failed)
-  flush_ran x y (Ready (Ok u)) h done failed = one_write x y _ (WriteCall.flushed h done)
+      → OnReadyOk r (is_flushed y.inner) → IfReadyErr r (fails y.inner) → Steps (WriteStep writes is_flushed is_shut_down fails) x (done_marks WriteMark.flushed r) y
+  flush_ran x y Pending h done failed = (y, h, refl)
+  flush_ran x y (Ready (Err e)) h done failed = (y, (h, (e, failed, refl)), refl)
+  flush_ran x y (Ready (Ok u)) h done failed = (y, (h, done), refl)
 
   -- One shutdown.
   pub close_ran : (x y : Compat W) (r : Poll (Result (Unit {0}) Error)) → writes x.inner [] y.inner
-      → OnReadyOk r (is_shut_down y.inner) → IfReadyErr r (fails y.inner)
-      → Writes writes is_flushed is_shut_down fails x (done_marks WriteMark.closed r) y
-  close_ran x y Pending h done failed = one_write x y _ (WriteCall.waited h)
-  close_ran x y (Ready (Err e)) h done failed = one_write x y _ (WriteCall.failed e h failed)
-  close_ran x y (Ready (Ok u)) h done failed = one_write x y _ (WriteCall.closed h done)
-
-  pub writes_laws : MarkLaws (Writes writes is_flushed is_shut_down fails)
-  writes_laws = record { rests = writes_rest; follows = writes_follow }
+      → OnReadyOk r (is_shut_down y.inner) → IfReadyErr r (fails y.inner) → Steps (WriteStep writes is_flushed is_shut_down fails) x (done_marks WriteMark.closed r) y
+  close_ran x y Pending h done failed = (y, h, refl)
+  close_ran x y (Ready (Err e)) h done failed = (y, (h, (e, failed, refl)), refl)
+  close_ran x y (Ready (Ok u)) h done failed = (y, (h, done), refl)
 
 -- The bytes of the marks are those that tokio's calls moved.
 module _ {R : Type 0} {reads : Passes R} (is_at_end : R → Type 0) (fails : R → Error → Type 0)
@@ -146,27 +123,21 @@ module _ {R : Type 0} {reads : Passes R} (is_at_end : R → Type 0) (fails : R �
 
 module _ {W : Type 0} {writes : Passes W} (is_flushed is_shut_down : W → Type 0) (fails : W → Error → Type 0)
     (nothing : PassesNothing writes) (in_order : PassesInOrder writes) where
-  call_taken : (x y : W) (l : List WriteMark) → WriteCall writes is_flushed is_shut_down fails x l y
-      → writes x (bytes_taken l) y
-  call_taken x y l (WriteCall.took xs h) = subst (λ b. writes x b y) (sym (append-nil xs)) h
-  call_taken x y l (WriteCall.waited h) = h
-  call_taken x y l (WriteCall.nothing h) = h
-  call_taken x y l (WriteCall.failed e h f) = h
-  call_taken x y l (WriteCall.flushed h d) = h
-  call_taken x y l (WriteCall.closed h d) = h
+  step_taken : (x y : Compat W) (m : WriteMark) → WriteStep writes is_flushed is_shut_down fails x m y
+      → writes x.inner (bytes_taken (m ∷ [])) y.inner
+  step_taken x y (WriteMark.wrote xs) h = subst (λ b. writes x.inner b y.inner) (sym (append-nil xs)) h
+  step_taken x y WriteMark.nothing h = h
+  step_taken x y WriteMark.pending h = h
+  step_taken x y (WriteMark.fault kind) h = h.0
+  step_taken x y WriteMark.flushed h = h.0
+  step_taken x y WriteMark.closed h = h.0
 
-  calls_taken : (x y : W) (calls : List (List WriteMark))
-      → FoldsTo (WriteCall writes is_flushed is_shut_down fails) x calls y
-      → writes x (bytes_taken (flat_map (λ call. call) calls)) y
-  calls_taken x y [] h = subst (writes x []) h (nothing x)
-  calls_taken x y (c ∷ calls) h =
-      subst (λ b. writes x b y) (sym (taken_both c (flat_map (λ call. call) calls)))
-      (in_order x (bytes_taken c) h.0 _ y (call_taken x h.0 c h.1) (calls_taken h.0 y calls h.2))
-
-  pub writes_taken : (x y : Compat W) (l : List WriteMark) → Writes writes is_flushed is_shut_down fails x l y
+  pub writes_taken : (x y : Compat W) (l : List WriteMark) → Steps (WriteStep writes is_flushed is_shut_down fails) x l y
       → writes x.inner (bytes_taken l) y.inner
-  writes_taken x y l h =
-      subst (λ m. writes x.inner (bytes_taken m) y.inner) (sym h.joined) (calls_taken x.inner y.inner h.calls h.folds)
+  writes_taken x y [] h = subst (λ z. writes x.inner [] (Compat.inner z)) (sym h) (nothing x.inner)
+  writes_taken x y (m ∷ l) h =
+      subst (λ b. writes x.inner b y.inner) (sym (taken_both (m ∷ []) l))
+      (in_order x.inner (bytes_taken (m ∷ [])) h.0.inner _ y.inner (step_taken x h.0 m h.1) (writes_taken h.0 y l h.2))
 
 -- If the stream of the toolchain has a list, this library's has it.
 module _ {S A : Type 0} (can_poll : S → Type 0) (yields : S → Answers A) where

@@ -8,8 +8,7 @@ use Rattle.futures.specs.Runs.{After}
 use Rattle.lite_io_base.specs.Marks.{moved_marks}
 use Rattle.tokio.specs.Io.Moved.{bytes_moved}
 use Rattle.lite_base.specs.FutureLaws.{FutureLaws}
-use Rattle.lite_base.specs.Spent.{Finishes}
-use Rattle.compat.specs.ToKit.{Gave, Took, Yields}
+use Rattle.compat.specs.ToKit.{FinishesWith, Gave, Took, Yields}
 use Rattle.compat.specs.Uses.{Answer, Error, MarkLaws, bytes, error_kind, read_marks, Pending, Poll, ReadMark, Ready, Runs, WriteMark, ap, bytes_taken, bytes_told, refl, strip, ◌∙◌}
 
 module _ {S A : Type 0} {run : Runs (Answer A) S} (laws : RunLaws run) where
@@ -73,8 +72,7 @@ module _ {W : Type 0} {writes : Runs WriteMark W} (laws : MarkLaws writes) where
 
 -- After a `Pending` the future gives what the one that is left gives.
 pub finishes_again : {F A : Type 0} {can_poll : F → Type 0} {run : Runs (Poll A) F} → FutureLaws can_poll run → (x y : F)
-    → run x (Pending ∷ []) y → (v : A) → ((ins : List (Poll A)) × Finishes run y ins v)
-    → (ins : List (Poll A)) × Finishes run x ins v
+    → run x (Pending ∷ []) y → (v : A) → FinishesWith run y v → FinishesWith run x v
 finishes_again laws x y h v k = (
   Pending ∷ k.0,
   record {

@@ -1,6 +1,7 @@
 //! Writers of the toolchain's `tokio` as those of this library.
-ghost use Rattle.compat.specs.FromKit.{Needs, Writes};
-ghost use Rattle.compat.specs.Laws.FromKit.{writes_laws};
+ghost use Rattle.compat.specs.FromKit.{Needs, WriteStep};
+ghost use Rattle.compat.specs.Uses.{Steps};
+ghost use Rattle.lite_io_base.specs.Laws.Runs.{steps_laws};
 
 use crate::compat::Compat;
 use futures_lite::io::{AsyncWrite, WriteSpec};
@@ -9,9 +10,9 @@ use std::io;
 use std::io::IoSlice;
 
 impl<W: tokio::io::AsyncWrite> WriteSpec for Compat<W> {
-    ghost writes = { Writes W.writes W.is_flushed W.is_shut_down W.fails };
+    ghost writes = { Steps (WriteStep W.writes W.is_flushed W.is_shut_down W.fails) };
 
-    ghost write_laws = { writes_laws };
+    ghost write_laws = { steps_laws (WriteStep W.writes W.is_flushed W.is_shut_down W.fails) };
 }
 
 impl<W: tokio::io::AsyncWrite> AsyncWrite for Compat<W> {

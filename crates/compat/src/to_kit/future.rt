@@ -1,6 +1,6 @@
 //! Futures of this library as those of the toolchain.
-ghost use Rattle.std.specs.Prelude.{List};
-ghost use Rattle.compat.specs.Uses.{Finishes, Lasting, Poll};
+ghost use Rattle.compat.specs.ToKit.{FinishesWith};
+ghost use Rattle.compat.specs.Uses.{Lasting};
 
 use crate::compat::Compat;
 use futures_lite::{Context, Future, Poll};
@@ -12,7 +12,7 @@ impl<F: Future + Drop> futures::Future for Compat<F> {
 
     ghost needs = { λ k s. F.registers k.inner (Lasting.hears s) };
 
-    ghost gives = { λ k v. (ins : List (Poll F.Output)) × Finishes F.run k.inner ins v };
+    ghost gives = { λ k. FinishesWith F.run k.inner };
 
     fn poll(&mut self, cx: &mut Context<'_>) -> Poll<F::Output> {
         match self.inner.poll(cx) {

@@ -1,4 +1,4 @@
-use Rattle.std.proofs.Common.{ap, sym, subst}
+use Rattle.std.proofs.Common.{sym, subst}
 use Rattle.compat.specs.FromKit.{KitLists}
 use Rattle.compat.specs.Laws.FromKit.{kit_lists}
 use Rattle.compat.proofs.laws.stream_from_kit.Goals as goal

@@ -4,5 +4,6 @@ use Rattle.compat.proofs.from_kit.writer.CompatAsyncWrite.poll_write.Goals as go
 pub returns-clause-ran : goal.returns-clause-ran
 returns-clause-ran g c =
     let e = c.poll_write.ensures in
-    write_ran c.args.self.now (record c.args.self.now { inner = c.poll_write.new.self }) c.poll_write.result c.args.buf.now
+    let w = g.W.AsyncWrite in
+    write_ran w.writes w.is_flushed w.is_shut_down w.fails c.args.self.now (record c.args.self.now { inner = c.poll_write.new.self }) c.poll_write.result c.args.buf.now
     e.bytes e.failed

@@ -5,5 +5,6 @@ use Rattle.compat.proofs.from_kit.writer.CompatAsyncWrite.poll_write_vectored.Go
 pub returns-clause-ran : goal.returns-clause-ran
 returns-clause-ran g c =
     let e = c.poll_write_vectored.ensures in
-    write_ran c.args.self.now (record c.args.self.now { inner = c.poll_write_vectored.new.self })
+    let w = g.W.AsyncWrite in
+    write_ran w.writes w.is_flushed w.is_shut_down w.fails c.args.self.now (record c.args.self.now { inner = c.poll_write_vectored.new.self })
     c.poll_write_vectored.result (io_slices_bytes c.args.bufs.now) e.bytes e.failed
