@@ -159,7 +159,7 @@ pub trait CompatExt {
     /// let (got, one) = pool.run_until(&rt, waiting.compat())?;
     /// assert_eq!(rt; (got.ok(), one), (Some(7), 1));
     /// ```
-    fn compat(self) -> Compat<Self>
+    final fn compat(self) -> Compat<Self>
     where
         Self: Sized,
         ensures inner { result.inner ≡ self }

@@ -7,8 +7,8 @@ ghost use Rattle.compat.specs.declared.compat.Compat.{Compat};
 ghost use Rattle.lite_views.specs.Views.{ListsAs};
 
 use crate::compat::Compat;
-use futures_lite::io::{AsyncRead, AsyncWrite, ReadSpec, WriteSpec};
-use futures_lite::{Future, Stream};
+use lite_base::{Future, Stream};
+use lite_io_base::{AsyncRead, AsyncWrite, ReadSpec, WriteSpec};
 
 /// A reader of the toolchain gave exactly the bytes that were read from it here, in order.
 pub fn reads_same<R: tokio::io::AsyncRead>(_reader: &Compat<R>)

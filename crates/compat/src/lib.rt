@@ -11,8 +11,6 @@
 mod compat;
 mod from_kit;
 mod laws;
-#[cfg(test)]
-mod tests;
 mod to_kit;
 mod wait;
 

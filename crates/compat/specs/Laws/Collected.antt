@@ -1,6 +1,6 @@
 -- What this library's futures say over the toolchain's: the values and items are those that the toolchain's gives.
-use Rattle.std.specs.Prelude.{◌≡◌, ℕ, Bool, true, false, List, [], ◌∷◌, ◌++◌, map, Option, None, Some, Result, Ok, Err, IfOk}
-use Rattle.lite_base.specs.Answers.{UpToValue, Gives}
+use Rattle.std.specs.Prelude.{◌≡◌, ℕ, false, List, [], ◌∷◌, ◌++◌, map, Option, None, Some, Result, Ok, Err, IfOk}
+use Rattle.lite_base.specs.Answers.{Gives}
 use Rattle.lite_base.specs.Segments.{Paces, left_behind}
 use Rattle.lite_base.specs.Spent.{AtEachOk, Finishes}
 use Rattle.lite_consume.specs.Consume.{Folds}

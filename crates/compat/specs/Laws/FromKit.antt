@@ -1,5 +1,5 @@
 -- Laws of the toolchain's futures, streams, readers and writers as this library's.
-use Rattle.std.specs.Prelude.{◌≡◌, ℕ, Bool, true, false, List, [], ◌∷◌, ◌++◌, map, Option, None, Some, ◌≤◌, ◌<◌, ◌⊎◌, flat_map, length, take, Result, Ok, Err}
+use Rattle.std.specs.Prelude.{◌≡◌, ℕ, true, false, List, [], ◌∷◌, ◌++◌, Option, None, Some, ◌≤◌, ◌<◌, ◌⊎◌, flat_map, length, take, Result, Ok, Err}
 use Rattle.lite_io_base.specs.Marks.{moved_marks}
 use Rattle.std.proofs.Common.{arith, length-take-le}
 use lib.Seq.{take-nil}
@@ -8,8 +8,8 @@ use Rattle.std.proofs.lemmas.Grind.{flat_map-append}
 use Rattle.lite_base.specs.Laws.Calling.{folds_follow}
 use Rattle.lite_write.specs.Laws.Copy.{told_both}
 use Rattle.lite_io_base.specs.Laws.Marks.{taken_both}
-use Rattle.futures_lite.specs.Own.{ItemsAfter, lists_as, lists_by_relation}
-use Rattle.lite_views.specs.Views.{ListsAs}
+use Rattle.lite_views.specs.Laws.Steps.{lists_as, lists_by_relation}
+use Rattle.lite_views.specs.Views.{ItemsAfter, ListsAs}
 use Rattle.compat.specs.Laws.ToKit.{told_bytes}
 use Rattle.compat.specs.FromKit.{FutureStep, KitFits, KitLists, ReadCall, Reads, StreamStep, Unended, WriteStep}
 use Rattle.compat.specs.Uses.{Answer, Error, FoldsTo, MarkLaws, Passes, PassesInOrder, PassesNothing, Pending, Poll, ReadMark, Ready, Steps, WriteMark, ap, bytes_taken, bytes_told, inl, inr, append-nil, done_marks, read_marks, refl, subst, sym, write_marks, ◌∙◌}

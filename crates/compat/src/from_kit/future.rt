@@ -1,9 +1,9 @@
 //! Futures of the toolchain as those of this library.
 ghost use Rattle.compat.specs.FromKit.{FutureStep, Needs};
-ghost use Rattle.futures_lite.specs.Own.{StepsToValue, future_by_keeping_steps};
+ghost use Rattle.lite_theorems.specs.Futures.{StepsToValue, future_by_keeping_steps};
 
 use crate::compat::Compat;
-use futures_lite::{Context, Future, Poll};
+use lite_base::{Context, Future, Poll};
 
 impl<F: futures::Future> Future for Compat<F> {
     type Output = F::Output;

@@ -3,8 +3,8 @@ ghost use Rattle.compat.specs.FromKit.{Needs, Reads};
 ghost use Rattle.compat.specs.Laws.FromKit.{reads_laws};
 
 use crate::compat::Compat;
-use futures_lite::io::{AsyncRead, ReadSpec};
-use futures_lite::{Context, Poll};
+use lite_base::{Context, Poll};
+use lite_io_base::{AsyncRead, ReadSpec};
 use std::io;
 
 impl<R: tokio::io::AsyncRead> ReadSpec for Compat<R> {

@@ -2,10 +2,11 @@
 ghost use Rattle.compat.specs.FromKit.{Needs, StreamStep, Unended};
 ghost use Rattle.compat.specs.Laws.FromKit.{step_keeps};
 ghost use Rattle.compat.specs.Uses.{FoldsTo};
-ghost use Rattle.futures_lite.specs.Own.{NoHint, stream_by_keeping_steps};
+ghost use Rattle.lite_base.specs.Laws.Streams.{stream_by_keeping_steps};
+ghost use Rattle.lite_base.specs.Runs.{NoHint};
 
 use crate::compat::Compat;
-use futures_lite::{Context, Poll, Stream};
+use lite_base::{Context, Poll, Stream};
 
 impl<S: futures::Stream> Stream for Compat<S> {
     type Item = S::Item;

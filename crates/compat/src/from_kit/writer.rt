@@ -4,8 +4,8 @@ ghost use Rattle.compat.specs.Uses.{Steps};
 ghost use Rattle.lite_io_base.specs.Laws.Runs.{steps_laws};
 
 use crate::compat::Compat;
-use futures_lite::io::{AsyncWrite, WriteSpec};
-use futures_lite::{Context, Poll};
+use lite_base::{Context, Poll};
+use lite_io_base::{AsyncWrite, WriteSpec};
 use std::io;
 use std::io::IoSlice;
 

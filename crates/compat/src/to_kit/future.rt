@@ -3,7 +3,7 @@ ghost use Rattle.compat.specs.ToKit.{FinishesWith};
 ghost use Rattle.compat.specs.Uses.{Lasting};
 
 use crate::compat::Compat;
-use futures_lite::{Context, Future, Poll};
+use lite_base::{Context, Future, Poll};
 
 impl<F: Future + Drop> futures::Future for Compat<F> {
     type Output = F::Output;

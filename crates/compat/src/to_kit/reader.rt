@@ -4,8 +4,8 @@ ghost use Rattle.compat.specs.ToKit.{EndedAt, FailedAt, Gave};
 ghost use Rattle.compat.specs.Uses.{Lasting};
 
 use crate::compat::Compat;
-use futures_lite::io::{AsyncBufRead, AsyncRead, fill};
-use futures_lite::{Context, Poll};
+use lite_base::{Context, Poll};
+use lite_io_base::{AsyncBufRead, AsyncRead, fill};
 use std::io;
 
 impl<R: AsyncRead + Drop> tokio::io::AsyncRead for Compat<R> {

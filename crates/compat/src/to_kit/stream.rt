@@ -3,7 +3,7 @@ ghost use Rattle.compat.specs.ToKit.{Yields};
 ghost use Rattle.compat.specs.Uses.{Lasting};
 
 use crate::compat::Compat;
-use futures_lite::{Context, Poll, Stream};
+use lite_base::{Context, Poll, Stream};
 
 impl<S: Stream + Drop> futures::Stream for Compat<S> {
     type Item = S::Item;

@@ -6,8 +6,8 @@ ghost use Rattle.compat.specs.Uses.{Lasting};
 ghost use Rattle.lite_io_base.specs.WriteMarks.WriteMark.{closed, flushed, wrote};
 
 use crate::compat::Compat;
-use futures_lite::io::AsyncWrite;
-use futures_lite::{Context, Poll};
+use lite_base::{Context, Poll};
+use lite_io_base::AsyncWrite;
 use std::io;
 use std::io::IoSlice;
 

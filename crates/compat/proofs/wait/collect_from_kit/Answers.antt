@@ -1,5 +1,5 @@
 use Rattle.std.specs.Prelude.{◌≡◌, ◌<◌, [], None, false, vec_capacity, vec_len}
-use Rattle.std.proofs.Common.{ap, rules, subst, sym, ◌∙◌}
+use Rattle.std.proofs.Common.{ap, subst, sym, ◌∙◌}
 use Rattle.lite_base.specs.Answers.{Gives}
 use Rattle.lite_gather.specs.Gathering.{LacksRoom}
 use Rattle.lite_theorems.specs.Laws.Collected.{has}
@@ -10,7 +10,7 @@ pub returns-in-Ok : goal.returns-in-Ok
 returns-in-Ok g c =
     let made = c.collect-all.ensures in
     let f = c.in_ok-all.ensures.gave in
-    let wrapped : c.collect-all.result.stream.stream ≡ c.new.result = ap (λ b. b.stream) (made.stream ∙ c.with_budget.ensures.parts) in
+    let wrapped : c.collect-all.result.stream.stream ≡ c.new.result = ap (λ b. b.stream) (made.stream ∙ c.with_budget-paced.ensures) in
     let running : c.collect-all.result.stream.stream.ended ≡ false = ap (λ k. k.ended) wrapped ∙ c.new.ensures.running in
     let k =
     kit_collected g.S.Stream.can_poll g.S.Stream.yields (LacksRoom (λ v x. vec_len v < vec_capacity v))
