@@ -33,7 +33,7 @@ class Block:
     def __init__(self, head=""):
         self.name = self.trait = self.type = ""
         self.ghosts, self.functions = set(), {}
-        self.is_struct = bool(re.match(r"(?:pub\S* )?struct ", head))
+        self.is_struct = bool(re.match(r"(?:pub(?:\([^)]*\))? )?struct ", head))
         if self.is_struct:
             self.type = re.search(r"struct (\w+)", head)[1]
         elif head.startswith("impl"):

@@ -59,6 +59,11 @@ GROUPS = {
         "Parts of a codec": tuple(f"framed/src/{it}.rt" for it in ("delimiter", "head", "hexadecimal")),
         "Serving": ("framed/src/server.rt", "framed/src/service.rt", "framed/src/serve_error.rt"),
     },
+    "compat": {
+        "Wrapping": ("compat/src/compat.rt",),
+        "Waiting on this thread": ("compat/src/wait.rt",),
+        "Laws as calls": ("compat/src/laws.rt",),
+    },
     "laws": {
         "Recording runs": ("lite_laws",),
         "Calls that carry a theorem": ("lite_theorems",),
