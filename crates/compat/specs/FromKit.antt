@@ -37,27 +37,27 @@ KitFits {A} ys (Some v) xs = (rest : List A) × (xs ≡ ys ++ v ∷ rest)
 abbrev pub KitLists : {A : Type 0} → Answers A → List A → Type 0
 KitLists {A} yields xs = (ys : List A) (last : Option A) → yields ys last → KitFits ys last xs
 
--- One call on a reader of tokio, and the marks that it leaves.
 module _ {R : Type 0} (reads : Passes R) (is_at_end : R → Type 0) (fails : R → Error → Type 0) where
-  pub data ReadCall (x : R) : List ReadMark → R → Type 0 where
-    gave : {y : R} (xs : List ℕ) → reads x xs y → ReadCall x (bytes xs) y
-    waited : {y : R} → reads x [] y → ReadCall x (ReadMark.pending ∷ []) y
-    failed : {y : R} (e : Error) → reads x [] y → fails y e → ReadCall x (ReadMark.fault (error_kind e) ∷ []) y
-    ended : {y : R} → reads x [] y → is_at_end y → ReadCall x (ReadMark.end ∷ []) y
+  -- One call on a reader of tokio, and the marks that it leaves.
+  pub data KitReadCall (x : R) : List ReadMark → R → Type 0 where
+    gave : {y : R} (xs : List ℕ) → reads x xs y → KitReadCall x (bytes xs) y
+    waited : {y : R} → reads x [] y → KitReadCall x (ReadMark.pending ∷ []) y
+    failed : {y : R} (e : Error) → reads x [] y → fails y e → KitReadCall x (ReadMark.fault (error_kind e) ∷ []) y
+    ended : {y : R} → reads x [] y → is_at_end y → KitReadCall x (ReadMark.end ∷ []) y
 
   -- Such calls one after the other, and the marks of all of them.
-  pub record Reads (x : Compat R) (l : List ReadMark) (y : Compat R) : Type 0 where
+  pub record KitReads (x : Compat R) (l : List ReadMark) (y : Compat R) : Type 0 where
     pub calls : List (List ReadMark)
-    pub folds : FoldsTo ReadCall x.inner calls y.inner
+    pub folds : FoldsTo KitReadCall x.inner calls y.inner
     pub joined : l ≡ flat_map (λ call. call) calls
 
--- One call on a writer of tokio, by the mark that it leaves.
 module _ {W : Type 0} (writes : Passes W) (is_flushed is_shut_down : W → Type 0) (fails : W → Error → Type 0) where
-  abbrev pub WriteStep : Compat W → WriteMark → Compat W → Type 0
-  WriteStep x (WriteMark.wrote xs) y = writes x.inner xs y.inner
-  WriteStep x WriteMark.nothing y = writes x.inner [] y.inner
-  WriteStep x WriteMark.pending y = writes x.inner [] y.inner
-  WriteStep x (WriteMark.fault kind) y =
+  -- One call on a writer of tokio, by the mark that it leaves.
+  abbrev pub KitWriteStep : Compat W → WriteMark → Compat W → Type 0
+  KitWriteStep x (WriteMark.wrote xs) y = writes x.inner xs y.inner
+  KitWriteStep x WriteMark.nothing y = writes x.inner [] y.inner
+  KitWriteStep x WriteMark.pending y = writes x.inner [] y.inner
+  KitWriteStep x (WriteMark.fault kind) y =
       writes x.inner [] y.inner × ((e : Error) × fails y.inner e × (error_kind e ≡ kind))
-  WriteStep x WriteMark.flushed y = writes x.inner [] y.inner × is_flushed y.inner
-  WriteStep x WriteMark.closed y = writes x.inner [] y.inner × is_shut_down y.inner
+  KitWriteStep x WriteMark.flushed y = writes x.inner [] y.inner × is_flushed y.inner
+  KitWriteStep x WriteMark.closed y = writes x.inner [] y.inner × is_shut_down y.inner

@@ -7,7 +7,7 @@ abbrev pub FinishesWith : {F A : Type 0} → Runs (Poll A) F → F → A → Typ
 FinishesWith {A = A} run f v = (ins : List (Poll A)) × Finishes run f ins v
 
 -- The stream gave the items `xs`, and then one more answer: `last`, an item or its end. `Pending`s are left out.
-pub record Yields {S A : Type 0} (run : Runs (Answer A) S) (x : S) (xs : List A) (last : Option A) : Type 0 where
+pub record YieldsUpTo {S A : Type 0} (run : Runs (Answer A) S) (x : S) (xs : List A) (last : Option A) : Type 0 where
   pub ins : List (Answer A)
   pub left : S
   pub came : run x ins left
@@ -15,7 +15,7 @@ pub record Yields {S A : Type 0} (run : Runs (Answer A) S) (x : S) (xs : List A)
 
 module _ {R : Type 0} (reads : Runs ReadMark R) where
   -- The reader ran, and gave just these bytes.
-  pub record Gave (x : R) (xs : List ℕ) (y : R) : Type 0 where
+  pub record GaveBytes (x : R) (xs : List ℕ) (y : R) : Type 0 where
     pub told : List ReadMark
     pub came : reads x told y
     pub gave : bytes_told told ≡ xs
@@ -30,7 +30,7 @@ module _ {R : Type 0} (reads : Runs ReadMark R) where
 
 module _ {W : Type 0} (writes : Runs WriteMark W) where
   -- The writer ran, and took just these bytes.
-  pub record Took (x : W) (xs : List ℕ) (y : W) : Type 0 where
+  pub record TookBytes (x : W) (xs : List ℕ) (y : W) : Type 0 where
     pub took : List WriteMark
     pub came : writes x took y
     pub gave : bytes_taken took ≡ xs

@@ -1,6 +1,6 @@
 //! The type that has the traits of the other side.
 ghost use Rattle.std.specs.Prelude.{◌≡◌, false};
-ghost use Rattle.compat.specs.Uses.{Lends, sem};
+ghost use Rattle.std.specs.Borrow.{Lends, sem};
 ghost use Rattle.compat.specs.contracts.compat.Compat.{the_row};
 
 use futures::task::{Source, Waker};

@@ -1,7 +1,6 @@
-//! Futures, streams, readers and writers of this library as those of the toolchain's crates `futures` and `tokio`, and
-//! theirs as those of this library.
+//! Bridges between this library and the toolchain's crates `futures` and `tokio`, both ways.
 //!
-//! A value of either side is wrapped by [`compat`](CompatExt::compat), as by the crates `async-compat` and
+//! A future, stream, reader or writer of either side is wrapped by `compat`, as by the crate `async-compat` and by
 //! `tokio_util::compat`. What is wrapped has the traits of the other side, so that the toolchain's executors, channels,
 //! timers and sockets can be used with this library's combinators. Nothing here needs a handle.
 //!
@@ -16,8 +15,7 @@ mod wait;
 
 pub use compat::{Compat, CompatExt};
 pub use laws::{
-    future_and_back, kit_future_and_back, kit_reader_and_back, kit_stream_and_back,
-    kit_writer_and_back, reader_and_back, reads_same, stream_and_back, stream_from_kit,
-    writer_and_back, writes_same,
+    future_comes_back, gives_same, reader_comes_back, reads_same, stream_comes_back,
+    stream_from_kit, writer_comes_back, writes_same, yields_same,
 };
 pub use wait::{collect_from_kit, wait_from_kit};

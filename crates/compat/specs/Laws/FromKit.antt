@@ -1,9 +1,9 @@
 -- Laws of the toolchain's futures, streams, readers and writers as this library's.
 use Rattle.std.specs.Prelude.{◌≡◌, ℕ, true, false, List, [], ◌∷◌, ◌++◌, Option, None, Some, ◌≤◌, ◌<◌, ◌⊎◌, flat_map, length, take, Result, Ok, Err}
 use Rattle.lite_io_base.specs.Marks.{moved_marks}
-use Rattle.std.proofs.Common.{arith, length-take-le}
+use Rattle.std.proofs.Common.{append-nil, arith, length-take-le}
 use lib.Seq.{take-nil}
-use Rattle.tokio.specs.Io.Moved.{IfReadyErr, OnReadyOk, bytes_moved, count_moved}
+use Rattle.tokio.specs.Io.Moved.{IfReadyErr, OnReadyOk, PassesInOrder, PassesNothing, bytes_moved, count_moved}
 use Rattle.std.proofs.lemmas.Grind.{flat_map-append}
 use Rattle.lite_base.specs.Laws.Calling.{folds_follow}
 use Rattle.lite_write.specs.Laws.Copy.{told_both}
@@ -11,8 +11,8 @@ use Rattle.lite_io_base.specs.Laws.Marks.{taken_both}
 use Rattle.lite_views.specs.Laws.Steps.{lists_as, lists_by_relation}
 use Rattle.lite_views.specs.Views.{ItemsAfter, ListsAs}
 use Rattle.compat.specs.Laws.ToKit.{told_bytes}
-use Rattle.compat.specs.FromKit.{FutureStep, KitFits, KitLists, ReadCall, Reads, StreamStep, Unended, WriteStep}
-use Rattle.compat.specs.Uses.{Answer, Error, FoldsTo, MarkLaws, Passes, PassesInOrder, PassesNothing, Pending, Poll, ReadMark, Ready, Steps, WriteMark, ap, bytes_taken, bytes_told, inl, inr, append-nil, done_marks, read_marks, refl, subst, sym, write_marks, ◌∙◌}
+use Rattle.compat.specs.FromKit.{FutureStep, KitFits, KitLists, KitReadCall, KitReads, StreamStep, Unended, KitWriteStep}
+use Rattle.compat.specs.Uses.{Answer, Error, FoldsTo, MarkLaws, Passes, Pending, Poll, ReadMark, Ready, Steps, WriteMark, ap, bytes_taken, bytes_told, inl, inr, done_marks, read_marks, refl, subst, sym, write_marks, ◌∙◌}
 use Rattle.compat.specs.declared.compat.Compat.{Compat}
 use Rattle.futures.specs.Poll.{IfReady, OnPending}
 use Rattle.futures.specs.Runs.{Runs as Answers}
@@ -42,11 +42,11 @@ none_moved : (n : ℕ) (buf : List ℕ) → n ≤ length buf → take n buf ≡ 
 none_moved n buf fits e = ap (λ k. Ready (Ok k)) (sym (length-take-le n buf fits) ∙ ap length e)
 
 module _ {R : Type 0} {reads : Passes R} {is_at_end : R → Type 0} {fails : R → Error → Type 0} where
-  reads_rest : (x : Compat R) → Reads reads is_at_end fails x [] x
+  reads_rest : (x : Compat R) → KitReads reads is_at_end fails x [] x
   reads_rest x = record { calls = []; folds = refl; joined = refl }
 
-  reads_follow : (x y z : Compat R) (l m : List ReadMark) → Reads reads is_at_end fails x l y
-      → Reads reads is_at_end fails y m z → Reads reads is_at_end fails x (l ++ m) z
+  reads_follow : (x y z : Compat R) (l m : List ReadMark) → KitReads reads is_at_end fails x l y
+      → KitReads reads is_at_end fails y m z → KitReads reads is_at_end fails x (l ++ m) z
   reads_follow x y z l m h k =
       record {
         calls = h.calls ++ k.calls;
@@ -54,33 +54,33 @@ module _ {R : Type 0} {reads : Passes R} {is_at_end : R → Type 0} {fails : R �
         joined = rw (h.joined, k.joined, flat_map-append (λ call. call) h.calls k.calls);
       }
 
-  one_read : (x y : Compat R) (l : List ReadMark) → ReadCall reads is_at_end fails x.inner l y.inner
-      → Reads reads is_at_end fails x l y
+  one_read : (x y : Compat R) (l : List ReadMark) → KitReadCall reads is_at_end fails x.inner l y.inner
+      → KitReads reads is_at_end fails x l y
   one_read x y l h = record { calls = l ∷ []; folds = (y.inner, h, refl); joined = sym (append-nil l) }
 
   moved_ran : (x y : Compat R) (buf xs : List ℕ) → reads x.inner xs y.inner
-      → (xs ≡ [] → 0 < length buf → is_at_end y.inner) → Reads reads is_at_end fails x (moved_marks buf xs) y
-  moved_ran x y buf (b ∷ xs) h end = one_read x y _ (ReadCall.gave (b ∷ xs) h)
-  moved_ran x y [] [] h end = one_read x y _ (ReadCall.gave [] h)
-  moved_ran x y (r ∷ room) [] h end = one_read x y _ (ReadCall.ended h (end refl (omega arith)))
+      → (xs ≡ [] → 0 < length buf → is_at_end y.inner) → KitReads reads is_at_end fails x (moved_marks buf xs) y
+  moved_ran x y buf (b ∷ xs) h end = one_read x y _ (KitReadCall.gave (b ∷ xs) h)
+  moved_ran x y [] [] h end = one_read x y _ (KitReadCall.gave [] h)
+  moved_ran x y (r ∷ room) [] h end = one_read x y _ (KitReadCall.ended h (end refl (omega arith)))
 
   -- One read of tokio, by what it says of it.
   pub read_ran : (x y : Compat R) (r : Poll (Result ℕ Error)) (buf : List ℕ) → count_moved r ≤ length buf
       → reads x.inner (bytes_moved r buf) y.inner
       → (r ≡ Ready (Ok 0) → 0 < length buf → is_at_end y.inner) → IfReadyErr r (fails y.inner)
-      → Reads reads is_at_end fails x (read_marks r buf) y
-  read_ran x y Pending buf fits h end failed = one_read x y _ (ReadCall.waited h)
-  read_ran x y (Ready (Err e)) buf fits h end failed = one_read x y _ (ReadCall.failed e h failed)
+      → KitReads reads is_at_end fails x (read_marks r buf) y
+  read_ran x y Pending buf fits h end failed = one_read x y _ (KitReadCall.waited h)
+  read_ran x y (Ready (Err e)) buf fits h end failed = one_read x y _ (KitReadCall.failed e h failed)
   read_ran x y (Ready (Ok n)) buf fits h end failed =
       moved_ran x y buf (take n buf) h (λ e some. end (none_moved n buf fits e) some)
 
-  pub reads_laws : MarkLaws (Reads reads is_at_end fails)
+  pub reads_laws : MarkLaws (KitReads reads is_at_end fails)
   reads_laws = record { rests = reads_rest; follows = reads_follow }
 
 module _ {W : Type 0} (writes : Passes W) (is_flushed is_shut_down : W → Type 0) (fails : W → Error → Type 0) where
   -- One write of tokio, by what it says of it.
   pub write_ran : (x y : Compat W) (r : Poll (Result ℕ Error)) (buf : List ℕ) → writes x.inner (bytes_moved r buf) y.inner
-      → IfReadyErr r (fails y.inner) → Steps (WriteStep writes is_flushed is_shut_down fails) x (write_marks r buf) y
+      → IfReadyErr r (fails y.inner) → Steps (KitWriteStep writes is_flushed is_shut_down fails) x (write_marks r buf) y
   write_ran x y Pending buf h failed = (y, h, refl)
   write_ran x y (Ready (Err e)) buf h failed = (y, (h, (e, failed, refl)), refl)
   write_ran x y (Ready (Ok n)) [] h failed = (y, subst (λ l. writes x.inner l y.inner) (take-nil n) h, refl)
@@ -88,14 +88,14 @@ module _ {W : Type 0} (writes : Passes W) (is_flushed is_shut_down : W → Type 
 
   -- One flush.
   pub flush_ran : (x y : Compat W) (r : Poll (Result (Unit {0}) Error)) → writes x.inner [] y.inner
-      → OnReadyOk r (is_flushed y.inner) → IfReadyErr r (fails y.inner) → Steps (WriteStep writes is_flushed is_shut_down fails) x (done_marks WriteMark.flushed r) y
+      → OnReadyOk r (is_flushed y.inner) → IfReadyErr r (fails y.inner) → Steps (KitWriteStep writes is_flushed is_shut_down fails) x (done_marks WriteMark.flushed r) y
   flush_ran x y Pending h done failed = (y, h, refl)
   flush_ran x y (Ready (Err e)) h done failed = (y, (h, (e, failed, refl)), refl)
   flush_ran x y (Ready (Ok u)) h done failed = (y, (h, done), refl)
 
   -- One shutdown.
   pub close_ran : (x y : Compat W) (r : Poll (Result (Unit {0}) Error)) → writes x.inner [] y.inner
-      → OnReadyOk r (is_shut_down y.inner) → IfReadyErr r (fails y.inner) → Steps (WriteStep writes is_flushed is_shut_down fails) x (done_marks WriteMark.closed r) y
+      → OnReadyOk r (is_shut_down y.inner) → IfReadyErr r (fails y.inner) → Steps (KitWriteStep writes is_flushed is_shut_down fails) x (done_marks WriteMark.closed r) y
   close_ran x y Pending h done failed = (y, h, refl)
   close_ran x y (Ready (Err e)) h done failed = (y, (h, (e, failed, refl)), refl)
   close_ran x y (Ready (Ok u)) h done failed = (y, (h, done), refl)
@@ -103,27 +103,27 @@ module _ {W : Type 0} (writes : Passes W) (is_flushed is_shut_down : W → Type 
 -- The bytes of the marks are those that tokio's calls moved.
 module _ {R : Type 0} {reads : Passes R} (is_at_end : R → Type 0) (fails : R → Error → Type 0)
     (nothing : PassesNothing reads) (in_order : PassesInOrder reads) where
-  call_told : (x y : R) (l : List ReadMark) → ReadCall reads is_at_end fails x l y → reads x (bytes_told l) y
-  call_told x y l (ReadCall.gave xs h) = subst (λ b. reads x b y) (sym (told_bytes xs)) h
-  call_told x y l (ReadCall.waited h) = h
-  call_told x y l (ReadCall.failed e h f) = h
-  call_told x y l (ReadCall.ended h e) = h
+  call_told : (x y : R) (l : List ReadMark) → KitReadCall reads is_at_end fails x l y → reads x (bytes_told l) y
+  call_told x y l (KitReadCall.gave xs h) = subst (λ b. reads x b y) (sym (told_bytes xs)) h
+  call_told x y l (KitReadCall.waited h) = h
+  call_told x y l (KitReadCall.failed e h f) = h
+  call_told x y l (KitReadCall.ended h e) = h
 
-  calls_told : (x y : R) (calls : List (List ReadMark)) → FoldsTo (ReadCall reads is_at_end fails) x calls y
+  calls_told : (x y : R) (calls : List (List ReadMark)) → FoldsTo (KitReadCall reads is_at_end fails) x calls y
       → reads x (bytes_told (flat_map (λ call. call) calls)) y
   calls_told x y [] h = subst (reads x []) h (nothing x)
   calls_told x y (c ∷ calls) h =
       subst (λ b. reads x b y) (sym (told_both c (flat_map (λ call. call) calls)))
       (in_order x (bytes_told c) h.0 _ y (call_told x h.0 c h.1) (calls_told h.0 y calls h.2))
 
-  pub reads_told : (x y : Compat R) (l : List ReadMark) → Reads reads is_at_end fails x l y
+  pub reads_told : (x y : Compat R) (l : List ReadMark) → KitReads reads is_at_end fails x l y
       → reads x.inner (bytes_told l) y.inner
   reads_told x y l h =
       subst (λ m. reads x.inner (bytes_told m) y.inner) (sym h.joined) (calls_told x.inner y.inner h.calls h.folds)
 
 module _ {W : Type 0} {writes : Passes W} (is_flushed is_shut_down : W → Type 0) (fails : W → Error → Type 0)
     (nothing : PassesNothing writes) (in_order : PassesInOrder writes) where
-  step_taken : (x y : Compat W) (m : WriteMark) → WriteStep writes is_flushed is_shut_down fails x m y
+  step_taken : (x y : Compat W) (m : WriteMark) → KitWriteStep writes is_flushed is_shut_down fails x m y
       → writes x.inner (bytes_taken (m ∷ [])) y.inner
   step_taken x y (WriteMark.wrote xs) h = subst (λ b. writes x.inner b y.inner) (sym (append-nil xs)) h
   step_taken x y WriteMark.nothing h = h
@@ -132,7 +132,7 @@ module _ {W : Type 0} {writes : Passes W} (is_flushed is_shut_down : W → Type 
   step_taken x y WriteMark.flushed h = h.0
   step_taken x y WriteMark.closed h = h.0
 
-  pub writes_taken : (x y : Compat W) (l : List WriteMark) → Steps (WriteStep writes is_flushed is_shut_down fails) x l y
+  pub writes_taken : (x y : Compat W) (l : List WriteMark) → Steps (KitWriteStep writes is_flushed is_shut_down fails) x l y
       → writes x.inner (bytes_taken l) y.inner
   writes_taken x y [] h = subst (λ z. writes x.inner [] (Compat.inner z)) (sym h) (nothing x.inner)
   writes_taken x y (m ∷ l) h =
@@ -141,6 +141,7 @@ module _ {W : Type 0} {writes : Passes W} (is_flushed is_shut_down : W → Type 
 
 -- If the stream of the toolchain has a list, this library's has it.
 module _ {S A : Type 0} (can_poll : S → Type 0) (yields : S → Answers A) where
+  -- What is left of the list: all of it, or none after the end.
   abbrev Left : Compat S → List A → Type 0
   Left x xs = ((x.ended ≡ false) × KitLists (yields x.inner) xs) ⊎ ((x.ended ≡ true) × (xs ≡ []))
 

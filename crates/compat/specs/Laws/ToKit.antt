@@ -7,13 +7,13 @@ use Rattle.futures.specs.Runs.{After}
 use Rattle.lite_io_base.specs.Marks.{moved_marks}
 use Rattle.tokio.specs.Io.Moved.{bytes_moved}
 use Rattle.lite_base.specs.FutureLaws.{FutureLaws}
-use Rattle.compat.specs.ToKit.{FinishesWith, Gave, Took, Yields}
+use Rattle.compat.specs.ToKit.{FinishesWith, GaveBytes, TookBytes, YieldsUpTo}
 use Rattle.compat.specs.Uses.{Answer, Error, MarkLaws, bytes, error_kind, read_marks, Pending, Poll, ReadMark, Ready, Runs, WriteMark, ap, bytes_told, refl}
 
 module _ {S A : Type 0} {run : Runs (Answer A) S} (laws : RunLaws run) where
   -- After an item the stream gives what the one that is left gives.
   pub yields_after : (x y : S) (v : A) → run x (Ready (Some v) ∷ []) y → (xs : List A) (last : Option A)
-      → Yields run y xs last → Yields run x (v ∷ xs) last
+      → YieldsUpTo run y xs last → YieldsUpTo run x (v ∷ xs) last
   yields_after x y v h xs last k =
       record {
         ins = Ready (Some v) ∷ k.ins;
@@ -23,8 +23,8 @@ module _ {S A : Type 0} {run : Runs (Answer A) S} (laws : RunLaws run) where
       }
 
   -- After a `Pending` too.
-  pub yields_again : (x y : S) → run x (Pending ∷ []) y → (xs : List A) (last : Option A) → Yields run y xs last
-      → Yields run x xs last
+  pub yields_again : (x y : S) → run x (Pending ∷ []) y → (xs : List A) (last : Option A) → YieldsUpTo run y xs last
+      → YieldsUpTo run x xs last
   yields_again x y h xs last k =
       record {
         ins = Pending ∷ k.ins;
@@ -34,21 +34,21 @@ module _ {S A : Type 0} {run : Runs (Answer A) S} (laws : RunLaws run) where
       }
 
   -- The same by what a poll returned.
-  pub yields_rest : (x y : S) (o : Option A) → run x (Ready o ∷ []) y → IfSome o (λ v. After (Yields run x) v (Yields run y))
+  pub yields_rest : (x y : S) (o : Option A) → run x (Ready o ∷ []) y → IfSome o (λ v. After (YieldsUpTo run x) v (YieldsUpTo run y))
   yields_rest x y None h = tt
   yields_rest x y (Some v) h = yields_after x y v h
 
 -- One answer.
 pub yields_one : {S A : Type 0} {run : Runs (Answer A) S} (x y : S) (o : Option A) → run x (Ready o ∷ []) y
-    → Yields run x [] o
+    → YieldsUpTo run x [] o
 yields_one x y o h = record { ins = Ready o ∷ []; left = y; came = h; gave = refl }
 
 module _ {R : Type 0} {reads : Runs ReadMark R} (laws : MarkLaws reads) where
-  pub nothing_read : (x : R) → Gave reads x [] x
+  pub nothing_read : (x : R) → GaveBytes reads x [] x
   nothing_read x = record { told = []; came = laws.rests x; gave = refl }
 
-  pub reads_on : (x : R) (xs : List ℕ) (y : R) (ys : List ℕ) (z : R) → Gave reads x xs y → Gave reads y ys z
-      → Gave reads x (xs ++ ys) z
+  pub reads_on : (x : R) (xs : List ℕ) (y : R) (ys : List ℕ) (z : R) → GaveBytes reads x xs y → GaveBytes reads y ys z
+      → GaveBytes reads x (xs ++ ys) z
   reads_on x xs y ys z h k =
       record {
         told = h.told ++ k.told;
@@ -57,11 +57,11 @@ module _ {R : Type 0} {reads : Runs ReadMark R} (laws : MarkLaws reads) where
       }
 
 module _ {W : Type 0} {writes : Runs WriteMark W} (laws : MarkLaws writes) where
-  pub nothing_written : (x : W) → Took writes x [] x
+  pub nothing_written : (x : W) → TookBytes writes x [] x
   nothing_written x = record { took = []; came = laws.rests x; gave = refl }
 
-  pub writes_on : (x : W) (xs : List ℕ) (y : W) (ys : List ℕ) (z : W) → Took writes x xs y → Took writes y ys z
-      → Took writes x (xs ++ ys) z
+  pub writes_on : (x : W) (xs : List ℕ) (y : W) (ys : List ℕ) (z : W) → TookBytes writes x xs y → TookBytes writes y ys z
+      → TookBytes writes x (xs ++ ys) z
   writes_on x xs y ys z h k =
       record {
         took = h.took ++ k.took;
@@ -92,7 +92,7 @@ told_moved [] [] = refl
 
 -- What one read gave.
 pub gave_read : {R : Type 0} (reads : Runs ReadMark R) (x y : R) (r : Poll (Result ℕ Error)) (buf : List ℕ)
-    → reads x (read_marks r buf) y → Gave reads x (bytes_moved r buf) y
+    → reads x (read_marks r buf) y → GaveBytes reads x (bytes_moved r buf) y
 gave_read reads x y Pending buf h = record { told = ReadMark.pending ∷ []; came = h; gave = refl }
 gave_read reads x y (Ready (Err e)) buf h = record { told = ReadMark.fault (error_kind e) ∷ []; came = h; gave = refl }
 gave_read reads x y (Ready (Ok n)) buf h =
@@ -100,5 +100,5 @@ gave_read reads x y (Ready (Ok n)) buf h =
 
 -- What is consumed was given.
 pub gave_bytes : {R : Type 0} (reads : Runs ReadMark R) (x y : R) (xs : List ℕ) → reads x (bytes xs) y
-    → Gave reads x xs y
+    → GaveBytes reads x xs y
 gave_bytes reads x y xs h = record { told = bytes xs; came = h; gave = told_bytes xs }

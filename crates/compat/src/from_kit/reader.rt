@@ -1,5 +1,5 @@
 //! Readers of the toolchain's `tokio` as those of this library.
-ghost use Rattle.compat.specs.FromKit.{Needs, Reads};
+ghost use Rattle.compat.specs.FromKit.{Needs, KitReads};
 ghost use Rattle.compat.specs.Laws.FromKit.{reads_laws};
 
 use crate::compat::Compat;
@@ -8,7 +8,7 @@ use lite_io_base::{AsyncRead, ReadSpec};
 use std::io;
 
 impl<R: tokio::io::AsyncRead> ReadSpec for Compat<R> {
-    ghost reads = { Reads R.reads R.is_at_end R.fails };
+    ghost reads = { KitReads R.reads R.is_at_end R.fails };
 
     ghost read_laws = { reads_laws };
 }

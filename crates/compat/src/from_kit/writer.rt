@@ -1,5 +1,5 @@
 //! Writers of the toolchain's `tokio` as those of this library.
-ghost use Rattle.compat.specs.FromKit.{Needs, WriteStep};
+ghost use Rattle.compat.specs.FromKit.{Needs, KitWriteStep};
 ghost use Rattle.compat.specs.Uses.{Steps};
 ghost use Rattle.lite_io_base.specs.Laws.Runs.{steps_laws};
 
@@ -10,9 +10,9 @@ use std::io;
 use std::io::IoSlice;
 
 impl<W: tokio::io::AsyncWrite> WriteSpec for Compat<W> {
-    ghost writes = { Steps (WriteStep W.writes W.is_flushed W.is_shut_down W.fails) };
+    ghost writes = { Steps (KitWriteStep W.writes W.is_flushed W.is_shut_down W.fails) };
 
-    ghost write_laws = { steps_laws (WriteStep W.writes W.is_flushed W.is_shut_down W.fails) };
+    ghost write_laws = { steps_laws (KitWriteStep W.writes W.is_flushed W.is_shut_down W.fails) };
 }
 
 impl<W: tokio::io::AsyncWrite> AsyncWrite for Compat<W> {

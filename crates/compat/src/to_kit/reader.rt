@@ -1,8 +1,9 @@
 //! Readers of this library as those of the toolchain's `tokio`.
 ghost use Rattle.std.specs.Prelude.{◌≡◌, ◌<◌, ◌≤◌, [], Ok, drop, length, take};
 ghost use Rattle.compat.specs.Laws.ToKit.{nothing_read, reads_on};
-ghost use Rattle.compat.specs.ToKit.{EndedAt, FailedAt, Gave};
-ghost use Rattle.compat.specs.Uses.{Covers, Keeps, Lasting, OnPending, bytes, fill_marks, read_marks};
+ghost use Rattle.compat.specs.ToKit.{EndedAt, FailedAt, GaveBytes};
+ghost use Rattle.compat.specs.Uses.{Covers, Keeps, Lasting, OnPending, bytes, read_marks};
+ghost use Rattle.lite_io_base.specs.Marks.{fill_marks};
 ghost use Rattle.tokio.specs.Io.Moved.{IfReadyErr, OnReadyOk, bytes_moved, count_moved};
 
 use crate::compat::Compat;
@@ -13,7 +14,7 @@ use std::io;
 impl<R: AsyncRead + Drop> tokio::io::AsyncRead for Compat<R> {
     ghost needs = { λ k s. R.registers k.inner (Lasting.hears s) };
 
-    ghost reads = { λ a xs b. Gave R.reads a.inner xs b.inner };
+    ghost reads = { λ a xs b. GaveBytes R.reads a.inner xs b.inner };
 
     ghost is_at_end = { λ k. EndedAt R.reads k.inner };
 
@@ -25,7 +26,7 @@ impl<R: AsyncRead + Drop> tokio::io::AsyncRead for Compat<R> {
 
     fn poll_read(&mut self, cx: &mut Context<'_>, buf: &mut [u8]) -> Poll<io::Result<usize>>
         ensures bound { count_moved result ≤ length buf.new }
-        ensures bytes { Gave R.reads self.old.inner (bytes_moved result buf.new) self.new.inner }
+        ensures bytes { GaveBytes R.reads self.old.inner (bytes_moved result buf.new) self.new.inner }
         ensures end { result ≡ Poll.Ready (Ok 0) → 0 < length buf.old → EndedAt R.reads self.new.inner }
         ensures failed { IfReadyErr result (FailedAt R.reads self.new.inner) }
         ensures registered { OnPending result (Covers cx.new (λ s. R.registers self.new.inner (Lasting.hears s))) }
@@ -45,7 +46,7 @@ impl<R: AsyncBufRead + Drop> tokio::io::AsyncBufRead for Compat<R> {
     ghost buffered = { λ k. R.buffer_of k.inner };
 
     fn poll_fill_buf(&mut self, cx: &mut Context<'_>) -> Poll<io::Result<()>>
-        ensures bytes { Gave R.reads self.old.inner [] self.new.inner }
+        ensures bytes { GaveBytes R.reads self.old.inner [] self.new.inner }
         ensures end { OnReadyOk result (length (R.buffer_of self.new.inner) ≡ 0 → EndedAt R.reads self.new.inner) }
         ensures failed { IfReadyErr result (FailedAt R.reads self.new.inner) }
         ensures registered { OnPending result (Covers cx.new (λ s. R.registers self.new.inner (Lasting.hears s))) }
@@ -66,7 +67,7 @@ impl<R: AsyncBufRead + Drop> tokio::io::AsyncBufRead for Compat<R> {
 
     fn consume(&mut self, amount: usize)
         requires { amount ≤ length (R.buffer_of self.old.inner) }
-        ensures bytes { Gave R.reads self.old.inner (take amount (R.buffer_of self.old.inner)) self.new.inner }
+        ensures bytes { GaveBytes R.reads self.old.inner (take amount (R.buffer_of self.old.inner)) self.new.inner }
         ensures rest { R.buffer_of self.new.inner ≡ drop amount (R.buffer_of self.old.inner) }
         ensures ran { R.reads self.old.inner (bytes (take amount (R.buffer_of self.old.inner))) self.new.inner }
     {

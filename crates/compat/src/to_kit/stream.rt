@@ -1,6 +1,6 @@
 //! Streams of this library as those of the toolchain.
 ghost use Rattle.std.specs.Prelude.{◌∷◌, [], IfSome, OnSome};
-ghost use Rattle.compat.specs.ToKit.{Yields};
+ghost use Rattle.compat.specs.ToKit.{YieldsUpTo};
 ghost use Rattle.compat.specs.Uses.{Covers, IfReady, Keeps, Lasting, OnPending};
 ghost use Rattle.futures.specs.Runs.{After, Within};
 
@@ -14,16 +14,16 @@ impl<S: Stream + Drop> futures::Stream for Compat<S> {
 
     ghost needs = { λ k s. S.registers k.inner (Lasting.hears s) };
 
-    ghost yields = { λ k. Yields S.run k.inner };
+    ghost yields = { λ k. YieldsUpTo S.run k.inner };
 
     fn poll_next(&mut self, cx: &mut Context<'_>) -> Poll<Option<S::Item>>
         requires { S.can_poll self.old.inner }
-        ensures value { IfReady result (Yields S.run self.old.inner []) }
+        ensures value { IfReady result (YieldsUpTo S.run self.old.inner []) }
         ensures rest { IfReady result
-            (λ o. IfSome o (λ x. After (Yields S.run self.old.inner) x (Yields S.run self.new.inner))) }
+            (λ o. IfSome o (λ x. After (YieldsUpTo S.run self.old.inner) x (YieldsUpTo S.run self.new.inner))) }
         ensures goes { IfReady result (λ o. OnSome o (S.can_poll self.new.inner)) }
         ensures again { OnPending result (S.can_poll self.new.inner) }
-        ensures same { OnPending result (Within (Yields S.run self.old.inner) (Yields S.run self.new.inner)) }
+        ensures same { OnPending result (Within (YieldsUpTo S.run self.old.inner) (YieldsUpTo S.run self.new.inner)) }
         ensures registered { OnPending result (Covers cx.new (λ s. S.registers self.new.inner (Lasting.hears s))) }
         ensures kept { Keeps cx.old cx.new }
 

@@ -2,7 +2,7 @@
 ghost use Rattle.std.specs.Io.Slices.{io_slices_bytes};
 ghost use Rattle.std.specs.Prelude.{◌≡◌, ◌<◌, ◌≤◌, [], Ok, length};
 ghost use Rattle.compat.specs.Laws.ToKit.{nothing_written, writes_on};
-ghost use Rattle.compat.specs.ToKit.{Took, WriteFailedAt, WroteAt};
+ghost use Rattle.compat.specs.ToKit.{TookBytes, WriteFailedAt, WroteAt};
 ghost use Rattle.compat.specs.Uses.{Covers, Keeps, Lasting, OnPending, done_marks, write_marks};
 ghost use Rattle.lite_io_base.specs.WriteMarks.WriteMark.{closed, flushed, wrote};
 ghost use Rattle.tokio.specs.Io.Moved.{IfReadyErr, OnReadyOk, bytes_moved, count_moved};
@@ -16,7 +16,7 @@ use std::io::IoSlice;
 impl<W: AsyncWrite + Drop> tokio::io::AsyncWrite for Compat<W> {
     ghost needs = { λ k s. W.write_registers k.inner (Lasting.hears s) };
 
-    ghost writes = { λ a xs b. Took W.writes a.inner xs b.inner };
+    ghost writes = { λ a xs b. TookBytes W.writes a.inner xs b.inner };
 
     ghost is_flushed = { λ k. WroteAt W.writes flushed k.inner };
 
@@ -32,7 +32,7 @@ impl<W: AsyncWrite + Drop> tokio::io::AsyncWrite for Compat<W> {
 
     fn poll_write(&mut self, cx: &mut Context<'_>, buf: &[u8]) -> Poll<io::Result<usize>>
         ensures bound { count_moved result ≤ length buf.now }
-        ensures bytes { Took W.writes self.old.inner (bytes_moved result buf.now) self.new.inner }
+        ensures bytes { TookBytes W.writes self.old.inner (bytes_moved result buf.now) self.new.inner }
         ensures full { result ≡ Poll.Ready (Ok 0) → 0 < length buf.now → WroteAt W.writes (wrote []) self.new.inner }
         ensures failed { IfReadyErr result (WriteFailedAt W.writes self.new.inner) }
         ensures registered { OnPending result (Covers cx.new (λ s. W.write_registers self.new.inner (Lasting.hears s))) }
@@ -53,7 +53,7 @@ impl<W: AsyncWrite + Drop> tokio::io::AsyncWrite for Compat<W> {
         bufs: &[IoSlice<'_>],
     ) -> Poll<io::Result<usize>>
         ensures bound { count_moved result ≤ length (io_slices_bytes bufs.now) }
-        ensures bytes { Took W.writes self.old.inner (bytes_moved result (io_slices_bytes bufs.now)) self.new.inner }
+        ensures bytes { TookBytes W.writes self.old.inner (bytes_moved result (io_slices_bytes bufs.now)) self.new.inner }
         ensures full { result ≡ Poll.Ready (Ok 0) → 0 < length (io_slices_bytes bufs.now)
             → WroteAt W.writes (wrote []) self.new.inner }
         ensures failed { IfReadyErr result (WriteFailedAt W.writes self.new.inner) }
@@ -71,7 +71,7 @@ impl<W: AsyncWrite + Drop> tokio::io::AsyncWrite for Compat<W> {
 
     fn poll_flush(&mut self, cx: &mut Context<'_>) -> Poll<io::Result<()>>
         ensures flushed { OnReadyOk result (WroteAt W.writes flushed self.new.inner) }
-        ensures bytes { Took W.writes self.old.inner [] self.new.inner }
+        ensures bytes { TookBytes W.writes self.old.inner [] self.new.inner }
         ensures failed { IfReadyErr result (WriteFailedAt W.writes self.new.inner) }
         ensures registered { OnPending result (Covers cx.new (λ s. W.write_registers self.new.inner (Lasting.hears s))) }
         ensures kept { Keeps cx.old cx.new }
@@ -87,7 +87,7 @@ impl<W: AsyncWrite + Drop> tokio::io::AsyncWrite for Compat<W> {
 
     fn poll_shutdown(&mut self, cx: &mut Context<'_>) -> Poll<io::Result<()>>
         ensures shut_down { OnReadyOk result (WroteAt W.writes closed self.new.inner) }
-        ensures bytes { Took W.writes self.old.inner [] self.new.inner }
+        ensures bytes { TookBytes W.writes self.old.inner [] self.new.inner }
         ensures failed { IfReadyErr result (WriteFailedAt W.writes self.new.inner) }
         ensures registered { OnPending result (Covers cx.new (λ s. W.write_registers self.new.inner (Lasting.hears s))) }
         ensures kept { Keeps cx.old cx.new }

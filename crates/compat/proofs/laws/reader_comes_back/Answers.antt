@@ -1,6 +1,6 @@
 use Rattle.compat.specs.Laws.FromKit.{reads_told}
 use Rattle.compat.specs.Laws.ToKit.{nothing_read, reads_on}
-use Rattle.compat.proofs.laws.reader_and_back.Goals as goal
+use Rattle.compat.proofs.laws.reader_comes_back.Goals as goal
 
 pub returns : goal.returns
 returns g c x y l h =

@@ -1,6 +1,6 @@
 use Rattle.compat.specs.Laws.FromKit.{writes_taken}
 use Rattle.compat.specs.Laws.ToKit.{nothing_written, writes_on}
-use Rattle.compat.proofs.laws.writer_and_back.Goals as goal
+use Rattle.compat.proofs.laws.writer_comes_back.Goals as goal
 
 pub returns : goal.returns
 returns g c x y l h =

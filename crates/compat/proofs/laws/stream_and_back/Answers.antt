@@ -1,7 +1,0 @@
-use Rattle.compat.specs.Laws.Collected.{step_yields}
-use Rattle.compat.specs.ToKit.{Yields}
-use Rattle.compat.proofs.laws.stream_and_back.Goals as goal
-
-pub returns : goal.returns
-returns g c x y l xs last rest running h e =
-    step_yields (λ k. g.S.Stream.can_poll k.inner) (λ k. Yields g.S.Stream.run k.inner) x y l xs last rest running h e
