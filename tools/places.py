@@ -103,6 +103,8 @@ NO_CASE = {
     *"iter_array iter_range iter_slice iter_vec".split(),
     # Members of traits, and parts of a poll, that other calls make.
     *"answer finish in_hand poll_close poll_flush poll_seek poll_write_vectored refuse scan_line take_in".split(),
+    # What is wrapped costs what it wraps, and a wait for it what `block_on` costs.
+    *"collect_from_kit compat stream_from_kit wait_from_kit".split(),
     # They do what `AsyncAsSync::read`, `read_hexadecimal` and `poll_read_vectored` do.
     *"poll_with read_decimal read_vectored".split(),
     # Calls and checks of journals, which tests alone make.

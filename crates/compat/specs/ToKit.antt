@@ -1,6 +1,7 @@
 -- What the toolchain's traits say of the runs of a stream, reader or writer of this library.
 use Rattle.std.specs.Prelude.{◌≡◌, ℕ, List, [], ◌∷◌, ◌++◌, map, Option, Some}
-use Rattle.compat.specs.Uses.{Answer, Error, Finishes, Poll, ReadMark, Runs, WriteMark, bytes_taken, bytes_told, error_kind, strip}
+use Rattle.lite_base.specs.Spent.{Finishes}
+use Rattle.compat.specs.Uses.{Answer, Error, Poll, ReadMark, Runs, WriteMark, bytes_taken, bytes_told, error_kind, strip}
 
 -- The future may be polled to this value.
 abbrev pub FinishesWith : {F A : Type 0} → Runs (Poll A) F → F → A → Type 0

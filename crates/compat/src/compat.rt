@@ -29,8 +29,9 @@ use std::fmt;
 /// A channel of the toolchain, read by this library's adapters.
 ///
 /// ```
-/// use compat::CompatExt;
+/// use compat::{Compat, CompatExt};
 /// use futures::channel::mpsc;
+/// use futures::channel::mpsc::UnboundedReceiver;
 /// use futures_lite::{StreamExt, future};
 ///
 /// let (sender, receiver) = mpsc::unbounded::<u32>(rt.alloc())?;
@@ -39,7 +40,8 @@ use std::fmt;
 /// }
 /// drop(sender);
 ///
-/// let doubled = receiver.compat().map(|n: u32| n * 2).with_budget(16);
+/// let receiver: Compat<UnboundedReceiver<u32>> = receiver.compat();
+/// let doubled = receiver.map(|n: u32| n * 2).with_budget(16);
 /// let all = future::block_on(&rt, doubled.collect::<Vec<u32>>(rt.alloc()))?;
 /// assert_eq!(rt; all.map_err(|_| AllocError)?.as_slice(), [2, 4, 6].as_slice());
 /// ```
