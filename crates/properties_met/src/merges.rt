@@ -1,5 +1,5 @@
 //! Adapters that hold something between polls or have several streams: two that are alike, and a calm one, of each type.
-//! A poll of `Drain` is never pending.
+//! A poll of `Drain` is never pending, so it may be said to have registered every fact.
 ghost use Rattle.std.specs.Prelude.{None, Some, false, ◌≡◌};
 ghost use Rattle.lite_base.specs.Alike.{SameItem};
 ghost use Rattle.lite_base.specs.Calling.{AgreeFrom, Calls, MakesAlways};
@@ -9,7 +9,7 @@ ghost use Rattle.lite_merge.specs.declared.stop_after_future.Stopping.TheVariant
 ghost use Rattle.lite_reshape.specs.Cloned.{EqualClones, NoCloneRefused};
 ghost use Rattle.lite_reshape.specs.Inner.{EachInner};
 ghost use Rattle.lite_reshape.specs.declared.chain.Part.TheVariants.{First, Second};
-ghost use Rattle.properties_met.specs.Registering.{TellsAll};
+ghost use Rattle.properties_met.specs.Registering.{TellsAll, TellsEach};
 ghost use Rattle.properties_met.specs.Unrefused.{AmpleWhere};
 
 use lite_base::{CalmFuture, CalmStream, Counted, Future, SteadyFuture, SteadyStream, Stream};
@@ -221,6 +221,11 @@ where
         → TellsAll (S.registers copy.now) (⟦<Cycle<S> as Stream>⟧.registers cycle.now) }
     ensures budgeted { TellsAll (λ fact. S.registers budgeted.now.stream fact × HoldsWoken fact)
         (⟦<Budgeted<S> as Stream>⟧.registers budgeted.now) }
+{}
+
+/// What drains a stream is never pending.
+pub fn drained<'a, S: Stream>(drain: &Drain<'a, S>)
+    ensures { TellsEach (⟦<Drain<'a, S> as Stream>⟧.registers drain.now) }
 {}
 
 /// Clones of items: a run without a refused clone is ample, if each run of the stream is.
