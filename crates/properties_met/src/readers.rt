@@ -16,9 +16,7 @@ use lite_base::{SteadyStream, Stream};
 use lite_bridge::{AssertAsync, BytesLike, Cursor};
 use lite_buffered::{Budgeted, BufReader, Chain, Empty, Repeat, Take};
 use lite_halves::Journal;
-use lite_io_base::{
-    AsyncRead, AsyncSeek, AsyncWrite, CalmRead, ReadSpec, SteadyRead, WriteSpec,
-};
+use lite_io_base::{AsyncRead, AsyncSeek, AsyncWrite, CalmRead, ReadSpec, SteadyRead, WriteSpec};
 use lite_mock::Marks;
 use lite_read::Bytes;
 use std::io::{Read, Seek, Write};
@@ -63,13 +61,14 @@ where
     ensures buffer_of { ⟦<&'a mut R as SteadyRead>⟧.alike x.now y.now }
     ensures take { ⟦<Take<S> as SteadyRead>⟧.alike (record { inner = v.now; limit = limit })
         (record { inner = w.now; limit = limit }) }
-    ensures bytes { ⟦<Bytes<S> as SteadyRead>⟧.alike (record { inner = v.now }) (record { inner = w.now }) }
+    ensures bytes { ⟦<Bytes<S> as SteadyRead>⟧.alike (record { inner = v.now; interrupted = false })
+        (record { inner = w.now; interrupted = false }) }
     ensures chain { ⟦<Chain<&'a mut R, S> as SteadyRead>⟧.alike
         (record { first = x.now; second = v.now; has_ended = false })
         (record { first = y.now; second = w.now; has_ended = false }) }
     ensures lent_calm { ⟦<&'a mut R as CalmRead>⟧.is_calm x.now }
     ensures take_calm { ⟦<Take<S> as CalmRead>⟧.is_calm (record { inner = v.now; limit = limit }) }
-    ensures bytes_calm { ⟦<Bytes<S> as CalmRead>⟧.is_calm (record { inner = v.now }) }
+    ensures bytes_calm { ⟦<Bytes<S> as CalmRead>⟧.is_calm (record { inner = v.now; interrupted = false }) }
     ensures chain_calm { ⟦<Chain<&'a mut R, S> as CalmRead>⟧.is_calm (record { first = x.now; second = v.now; has_ended = false }) }
 {}
 
@@ -146,13 +145,14 @@ pub fn chained<R: SteadyRead, S: SteadyRead>(chain: &Chain<R, S>)
     ensures needs_none { R.needs_none → S.needs_none → ⟦<Chain<R, S> as SteadyRead>⟧.needs_none }
 {}
 
-/// A reader's bytes one by one: as a reader it has registered what that does, and as a stream each fact
-/// that both that and a wake register. The contract of its poll says which of the two it was.
+/// A reader's bytes one by one: as a reader it has registered what that does. As a stream it has registered a wake at an
+/// interruption, which it notes, and at any other pending what the reader does.
 pub fn bytes_of<R: SteadyRead>(bytes: &Bytes<R>)
     ensures reader { TellsAll (R.registers bytes.now.inner) (⟦<Bytes<R> as AsyncRead>⟧.registers bytes.now)
         × (R.needs_none → ⟦<Bytes<R> as SteadyRead>⟧.needs_none) }
-    ensures stream { TellsAll (λ fact. R.registers bytes.now.inner fact × HoldsWoken fact)
-        (⟦<Bytes<R> as Stream>⟧.registers bytes.now)
+    ensures stream { (bytes.now.interrupted ≡ true → TellsAll HoldsWoken (⟦<Bytes<R> as Stream>⟧.registers bytes.now))
+        × (bytes.now.interrupted ≡ false
+        → TellsAll (R.registers bytes.now.inner) (⟦<Bytes<R> as Stream>⟧.registers bytes.now))
         × (R.needs_none → ⟦<Bytes<R> as SteadyStream>⟧.needs_none) }
 {}
 
