@@ -28,7 +28,8 @@ interrupted_by (ReadMark.fault kind) Pending before = true
 interrupted_by m Pending before = false
 interrupted_by m (Ready x) before = before
 
--- The same once each of the marks became the poll result at its place.
+-- Whether the last `Pending` was an interruption, once each of the marks became the poll result at its place. `before`
+-- says whether the last one before them was.
 abbrev pub interrupted_after : {A : Type 0} → Bool → List ReadMark → List (Answer A) → Bool
 interrupted_after before (m ∷ ms) (a ∷ l) = interrupted_after (interrupted_by m a before) ms l
 interrupted_after before ms l = before
