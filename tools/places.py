@@ -18,11 +18,12 @@ from sources import MODULES, Sources
 CASES, NESTS, TABLES, MARKS_MET = "cases", "docs/NESTS.md", "docs/TABLES.md", "crates/properties_met"
 # The parts of pages whose tables have a row of each call of streams: a heading, and one behind the part.
 PARTS_OF = {NESTS: ("## What each call adds", "\n# "), TABLES: ("## What a poll requires", "\n## ")}
-# Types of which nothing is registered: they are never pending, or wake their task at once.
-NEVER_PENDING = {
-    "Stream": "Drain Empty Iter Once Pending Repeat RepeatWith Script".split(),
-    "Future": "Pending PollOnce Ready".split(),
-    "AsyncRead": "AssertAsync Box Cursor Empty JournalReadHalf ReadHalf Repeat".split(),
+# Types that say of no pending what it registered.
+REGISTERS_NOTHING = {
+    "Stream": ["Pending", "Script"],
+    "Future": ["Pending"],
+    "AsyncRead": ["Box", "JournalReadHalf", "ReadHalf"],
+    "AsyncWrite": ["Box", "JournalWriteHalf", "WriteHalf"],
 }
 # The tests of adapters, of futures that consume a stream, and of sources; and the calls that those of another kind make, or of another form.
 TESTS_OF_STREAMS = ("streams/adapters.rs", "consuming/consume.rs", "streams/sources.rs")
@@ -191,13 +192,13 @@ def families(streams):
 
 
 def members_met(kind, name, properties):
-    """Yields each trait of a type, and the members of which a contract has to name one. No call of a writer asks for memory, and most of them are never pending."""
+    """Yields each trait of a type, and the members of which a contract has to name one. No call of a writer asks for memory."""
     for trait in properties:
         if trait.startswith(("Steady", "Calm")):
             yield trait, "alike|is_calm"
         if trait.startswith("Steady") and kind != "AsyncWrite":
             yield trait, "needs_none|ample"
-    if kind != "AsyncWrite" and name not in NEVER_PENDING[kind]:
+    if name not in REGISTERS_NOTHING[kind]:
         yield kind, r"\w*registers\w*"
 
 

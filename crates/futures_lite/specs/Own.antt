@@ -13,6 +13,8 @@ pub use Rattle.lite_base.specs.Laws.Ranks.{Terminates-count, Terminates-map}
 pub use Rattle.lite_base.specs.Streams.{HintsAt, ItemsLower, RankLowers}
 pub use Rattle.lite_base.specs.Laws.Streams.{stream_by_keeping_steps, stream_by_steps, stream_counting, stream_hinting, stream_ranking}
 -- of readers and writers
+pub use Rattle.lite_io_base.specs.Joined.{Joined}
+pub use Rattle.lite_io_base.specs.Laws.Joined.{joined_by, joined_laws, joined_one}
 pub use Rattle.lite_theorems.specs.Readers.{HandsOn, each_byte, MarksLower, FrontLaws, FrontStep, ReadsLeft}
 pub use Rattle.lite_theorems.specs.Laws.Readers.{handed_moved, handing_counting, hands_read, reader_handing}
 pub use Rattle.lite_theorems.specs.Laws.Readers.{reader_by_steps, reader_counting, front_lowers, front_read}

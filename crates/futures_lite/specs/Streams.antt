@@ -40,7 +40,7 @@ pub use Rattle.lite_reshape.specs.declared.cloned.Cloned.{Cloned}
 pub use Rattle.lite_reshape.specs.declared.flat_map.FlatMap.{FlatMap}
 pub use Rattle.lite_reshape.specs.declared.flatten.Flatten.{Flatten}
 pub use Rattle.lite_reshape.specs.declared.then.Then.{Then}
-pub use Rattle.lite_merge.specs.Budgeted.{Budgets, RegistersLeft}
+pub use Rattle.lite_merge.specs.Budgeted.{Budgets, PacedRegisters, RegistersPaused}
 pub use Rattle.lite_merge.specs.Or.{Ors}
 pub use Rattle.lite_merge.specs.Race.{Races}
 pub use Rattle.lite_merge.specs.Zip.{Zips}

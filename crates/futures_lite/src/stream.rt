@@ -1397,7 +1397,7 @@ pub trait StreamExt: Stream {
     where
         Self: Sized,
         requires { 0 < items }
-        ensures parts { result ≡ record { stream = self; budget = items; left = items } }
+        ensures parts { result ≡ record { stream = self; budget = items; left = items; paused = false } }
         ensures lists { OfItems Self.run self (λ xs. ListsAs (Budgets Self.run) result xs) }
     {
         lite_merge::make::with_budget(self, items)

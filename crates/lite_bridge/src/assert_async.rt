@@ -182,6 +182,9 @@ impl<T: Read> ReadSpec for AssertAsync<T> {
 
 #[tactic(auto, using(crate::specs::Laws::StdKnown::read_spends))]
 impl<T: Read> AsyncRead for AssertAsync<T> {
+    // It is never pending.
+    ghost registers = { λ _ _. ⊤ };
+
     /// Reads once. After an interruption it reads again, up to 16 times in a row.
     fn poll_read(&mut self, _cx: &mut Context<'_>, buf: &mut [u8]) -> Poll<io::Result<usize>> {
         insist!(self.inner.read(buf))
@@ -220,6 +223,9 @@ impl<T: Write> WriteSpec for AssertAsync<T> {
 
 #[tactic(auto, using(crate::specs::Laws::StdKnown::write_gains, crate::specs::Laws::StdKnown::flush_gains, crate::specs::Laws::StdKnown::close_gains))]
 impl<T: Write> AsyncWrite for AssertAsync<T> {
+    // It is never pending.
+    ghost write_registers = { λ _ _. ⊤ };
+
     fn poll_write(&mut self, _cx: &mut Context<'_>, buf: &[u8]) -> Poll<io::Result<usize>> {
         insist!(self.inner.write(buf))
     }
@@ -268,6 +274,9 @@ impl<T: Seek> AsyncSeek for AssertAsync<T> {
 
     ghost seeks = { λ x pos r y. MovesKnown (T.stream_position (handle_of x)) (T.stream_position (handle_of y))
         (T.stream_bytes (handle_of x)) (T.stream_bytes (handle_of y)) pos r };
+
+    // It is never pending.
+    ghost seek_registers = { λ _ _. ⊤ };
 
     fn poll_seek(&mut self, _cx: &mut Context<'_>, pos: SeekFrom) -> Poll<io::Result<u64>> {
         insist!(self.inner.seek(pos))

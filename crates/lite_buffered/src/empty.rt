@@ -46,6 +46,9 @@ impl WriteSpec for Empty {
 }
 
 impl AsyncRead for Empty {
+    // It is never pending.
+    ghost registers = { λ _ _. ⊤ };
+
     fn poll_read(&mut self, _cx: &mut Context<'_>, _buf: &mut [u8]) -> Poll<io::Result<usize>> {
         Poll::Ready(Ok(0))
     }

@@ -37,11 +37,14 @@ impl WriteSpec for Repeat {
 }
 
 impl AsyncRead for Repeat {
+    // It is never pending.
+    ghost registers = { λ _ _. ⊤ };
+
     fn poll_read(&mut self, _cx: &mut Context<'_>, buf: &mut [u8]) -> Poll<io::Result<usize>>
         ensures bound { IfReady result (λ r. IfOk r (λ n. n ≤ length buf.new)) }
         ensures ran { RepeatsByte self.old (read_marks result buf.new) self.new }
         ensures full { result ≡ Poll.Ready (Ok (length buf.old)) }
-        ensures registered { Registered result (λ _. ⊥) _cx.new }
+        ensures registered { Registered result (λ _. ⊤) _cx.new }
         ensures context { Keeps _cx.old _cx.new }
     {
         buf.fill(self.byte);

@@ -27,6 +27,9 @@ impl<F: Future> Future for PollOnce<F> {
 
     ghost run = { GivesFirst F.run };
 
+    // It is never pending.
+    ghost registers = { λ _ _. ⊤ };
+
     ghost laws = { tells_laws F.run F.can_poll };
 
     fn poll(&mut self, cx: &mut Context<'_>) -> Poll<Option<F::Output>> {

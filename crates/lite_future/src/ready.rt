@@ -19,6 +19,9 @@ impl<T> Future for Ready<T> {
 
     ghost run = { λ x l y. GivesHeld x.value l y.value };
 
+    // It is never pending.
+    ghost registers = { λ _ _. ⊤ };
+
     ghost laws = { held_laws };
 
     fn poll(&mut self, _cx: &mut Context<'_>) -> Poll<T> {

@@ -11,7 +11,7 @@ pub use Rattle.lite_base.specs.Laws.Ranks.{Lowers-at_most, ok_counting}
 pub use Rattle.lite_base.specs.Laws.StreamLaws.{same_hint}
 pub use Rattle.lite_base.specs.Ranks.{all_ok, AtMost, Lowers, Counting, Ranks, held_rank, ranks_of}
 pub use Rattle.lite_base.specs.Segments.{Paces, left_behind}
-pub use Rattle.lite_base.specs.Registered.{Registered, HoldsWoken}
+pub use Rattle.lite_base.specs.Registered.{Registered}
 pub use Rattle.lite_base.specs.Runs.{Hints, NoHint, Runs}
 pub use Rattle.lite_base.specs.Steady.{SteadyLawsBy}
 pub use Rattle.lite_base.specs.StreamLaws.{PollsOn, StreamLaws}
@@ -21,5 +21,5 @@ pub use Rattle.lite_stream.specs.Laws.Through.{Relating, laws_capped, through_co
 pub use Rattle.lite_stream.specs.Through.{Relates, AdapterParts, Through, parts_of}
 pub use Rattle.lite_stream.specs.declared.fuse.Fuse.{Fuse}
 pub use Rattle.rand_core.specs.Stream.{Stream}
-pub use Rattle.std.proofs.Common.{ap, append_assoc, arith, inl, length-append, refl, sym, ◌∙◌}
+pub use Rattle.std.proofs.Common.{ap, append_assoc, arith, inl, inr, length-append, refl, sym, ◌∙◌}
 pub use Rattle.std.proofs.lemmas.List.{map-append}

@@ -1,7 +1,6 @@
-ghost use Rattle.std.specs.Prelude.{◌∷◌, []};
-ghost use Rattle.lite_merge.specs.Uses.{HoldsWoken, Keeps, Registered, ok_counting, through_on};
+ghost use Rattle.lite_merge.specs.Uses.{ok_counting, through_on};
 ghost use Rattle.lite_stream.specs.Laws.Through.{laws_hinted};
-ghost use Rattle.lite_merge.specs.Budgeted.{RegistersLeft, Budgets, budget_parts, budget_ranks};
+ghost use Rattle.lite_merge.specs.Budgeted.{Budgets, PacedRegisters, budget_parts, budget_ranks};
 ghost use Rattle.lite_merge.specs.Laws.Budgeted.{budget_counting, budget_steady, paces_relating};
 
 use lite_base::{Context, Counted, OkCounted, Poll, SteadyStream, Stream};
@@ -18,6 +17,8 @@ pub struct Budgeted<S> {
     pub(crate) budget: usize,
     // How many items may come before it returns `Pending` by itself.
     pub(crate) left: usize,
+    // Whether the last `Pending` was its own, so that it woke the task.
+    pub(crate) paused: bool,
 }
 
 impl<S: Stream> Stream for Budgeted<S> {
@@ -27,31 +28,26 @@ impl<S: Stream> Stream for Budgeted<S> {
 
     ghost run = { Budgets S.run };
 
-    ghost registers = { λ m fact. S.registers m.stream fact × HoldsWoken fact };
+    ghost registers = { PacedRegisters S.registers };
 
     ghost hints = { λ m. S.hints m.stream };
 
     ghost laws = { laws_hinted budget_parts S.laws paces_relating (through_on budget_parts S.laws) };
 
-    fn poll_next(&mut self, cx: &mut Context<'_>) -> Poll<Option<S::Item>>
-        requires { S.can_poll self.old.stream }
-        ensures ran { Budgets S.run self.old (result ∷ []) self.new }
-        ensures again { S.can_poll self.new.stream }
-        ensures registered { Registered result (λ fact. S.registers self.new.stream fact × HoldsWoken fact) cx.new }
-        ensures context { Keeps cx.old cx.new }
-
-        // Its own `Pending` wakes the task. At its source's `Pending` all is registered that the source registers.
-        ensures registered_by { Registered result (RegistersLeft self.old.left (S.registers self.new.stream)) cx.new }
-    {
+    fn poll_next(&mut self, cx: &mut Context<'_>) -> Poll<Option<S::Item>> {
         if self.left == 0 {
             self.left = self.budget;
+            self.paused = true;
             return cx.yield_now();
         }
         let next = self.stream.poll_next(cx);
         match &next {
             Poll::Ready(Some(_)) => self.left -= 1,
             Poll::Ready(None) => {}
-            Poll::Pending => self.left = self.budget,
+            Poll::Pending => {
+                self.left = self.budget;
+                self.paused = false;
+            }
         }
         next
     }

@@ -106,6 +106,9 @@ impl<'a, S: Stream> Stream for Drain<'a, S> {
 
     ghost run = { Drains S.run };
 
+    // It is never pending.
+    ghost registers = { λ _ _. ⊤ };
+
     ghost hints = { λ m hint. (inner : ℕ × Option ℕ) × S.hints m.stream.now inner × (hint ≡ (0, inner.1)) };
 
     ghost laws = { laws_capped drain_parts (lent_laws S.laws) drained_relating

@@ -125,11 +125,12 @@ pub fn stop_after_future<S, Fut: Future>(stream: S, future: Fut) -> StopAfterFut
 /// 0.
 pub fn with_budget<S>(stream: S, budget: usize) -> Budgeted<S>
     requires { 0 < budget }
-    ensures { result ≡ record { stream = stream; budget = budget; left = budget } }
+    ensures { result ≡ record { stream = stream; budget = budget; left = budget; paused = false } }
 {
     Budgeted {
         stream,
         budget,
         left: budget,
+        paused: false,
     }
 }

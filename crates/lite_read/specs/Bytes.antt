@@ -1,8 +1,8 @@
 -- The `bytes` stream: each mark of its reader becomes one poll result.
-use Rattle.std.specs.Prelude.{◌≡◌, ◌⊎◌, ℕ, List, [], ◌∷◌, ⊤, Some, None, Result, Ok, Err}
-use Rattle.lite_read.specs.Uses.{error_kind, Error, Interrupted, HoldsWoken, Ready, Pending, Answer, Runs, ReadMark}
-use Rattle.futures.specs.Task.{Holds, Lasting}
-use Rattle.futures.specs.declared.task.context.Context.{Context}
+use Rattle.std.specs.Prelude.{◌≡◌, ℕ, Bool, true, false, List, [], ◌∷◌, ⊤, Some, None, Result, Ok, Err}
+use Rattle.lite_read.specs.Uses.{error_kind, Error, Interrupted, Ready, Pending, Answer, Runs, ReadMark}
+use Rattle.futures.specs.Task.{Lasting}
+use Rattle.lite_base.specs.Registered.{HoldsWoken}
 use Rattle.lite_read.specs.declared.bytes.Bytes.{Bytes}
 
 -- The poll result that one mark of the reader becomes. A byte is an item, end of file is the end of the stream, and
@@ -21,18 +21,35 @@ GivesEach [] [] = ⊤
 GivesEach (m ∷ ms) (a ∷ l) = GivesMark m a × GivesEach ms l
 GivesEach ms l = ⊥
 
--- The run of `bytes`: its reader produced some marks, and each became one poll result. Without a poll the stream is
--- unchanged.
+-- Whether the last `Pending` was an interruption, once this mark became this poll result. `before` says whether the
+-- last one before it was.
+abbrev pub interrupted_by : {A : Type 0} → ReadMark → Answer A → Bool → Bool
+interrupted_by (ReadMark.fault kind) Pending before = true
+interrupted_by m Pending before = false
+interrupted_by m (Ready x) before = before
+
+-- Whether the last `Pending` was an interruption, once each of the marks became the poll result at its place. `before`
+-- says whether the last one before them was.
+abbrev pub interrupted_after : {A : Type 0} → Bool → List ReadMark → List (Answer A) → Bool
+interrupted_after before (m ∷ ms) (a ∷ l) = interrupted_after (interrupted_by m a before) ms l
+interrupted_after before ms l = before
+
+-- The run of `bytes`: its reader produced some marks, and each became one poll result. The stream notes whether its
+-- last `Pending` was an interruption. Without a poll it is unchanged.
 pub record GivesBytes {R : Type 0} (reads : Runs ReadMark R) (x : Bytes R) (out : List (Answer (Result ℕ Error)))
     (y : Bytes R) : Type 0 where
   pub marks : List ReadMark
   pub came : reads x.inner marks y.inner
   pub told : GivesEach marks out
+  pub noted : y.interrupted ≡ interrupted_after x.interrupted marks out
   pub idle : out ≡ [] → y ≡ x
 
--- Why a poll returned `Pending`, and what the context `cx` holds then. The reader returned `Pending`, and what it
--- registers is there. Or the reader was interrupted, and the task is woken.
-abbrev pub BytesPend : {R : Type 0} → Runs ReadMark R → (R → Lasting → Type 0) → R → R → Context → Type 0
-BytesPend reads registers x y cx =
-    (reads x (ReadMark.pending ∷ []) y × ((fact : Lasting) → registers y fact → Holds cx fact))
-    ⊎ (reads x (ReadMark.fault Interrupted ∷ []) y × ((fact : Lasting) → HoldsWoken fact → Holds cx fact))
+-- What a `Pending` has registered, by its cause. If it is an interruption, the task is woken. Otherwise it is the
+-- reader's `Pending`, which has registered `inner`.
+abbrev pub RegistersInterrupted : Bool → (Lasting → Type 0) → Lasting → Type 0
+RegistersInterrupted true inner = HoldsWoken
+RegistersInterrupted false inner = inner
+
+-- What a `Pending` of `bytes` has registered, from what its reader registers.
+abbrev pub BytesRegister : {R : Type 0} → (R → Lasting → Type 0) → Bytes R → Lasting → Type 0
+BytesRegister registers x = RegistersInterrupted x.interrupted (registers x.inner)

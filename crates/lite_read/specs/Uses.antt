@@ -15,7 +15,7 @@ pub use Rattle.lite_base.specs.Laws.Ranks.{Terminates-map}
 pub use Rattle.lite_base.specs.Laws.Segments.{segment_alone, segments_one}
 pub use Rattle.lite_base.specs.Laws.StreamLaws.{laws_of}
 pub use Rattle.lite_base.specs.Ranks.{Below, Lowers, Ranks, ranks_of}
-pub use Rattle.lite_base.specs.Registered.{Registered, HoldsWoken}
+pub use Rattle.lite_base.specs.Registered.{Registered}
 pub use Rattle.lite_base.specs.Runs.{NoHint, Runs}
 pub use Rattle.lite_base.specs.Segments.{Segments}
 pub use Rattle.lite_base.specs.Steady.{FutureSteadyLawsBy, SteadyLawsBy}

@@ -1,14 +1,13 @@
-ghost use Rattle.std.specs.Prelude.{None, ◌∷◌, [], ⊤};
-ghost use Rattle.lite_read.specs.Uses.{ranks_of, NoHint, HoldsWoken, Keeps, OnPending, Registered, Sameness, SameByKind};
+ghost use Rattle.lite_read.specs.Uses.{ranks_of, NoHint, Sameness, SameByKind};
 ghost use Rattle.lite_io_base.specs.Laws.Runs.{idle_laws};
 ghost use Rattle.lite_io_base.specs.Runs.{Idle};
-ghost use Rattle.lite_read.specs.Bytes.{BytesPend, GivesBytes};
+ghost use Rattle.lite_read.specs.Bytes.{BytesRegister, GivesBytes};
 ghost use Rattle.lite_read.specs.Laws.Bytes.{bytes_counting, bytes_laws, inner_calm, inner_counting, inner_laws, inner_steady, bytes_steady};
 
 use lite_base::{Context, Counted, OkCounted, Poll, SteadyStream, Stream};
 use lite_io_base::{AsyncRead, CalmRead, CountedRead, ReadSpec, SteadyRead, WriteSpec};
-use std::io;
 use std::io::{ErrorKind, IoSliceMut};
+use std::{fmt, io};
 
 /// A stream of the bytes of a reader.
 ///
@@ -16,9 +15,17 @@ use std::io::{ErrorKind, IoSliceMut};
 /// item, after which the stream may be polled again. An error of the kind `Interrupted` is not an item: it
 /// wakes the task and returns `Pending`. The stream ends when the reader does. It is a reader too, which
 /// reads as the inner reader does. Size hint: `(0, None)`.
-#[derive(Debug, Drop)]
+#[derive(Drop)]
 pub struct Bytes<R> {
     pub(crate) inner: R,
+    // Whether the last `Pending` was an interruption, so that it woke the task.
+    pub(crate) interrupted: bool,
+}
+
+impl<R: fmt::Debug> fmt::Debug for Bytes<R> {
+    fn fmt<W: fmt::Write>(&self, f: &mut fmt::Formatter<W>) -> fmt::Result {
+        f.debug_struct("Bytes").field("inner", &self.inner).finish()
+    }
 }
 
 impl<R: AsyncRead> Stream for Bytes<R> {
@@ -26,30 +33,28 @@ impl<R: AsyncRead> Stream for Bytes<R> {
 
     ghost run = { GivesBytes R.reads };
 
-    ghost registers = { λ x fact. R.registers x.inner fact × HoldsWoken fact };
+    ghost registers = { BytesRegister R.registers };
 
     ghost hints = { NoHint };
 
     ghost laws = { bytes_laws R.read_laws };
 
-    fn poll_next(&mut self, cx: &mut Context<'_>) -> Poll<Option<io::Result<u8>>>
-        ensures ran { GivesBytes R.reads self.old (result ∷ []) self.new }
-        ensures again { ⊤ }
-        ensures registered { Registered result (λ fact. R.registers self.new.inner fact × HoldsWoken fact) cx.new }
-        ensures context { Keeps cx.old cx.new }
-
-        // An interruption wakes the task. At its reader's `Pending` all is registered that the reader registers.
-        ensures registered_by { OnPending result (BytesPend R.reads R.registers self.old.inner self.new.inner cx.new) }
-    {
+    fn poll_next(&mut self, cx: &mut Context<'_>) -> Poll<Option<io::Result<u8>>> {
         let mut byte = [0];
         match self.inner.poll_read(cx, &mut byte) {
             Poll::Ready(Ok(0)) => Poll::Ready(None),
             Poll::Ready(Ok(_)) => Poll::Ready(Some(Ok(byte[0]))),
             Poll::Ready(Err(e)) => match e.kind() {
-                ErrorKind::Interrupted => cx.yield_now(),
+                ErrorKind::Interrupted => {
+                    self.interrupted = true;
+                    cx.yield_now()
+                }
                 _ => Poll::Ready(Some(Err(e))),
             },
-            Poll::Pending => Poll::Pending,
+            Poll::Pending => {
+                self.interrupted = false;
+                Poll::Pending
+            }
         }
     }
 

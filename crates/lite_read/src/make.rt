@@ -1,5 +1,5 @@
 //! The functions that make the futures and streams.
-ghost use Rattle.std.specs.Prelude.{◌≡◌, length, Some, []};
+ghost use Rattle.std.specs.Prelude.{◌≡◌, length, Some, [], false};
 ghost use Rattle.lite_read.specs.ReadLine.{LineHolds};
 ghost use Rattle.lite_read.specs.ReadToString.{StringHolds as AllHolds, text_front};
 
@@ -21,9 +21,12 @@ use std::io::{IoSliceMut, SeekFrom};
 
 /// Returns a stream of the bytes of `reader`.
 pub fn bytes<R>(reader: R) -> Bytes<R>
-    ensures { result ≡ record { inner = reader } }
+    ensures { result ≡ record { inner = reader; interrupted = false } }
 {
-    Bytes { inner: reader }
+    Bytes {
+        inner: reader,
+        interrupted: false,
+    }
 }
 
 /// Returns a future that returns a slice of the next bytes of `reader`.

@@ -20,6 +20,9 @@ impl<T> Stream for Empty<T> {
 
     ghost run = { GivesEnds };
 
+    // It is never pending.
+    ghost registers = { λ _ _. ⊤ };
+
     ghost hints = { λ x hint. hint ≡ (0, Some 0) };
 
     ghost laws = { empty_laws };

@@ -22,6 +22,9 @@ impl<I: Iterator> Stream for Iter<I> {
 
     ghost run = { λ x l y. Iterates I.can_next I.next_gives I.remaining x.iter l y.iter };
 
+    // It is never pending.
+    ghost registers = { λ _ _. ⊤ };
+
     ghost hints = { λ x. IterHints (I.remaining x.iter) };
 
     ghost laws = { iter_laws I.can_next I.next_gives I.remaining };

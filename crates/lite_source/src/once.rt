@@ -18,6 +18,9 @@ impl<T> Stream for Once<T> {
 
     ghost run = { GivesOnce };
 
+    // It is never pending.
+    ghost registers = { λ _ _. ⊤ };
+
     ghost hints = { λ x hint. hint ≡ (length (once_left x.value), Some (length (once_left x.value))) };
 
     ghost laws = { once_laws };

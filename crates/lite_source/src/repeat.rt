@@ -20,6 +20,9 @@ impl<T: Clone> Stream for Repeat<T> {
 
     ghost run = { Repeats T.is_clone T.is_infallible };
 
+    // It is never pending.
+    ghost registers = { λ _ _. ⊤ };
+
     ghost hints = { λ x hint. hint ≡ (2 ^ 64 - 1, None) };
 
     ghost laws = { repeat_laws T.is_clone T.is_infallible (2 ^ 64 - 1) };

@@ -20,6 +20,9 @@ impl<T, F: FnMut() -> T> Stream for RepeatWith<F> {
 
     ghost run = { λ x l y. RepeatsWith F.FnMut x.f l y.f };
 
+    // It is never pending.
+    ghost registers = { λ _ _. ⊤ };
+
     ghost hints = { λ x hint. hint ≡ (2 ^ 64 - 1, None) };
 
     ghost laws = { folds_laws (λ x. x.f) (Call F.FnMut) (λ x y. ap (λ v. record x { f = v })) (2 ^ 64 - 1)

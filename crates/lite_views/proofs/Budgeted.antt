@@ -3,7 +3,7 @@ use Rattle.std.specs.Prelude.{ℕ, List, [], ◌∷◌, Some, None}
 use Rattle.std.proofs.Common.{◌-◌}
 use Rattle.lite_views.specs.Uses.{inl, inr, Ready, Pending, Answer, Runs}
 use Rattle.lite_base.specs.Segments.{Paces, left_behind}
-use Rattle.lite_merge.specs.Budgeted.{Budgets, budget_parts}
+use Rattle.lite_merge.specs.Budgeted.{Budgets, PacesNoting, budget_parts}
 use Rattle.lite_merge.specs.declared.budgeted.Budgeted.{Budgeted}
 use Rattle.lite_views.proofs.Views.{Carries, listed_through}
 use Rattle.lite_views.specs.Views.{Lists, ListsAs}
@@ -20,4 +20,5 @@ paced_fits p (y ∷ xs) i (Ready (Some x) ∷ o) q e (inr h) =
 pub paced_lists : {S A : Type 0} (run : Runs (Answer A) S) (x : Budgeted S) (xs : List A) → Lists run x.stream xs
     → ListsAs (Budgets run) x xs
 paced_lists run x xs lists =
-    listed_through budget_parts run (Paces Pending left_behind) x xs xs lists (paced_fits (x.budget, x.left) xs)
+    listed_through budget_parts run PacesNoting x xs xs lists
+    (λ i o q e h. paced_fits (x.budget, x.left) xs i o (q.0, q.1) e h.0)

@@ -30,12 +30,15 @@ impl ReadSpec for Sink {
 }
 
 impl AsyncWrite for Sink {
+    // It is never pending.
+    ghost write_registers = { λ _ _. ⊤ };
+
     /// Takes all of `buf`.
     fn poll_write(&mut self, _cx: &mut Context<'_>, buf: &[u8]) -> Poll<io::Result<usize>>
         ensures bound { IfReady result (λ r. IfOk r (λ n. n ≤ length buf.now)) }
         ensures ran { Sinks self.old (write_marks result buf.now) self.new }
         ensures all { result ≡ Poll.Ready (Ok (length buf.now)) }
-        ensures registered { Registered result (λ _. ⊥) _cx.new }
+        ensures registered { Registered result (λ _. ⊤) _cx.new }
         ensures context { Keeps _cx.old _cx.new }
     {
         Poll::Ready(Ok(buf.len()))
@@ -50,7 +53,7 @@ impl AsyncWrite for Sink {
         ensures bound { IfReady result (λ r. IfOk r (λ n. n ≤ length (io_slices_bytes bufs.now))) }
         ensures ran { Sinks self.old (write_marks result (io_slices_bytes bufs.now)) self.new }
         ensures some { 0 < length (io_slices_bytes bufs.now) → IfReady result (λ r. IfOk r (λ n. 0 < n)) }
-        ensures registered { Registered result (λ _. ⊥) cx.new }
+        ensures registered { Registered result (λ _. ⊤) cx.new }
         ensures context { Keeps cx.old cx.new }
     {
         self.poll_write(cx, first_nonempty(bufs))

@@ -5,7 +5,7 @@ use crate::consuming::{collections_are_alike, consumers_are_alike, tries_are_ali
 use crate::future_properties::{futures_are_alike, futures_are_calm};
 use crate::merges::{
     clones_have_marks, inner_streams_are_alike, inner_streams_are_calm, merges_are_alike,
-    merges_are_calm,
+    merges_are_calm, poll_mapped, poll_mapped_items,
 };
 use crate::sources::{calls_are_alike, calls_are_calm};
 use crate::streams::{
@@ -15,8 +15,10 @@ use crate::streams::{
 use lite_base::{Context, Poll};
 use lite_future::make::ready;
 use lite_merge::Drain;
-use lite_source::make::once;
+use lite_merge::make::with_budget;
+use lite_source::make::{iter, once};
 use lite_source::{Once, Script};
+use lite_stream::make::map;
 use rand_core::Rng;
 use std::vec::IntoIter;
 
@@ -106,4 +108,12 @@ pub fn polled_futures_agree<R: Rng>(rng: &R) {
     let tried = ready(good);
     futures_are_alike(&x, &x, &other, &other, &value, &answer);
     futures_are_calm(&x, &other, &tried, &tried, rng, &value, &answer);
+}
+
+/// A nest over one item, and one over the items of a range, may be polled.
+pub fn mapped_budgets_are_polled(cx: &mut Context<'_>) {
+    let mut single = map(with_budget(once(1u8), 1), |x: u8| x ^ 1);
+    let _ = poll_mapped(&mut single, cx);
+    let mut several = map(with_budget(iter(0u8..3), 1), |x: u8| x ^ 1);
+    let _ = poll_mapped_items(&mut several, cx);
 }

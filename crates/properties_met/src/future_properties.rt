@@ -1,12 +1,13 @@
 //! Futures: two that are alike, and a calm one, of each type.
-//! A poll of `PollOnce` and of `Ready` is never pending, and one of `Pending` registers nothing: they have no line on that.
+//! A poll of `PollOnce` and of `Ready` is never pending, so it may be said to have registered every fact. One of `Pending`
+//! registers nothing, and has no line on that.
 ghost use Rattle.std.specs.Prelude.{Some, false, true, ◌≡◌};
 ghost use Rattle.lite_base.specs.Alike.{Alike};
 ghost use Rattle.lite_base.specs.Pollers.{NeverPends, Polled, CallRegisters};
 ghost use Rattle.lite_base.specs.Registered.{HoldsWoken};
 ghost use Rattle.lite_future.specs.declared.either.Either.TheVariants.{Left, Right};
 ghost use Rattle.lite_future.specs.declared.side.Side.TheVariants.{Asked};
-ghost use Rattle.properties_met.specs.Registering.{TellsAll};
+ghost use Rattle.properties_met.specs.Registering.{TellsAll, TellsEach};
 
 use lite_base::{
     CalmFuture, CalmStream, Context, Future, Poll, SteadyFuture, SteadyStream, Stream,
@@ -165,6 +166,11 @@ where
         × (S.needs_none → ⟦<&'a mut S as SteadyStream>⟧.needs_none) }
 {}
 
+/// A future that is polled once is never pending.
+pub fn polled_once<E: Future>(once: &PollOnce<E>)
+    ensures { TellsEach (⟦<PollOnce<E> as Future>⟧.registers once.now) }
+{}
+
 /// Futures over no other: no poll of one asks for memory.
 pub fn futures_alone<T, P>(
     yield_now: &YieldNow,
@@ -178,6 +184,6 @@ where
         × ⟦<YieldNow as SteadyFuture>⟧.needs_none }
     ensures poll_fn { TellsAll (CallRegisters P.FnMut poll_fn.now.f) (⟦<PollFn<P> as Future>⟧.registers poll_fn.now)
         × ⟦<PollFn<P> as SteadyFuture>⟧.needs_none }
-    ensures ready { ⟦<Ready<T> as SteadyFuture>⟧.needs_none }
+    ensures ready { TellsEach (⟦<Ready<T> as Future>⟧.registers ready.now) × ⟦<Ready<T> as SteadyFuture>⟧.needs_none }
     ensures pending { ⟦<Pending<T> as SteadyFuture>⟧.needs_none }
 {}

@@ -1,20 +1,24 @@
 //! Adapters that hold something between polls or have several streams: two that are alike, and a calm one, of each type.
-//! A poll of `Drain` is never pending.
-ghost use Rattle.std.specs.Prelude.{None, Some, false, ◌≡◌};
+//! A poll of `Drain` is never pending, so it may be said to have registered every fact.
+ghost use Rattle.std.specs.Prelude.{None, Some, false, true, ◌≡◌, ◌<◌};
 ghost use Rattle.lite_base.specs.Alike.{SameItem};
 ghost use Rattle.lite_base.specs.Calling.{AgreeFrom, Calls, MakesAlways};
 ghost use Rattle.lite_base.specs.Steady.{TakesNone};
-ghost use Rattle.lite_base.specs.Registered.{HoldsWoken};
+ghost use Rattle.lite_base.specs.Registered.{HoldsWoken, Registered};
 ghost use Rattle.lite_merge.specs.declared.stop_after_future.Stopping.TheVariants.{Holding, TakenOut};
 ghost use Rattle.lite_reshape.specs.Cloned.{EqualClones, NoCloneRefused};
 ghost use Rattle.lite_reshape.specs.Inner.{EachInner};
 ghost use Rattle.lite_reshape.specs.declared.chain.Part.TheVariants.{First, Second};
-ghost use Rattle.properties_met.specs.Registering.{TellsAll};
+ghost use Rattle.properties_met.specs.Registering.{TellsAll, TellsEach};
 ghost use Rattle.properties_met.specs.Unrefused.{AmpleWhere};
 
-use lite_base::{CalmFuture, CalmStream, Counted, Future, SteadyFuture, SteadyStream, Stream};
+use lite_base::{
+    CalmFuture, CalmStream, Context, Counted, Future, Poll, SteadyFuture, SteadyStream, Stream,
+};
 use lite_merge::{Budgeted, Cycle, Drain, Or, Race, StopAfterFuture, Zip};
 use lite_reshape::{Chain, Cloned, FlatMap, Flatten, Then};
+use lite_source::Iter;
+use lite_stream::Map;
 use rand_core::Rng;
 
 /// Adapters of two streams, and of streams and futures that are made of items, are alike over streams that are alike.
@@ -117,8 +121,8 @@ where
 /// whatever the budgets are.
 pub fn budgets_are_alike<S: SteadyStream>(x: &S, y: &S, n: usize, m: usize)
     requires { S.alike x.now y.now }
-    ensures { ⟦<Budgeted<S> as SteadyStream>⟧.alike (record { stream = x.now; budget = n; left = n })
-        (record { stream = y.now; budget = m; left = m }) }
+    ensures { ⟦<Budgeted<S> as SteadyStream>⟧.alike (record { stream = x.now; budget = n; left = n; paused = false })
+        (record { stream = y.now; budget = m; left = m; paused = false }) }
 {}
 
 /// Adapters that hold a future or a stream between polls: it alone is polled then.
@@ -212,15 +216,48 @@ where
         → TellsAll (S.registers stop.now.stream) (⟦<StopAfterFuture<S, Fut> as Stream>⟧.registers stop.now) }
 {}
 
-/// A cycle has registered what the copy does that was polled; a budget each fact that both its stream and a wake register. The
-/// contract of its poll says which of the two was the cause of the pending.
+/// A cycle has registered what the copy does that was polled. A budget has registered a wake at its own pending, which it notes, and
+/// at any other what its stream does.
 pub fn cycled<S>(cycle: &Cycle<S>, copy: &S, budgeted: &Budgeted<S>)
 where
     S: Stream + Clone,
     ensures cycle { cycle.now.stream ≡ Some copy.now
         → TellsAll (S.registers copy.now) (⟦<Cycle<S> as Stream>⟧.registers cycle.now) }
-    ensures budgeted { TellsAll (λ fact. S.registers budgeted.now.stream fact × HoldsWoken fact)
-        (⟦<Budgeted<S> as Stream>⟧.registers budgeted.now) }
+    ensures budgeted { (budgeted.now.paused ≡ true → TellsAll HoldsWoken (⟦<Budgeted<S> as Stream>⟧.registers budgeted.now))
+        × (budgeted.now.paused ≡ false
+        → TellsAll (S.registers budgeted.now.stream) (⟦<Budgeted<S> as Stream>⟧.registers budgeted.now)) }
+{}
+
+/// Polls a nest over a stream with a budget. If nothing of the budget is left, the result is the budget's own pending, which has woken
+/// the task. Any other pending is the stream's, and has registered what that registers.
+pub fn poll_mapped<S, U, F>(nest: &mut Map<Budgeted<S>, F>, cx: &mut Context<'_>) -> Poll<Option<U>>
+where
+    S: Stream,
+    F: FnMut(S::Item) -> U,
+    requires { ⟦<Map<Budgeted<S>, F> as Stream>⟧.can_poll nest.old }
+    ensures own { nest.old.stream.left ≡ 0 → (result ≡ Poll.Pending) × Registered result HoldsWoken cx.new }
+    ensures source { 0 < nest.old.stream.left → Registered result (S.registers nest.new.stream.stream) cx.new }
+{
+    nest.poll_next(cx)
+}
+
+/// Polls a nest over the items of an iterator with a budget: each pending has woken the task, because it is the budget's.
+pub fn poll_mapped_items<I, U, F>(
+    nest: &mut Map<Budgeted<Iter<I>>, F>,
+    cx: &mut Context<'_>,
+) -> Poll<Option<U>>
+where
+    I: Iterator,
+    F: FnMut(I::Item) -> U,
+    requires { ⟦<Map<Budgeted<Iter<I>>, F> as Stream>⟧.can_poll nest.old }
+    ensures { Registered result HoldsWoken cx.new }
+{
+    nest.poll_next(cx)
+}
+
+/// What drains a stream is never pending.
+pub fn drained<'a, S: Stream>(drain: &Drain<'a, S>)
+    ensures { TellsEach (⟦<Drain<'a, S> as Stream>⟧.registers drain.now) }
 {}
 
 /// Clones of items: a run without a refused clone is ample, if each run of the stream is.

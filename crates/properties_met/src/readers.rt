@@ -1,5 +1,5 @@
 //! Readers: two that are alike, and a calm one, of each type.
-//! A call of a reader of bytes that are there is never pending.
+//! A call of a reader of bytes that are there is never pending, so it may be said to have registered every fact.
 ghost use Rattle.std.specs.Prelude.{◌≡◌, ◌∷◌, [], Some, false, None, true};
 ghost use Rattle.lite_base.specs.Steady.{TakesNone};
 ghost use Rattle.lite_base.specs.Registered.{HoldsWoken};
@@ -9,17 +9,17 @@ ghost use Rattle.lite_buffered.specs.BufReader.{bytes_ahead, reader_capacity, re
 ghost use Rattle.lite_buffered.specs.Chain.{first_of, has_ended, second_of};
 ghost use Rattle.lite_buffered.specs.Take.{take_inner};
 ghost use Rattle.lite_io_base.specs.Marks.{ReadMark};
-ghost use Rattle.properties_met.specs.Registering.{TellsAll};
+ghost use Rattle.properties_met.specs.Registering.{TellsAll, TellsEach};
 ghost use Rattle.properties_met.specs.Unrefused.{AmpleWhere};
 
 use lite_base::{SteadyStream, Stream};
 use lite_bridge::{AssertAsync, BytesLike, Cursor};
 use lite_buffered::{Budgeted, BufReader, Chain, Empty, Repeat, Take};
 use lite_halves::Journal;
-use lite_io_base::{AsyncRead, CalmRead, ReadSpec, SteadyRead, WriteSpec};
+use lite_io_base::{AsyncRead, AsyncSeek, AsyncWrite, CalmRead, ReadSpec, SteadyRead, WriteSpec};
 use lite_mock::Marks;
 use lite_read::Bytes;
-use std::io::Read;
+use std::io::{Read, Seek, Write};
 
 /// Readers of bytes are alike to themselves, and marks to the same with a pending before them.
 pub fn readers_are_alike<'a, T: BytesLike>(
@@ -61,13 +61,14 @@ where
     ensures buffer_of { ⟦<&'a mut R as SteadyRead>⟧.alike x.now y.now }
     ensures take { ⟦<Take<S> as SteadyRead>⟧.alike (record { inner = v.now; limit = limit })
         (record { inner = w.now; limit = limit }) }
-    ensures bytes { ⟦<Bytes<S> as SteadyRead>⟧.alike (record { inner = v.now }) (record { inner = w.now }) }
+    ensures bytes { ⟦<Bytes<S> as SteadyRead>⟧.alike (record { inner = v.now; interrupted = false })
+        (record { inner = w.now; interrupted = false }) }
     ensures chain { ⟦<Chain<&'a mut R, S> as SteadyRead>⟧.alike
         (record { first = x.now; second = v.now; has_ended = false })
         (record { first = y.now; second = w.now; has_ended = false }) }
     ensures lent_calm { ⟦<&'a mut R as CalmRead>⟧.is_calm x.now }
     ensures take_calm { ⟦<Take<S> as CalmRead>⟧.is_calm (record { inner = v.now; limit = limit }) }
-    ensures bytes_calm { ⟦<Bytes<S> as CalmRead>⟧.is_calm (record { inner = v.now }) }
+    ensures bytes_calm { ⟦<Bytes<S> as CalmRead>⟧.is_calm (record { inner = v.now; interrupted = false }) }
     ensures chain_calm { ⟦<Chain<&'a mut R, S> as CalmRead>⟧.is_calm (record { first = x.now; second = v.now; has_ended = false }) }
 {}
 
@@ -99,17 +100,17 @@ pub fn budgets_are_alike<R: SteadyRead>(x: &R, y: &R, n: usize, m: usize)
         (record { reader = y.now; budget = m; left = Some m }) }
 {}
 
-/// Readers of bytes that are there: no call of one asks for memory.
+/// Readers of bytes that are there: no call of one is pending, or asks for memory.
 pub fn readers_alone<'a, T: BytesLike>(
     bytes: &'a [u8],
     cursor: &Cursor<T>,
     empty: &Empty,
     repeat: &Repeat,
 )
-    ensures bytes { ⟦<&'a [u8] as SteadyRead>⟧.needs_none }
-    ensures cursor { ⟦<Cursor<T> as SteadyRead>⟧.needs_none }
-    ensures empty { ⟦<Empty as SteadyRead>⟧.needs_none }
-    ensures repeat { ⟦<Repeat as SteadyRead>⟧.needs_none }
+    ensures bytes { TellsEach (⟦<&'a [u8] as AsyncRead>⟧.registers bytes.entry) × ⟦<&'a [u8] as SteadyRead>⟧.needs_none }
+    ensures cursor { TellsEach (⟦<Cursor<T> as AsyncRead>⟧.registers cursor.now) × ⟦<Cursor<T> as SteadyRead>⟧.needs_none }
+    ensures empty { TellsEach (⟦<Empty as AsyncRead>⟧.registers empty.now) × ⟦<Empty as SteadyRead>⟧.needs_none }
+    ensures repeat { TellsEach (⟦<Repeat as AsyncRead>⟧.registers repeat.now) × ⟦<Repeat as SteadyRead>⟧.needs_none }
 {}
 
 /// Adapters of one reader, and a reader that is lent. A budget has registered a wake at its own pending, after which it has noted
@@ -144,13 +145,14 @@ pub fn chained<R: SteadyRead, S: SteadyRead>(chain: &Chain<R, S>)
     ensures needs_none { R.needs_none → S.needs_none → ⟦<Chain<R, S> as SteadyRead>⟧.needs_none }
 {}
 
-/// A reader's bytes one by one: as a reader it has registered what that does, and as a stream each fact
-/// that both that and a wake register. The contract of its poll says which of the two it was.
+/// A reader's bytes one by one: as a reader it has registered what that does. As a stream it has registered a wake at an
+/// interruption, which it notes, and at any other pending what the reader does.
 pub fn bytes_of<R: SteadyRead>(bytes: &Bytes<R>)
     ensures reader { TellsAll (R.registers bytes.now.inner) (⟦<Bytes<R> as AsyncRead>⟧.registers bytes.now)
         × (R.needs_none → ⟦<Bytes<R> as SteadyRead>⟧.needs_none) }
-    ensures stream { TellsAll (λ fact. R.registers bytes.now.inner fact × HoldsWoken fact)
-        (⟦<Bytes<R> as Stream>⟧.registers bytes.now)
+    ensures stream { (bytes.now.interrupted ≡ true → TellsAll HoldsWoken (⟦<Bytes<R> as Stream>⟧.registers bytes.now))
+        × (bytes.now.interrupted ≡ false
+        → TellsAll (R.registers bytes.now.inner) (⟦<Bytes<R> as Stream>⟧.registers bytes.now))
         × (R.needs_none → ⟦<Bytes<R> as SteadyStream>⟧.needs_none) }
 {}
 
@@ -161,7 +163,14 @@ pub fn journalled<R: SteadyRead + WriteSpec + Clone>(journal: &Journal<R>)
         → R.reads a.stream marks b.stream → ⟦<Journal<R> as SteadyRead>⟧.ample a marks b }
 {}
 
-/// A reader of std: a run in which no read failed is ample.
-pub fn asserted<T: Read>(asserted: &AssertAsync<T>)
-    ensures { AmpleWhere NoFault ⟦<AssertAsync<T> as ReadSpec>⟧.reads ⟦<AssertAsync<T> as SteadyRead>⟧.ample }
+/// A reader, a writer and a seeker of std: no call of one is pending, and a run of the reader in which no read failed is ample.
+pub fn asserted<R: Read, W: Write, S: Seek>(
+    reader: &AssertAsync<R>,
+    writer: &AssertAsync<W>,
+    seeker: &AssertAsync<S>,
+)
+    ensures reader { TellsEach (⟦<AssertAsync<R> as AsyncRead>⟧.registers reader.now) }
+    ensures writer { TellsEach (⟦<AssertAsync<W> as AsyncWrite>⟧.write_registers writer.now) }
+    ensures seeker { TellsEach (⟦<AssertAsync<S> as AsyncSeek>⟧.seek_registers seeker.now) }
+    ensures ample { AmpleWhere NoFault ⟦<AssertAsync<R> as ReadSpec>⟧.reads ⟦<AssertAsync<R> as SteadyRead>⟧.ample }
 {}

@@ -27,7 +27,8 @@ pub fn reads_are_alike<'a, R>(
 where
     R: SteadyRead + CountedRead + AsyncBufRead,
     requires { R.alike x.now.now y.now.now }
-    ensures bytes { ⟦<Bytes<R> as SteadyStream>⟧.alike (record { inner = x.now.now }) (record { inner = y.now.now }) }
+    ensures bytes { ⟦<Bytes<R> as SteadyStream>⟧.alike (record { inner = x.now.now; interrupted = false })
+        (record { inner = y.now.now; interrupted = false }) }
     ensures read_exact { ⟦<ReadExactFuture<'a, R> as SteadyFuture>⟧.alike
         (record { reader = x.now; buf = buf.now; filled = 0 }) (record { reader = y.now; buf = buf.now; filled = 0 }) }
     ensures read_to_end { let start = length bytes.now.now.items in ⟦<ReadToEndFuture<'a, R> as SteadyFuture>⟧.alike

@@ -1,6 +1,6 @@
 //! Sources: two that are alike, and a calm one, of each type.
-//! Polls of an iterator, of one item, of no item and of `Repeat` and `RepeatWith` are never pending; those of `Pending` and `Script`
-//! register nothing.
+//! Polls of an iterator, of one item, of no item and of `Repeat` and `RepeatWith` are never pending, so they may be said to have
+//! registered every fact. Those of `Pending` and `Script` register nothing.
 ghost use Rattle.std.specs.List.{FoldsTo};
 ghost use Rattle.std.specs.Prelude.{◌∷◌, Some, None, [], ◌≡◌};
 ghost use Rattle.futures.specs.declared.task.Poll.TheVariants.{Pending as Waits, Ready};
@@ -13,7 +13,7 @@ ghost use Rattle.lite_source.specs.RepeatWith.{Call};
 ghost use Rattle.lite_source.specs.TryUnfold.{try_item_of, try_seed_of};
 ghost use Rattle.lite_source.specs.Unfold.{item_of, seed_of};
 ghost use Rattle.lite_source.specs.Unfolding.{BothHave, Holding, PartOf};
-ghost use Rattle.properties_met.specs.Registering.{TellsAll};
+ghost use Rattle.properties_met.specs.Registering.{TellsAll, TellsEach};
 ghost use Rattle.properties_met.specs.Unrefused.{AmpleWhere};
 
 use lite_base::{CalmFuture, CalmStream, Context, Poll, SteadyFuture, SteadyStream, Stream};
@@ -100,7 +100,7 @@ where
     ensures try_unfold { ⟦<TryUnfold<T, G, Fut2> as CalmStream>⟧.is_calm (record { f = g.now; state = Holding.Seed t.now }) }
 {}
 
-/// Sources over no future: no poll of one asks for memory.
+/// Sources over no future: no poll of one asks for memory, and those that are never pending tell each fact.
 pub fn sources_alone<T, I, R>(
     empty: &Empty<T>,
     iter: &Iter<I>,
@@ -112,16 +112,17 @@ pub fn sources_alone<T, I, R>(
 where
     I: Iterator,
     R: FnMut() -> T,
-    ensures empty { ⟦<Empty<T> as SteadyStream>⟧.needs_none }
-    ensures iter { ⟦<Iter<I> as SteadyStream>⟧.needs_none }
-    ensures once { ⟦<Once<T> as SteadyStream>⟧.needs_none }
+    ensures empty { TellsEach (⟦<Empty<T> as Stream>⟧.registers empty.now) × ⟦<Empty<T> as SteadyStream>⟧.needs_none }
+    ensures iter { TellsEach (⟦<Iter<I> as Stream>⟧.registers iter.now) × ⟦<Iter<I> as SteadyStream>⟧.needs_none }
+    ensures once { TellsEach (⟦<Once<T> as Stream>⟧.registers once.now) × ⟦<Once<T> as SteadyStream>⟧.needs_none }
     ensures pending { ⟦<Pending<T> as SteadyStream>⟧.needs_none }
-    ensures repeat_with { ⟦<RepeatWith<R> as SteadyStream>⟧.needs_none }
+    ensures repeat_with { TellsEach (⟦<RepeatWith<R> as Stream>⟧.registers repeat_with.now) × ⟦<RepeatWith<R> as SteadyStream>⟧.needs_none }
     ensures script { ⟦<Script<T> as SteadyStream>⟧.needs_none }
 {}
 
 /// Clones of one item: a poll asks for no memory if no clone may fail, and a run without a refused clone is ample.
 pub fn repeated<T: Clone>(repeat: &Repeat<T>)
+    ensures registers { TellsEach (⟦<Repeat<T> as Stream>⟧.registers repeat.now) }
     ensures needs_none { ((x : T) → T.is_infallible x) → ⟦<Repeat<T> as SteadyStream>⟧.needs_none }
     ensures ample { AmpleWhere NoCloneRefused ⟦<Repeat<T> as Stream>⟧.run ⟦<Repeat<T> as SteadyStream>⟧.ample }
 {}

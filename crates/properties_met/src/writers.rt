@@ -1,5 +1,5 @@
 //! Writers, and futures of writes: two that are alike, and a calm one, of each type.
-//! A call of a writer to memory is never pending.
+//! A call of a writer to memory is never pending, so it may be said to have registered every fact.
 ghost use Rattle.std.specs.Prelude.{◌≡◌, [], Some, ◌<◌, length};
 ghost use Rattle.lite_buffered.specs.Budgeted.{budgeted_inner};
 ghost use Rattle.lite_buffered.specs.BufReader.{reader_inner as read_from, reader_inner};
@@ -7,10 +7,10 @@ ghost use Rattle.lite_buffered.specs.BufWriter.{buffered, writer_inner, unwritte
 ghost use Rattle.lite_write.specs.Copy.{held_of, source_of};
 ghost use Rattle.lite_write.specs.WriteAll.{NoneFails};
 ghost use Rattle.lite_write.specs.declared.copy.Phase.TheVariants.{Copying, Flushing};
-ghost use Rattle.properties_met.specs.Registering.{TellsAll};
+ghost use Rattle.properties_met.specs.Registering.{TellsAll, TellsEach};
 
 use lite_base::{CalmFuture, Future, SteadyFuture};
-use lite_bridge::{AssertAsync, Cursor};
+use lite_bridge::{AssertAsync, BytesLike, Cursor};
 use lite_buffered::{Budgeted, BufReader, BufWriter};
 use lite_halves::Journal;
 use lite_io_base::{
@@ -113,6 +113,23 @@ pub fn budgets_have_marks<W: SteadyWrite + CalmWrite>(x: &W, y: &W, n: usize, m:
     ensures alike { ⟦<Budgeted<W> as SteadyWrite>⟧.alike (record { reader = x.now; budget = n; left = Some n })
         (record { reader = y.now; budget = m; left = Some m }) }
     ensures calm { ⟦<Budgeted<W> as CalmWrite>⟧.is_calm (record { reader = x.now; budget = n; left = Some n }) }
+{}
+
+/// Writers to memory, and a cursor that is moved: no call of one is pending.
+pub fn writers_alone<'a, T: BytesLike>(
+    bytes: &Vec<u8>,
+    sink: &Sink,
+    cursor: &Cursor<Vec<u8>>,
+    lent_cursor: &Cursor<&'a mut Vec<u8>>,
+    slice_cursor: &Cursor<&'a mut [u8]>,
+    seeker: &Cursor<T>,
+)
+    ensures vec { TellsEach (⟦<Vec<u8> as AsyncWrite>⟧.write_registers bytes.now) }
+    ensures sink { TellsEach (⟦<Sink as AsyncWrite>⟧.write_registers sink.now) }
+    ensures cursor { TellsEach (⟦<Cursor<Vec<u8>> as AsyncWrite>⟧.write_registers cursor.now) }
+    ensures lent_cursor { TellsEach (⟦<Cursor<&'a mut Vec<u8>> as AsyncWrite>⟧.write_registers lent_cursor.now) }
+    ensures slice_cursor { TellsEach (⟦<Cursor<&'a mut [u8]> as AsyncWrite>⟧.write_registers slice_cursor.now) }
+    ensures seeker { TellsEach (⟦<Cursor<T> as AsyncSeek>⟧.seek_registers seeker.now) }
 {}
 
 /// Journals of writers that are alike are alike, and those of calm ones are calm.

@@ -1,7 +1,7 @@
 -- Laws about two streams whose items are paired.
 use Rattle.std.specs.Prelude.{◌≡◌, ℕ, zero, suc, ◌+◌, List, [], ◌∷◌, ◌++◌, Option, Some, None}
-use Rattle.std.proofs.Common.{◌≤◌, inr}
-use Rattle.lite_merge.specs.Uses.{◌∙◌, inl, refl, ap, arith, Poll, Ready, Pending, Answer, end, item, items, CalmLaws}
+use Rattle.std.proofs.Common.{◌≤◌}
+use Rattle.lite_merge.specs.Uses.{◌∙◌, inl, inr, refl, ap, arith, Poll, Ready, Pending, Answer, end, item, items, CalmLaws}
 use Rattle.lite_merge.specs.Uses.{waits, Lowers-at_most, same_hint, AtMost, Lowers, Counting, Ranks, held_rank}
 use Rattle.lite_merge.specs.Uses.{StreamLaws, Hints, NoHint, Runs, Pairwise, SameHeld, Sameness, SteadyLawsBy}
 use Rattle.lite_base.specs.Laws.Ranks.{Lowers-below}

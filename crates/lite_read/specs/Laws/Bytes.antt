@@ -1,5 +1,5 @@
 -- Laws of `bytes`.
-use Rattle.std.specs.Prelude.{⊤, ◌≡◌, ℕ, ◌+◌, List, [], ◌∷◌, ◌++◌, length, Some, None, Result, ◌⊎◌, Option, Ok, Err}
+use Rattle.std.specs.Prelude.{⊤, ◌≡◌, ℕ, Bool, ◌+◌, List, [], ◌∷◌, ◌++◌, length, Some, None, Result, ◌⊎◌, Option, Ok, Err}
 use Rattle.lite_read.specs.Uses.{suc, refl, ap, subst, add-one, Error, Ready, Pending, Answer, items, Below, Lowers}
 use Rattle.lite_read.specs.Uses.{Ranks, ranks_of, RunLaws, StreamLaws, laws_of, NoHint, Runs, ReadCounting, Falls}
 use Rattle.lite_read.specs.Uses.{ReadMark, given_count, MarkLaws, CalmReadLaws, SteadyReadLaws, ◌∙◌, inl, inr, sym}
@@ -11,7 +11,7 @@ use Rattle.lite_base.specs.Laws.StreamLaws.{same_hint}
 use Rattle.lite_base.specs.Ranks.{Counting}
 use Rattle.lite_io_base.specs.Laws.Lent.{counting_part}
 use Rattle.lite_io_base.specs.Marks.{AllGiven}
-use Rattle.lite_read.specs.Bytes.{GivesBytes, GivesEach}
+use Rattle.lite_read.specs.Bytes.{GivesBytes, GivesEach, interrupted_after, interrupted_by}
 use Rattle.lite_read.specs.declared.bytes.Bytes.{Bytes}
 use Rattle.lite_base.specs.Laws.Alike.{comparable_nil}
 
@@ -20,6 +20,13 @@ tells_join : (i j : List ReadMark) (l m : List (Answer (Result ℕ Error))) → 
 tells_join [] j [] m h k = k
 tells_join (x ∷ i) j (a ∷ l) m h k = (h.0, tells_join i j l m h.1 k)
 tells_join _ j _ m h k = absurd h
+
+-- Whether the last `Pending` was an interruption after two lists of marks, and of the poll results that they become.
+interrupted_join : (before : Bool) (i j : List ReadMark) (l m : List (Answer (Result ℕ Error))) → GivesEach i l
+    → interrupted_after before (i ++ j) (l ++ m) ≡ interrupted_after (interrupted_after before i l) j m
+interrupted_join before [] j [] m h = refl
+interrupted_join before (x ∷ i) j (a ∷ l) m h = interrupted_join (interrupted_by x a before) i j l m h.1
+interrupted_join before _ j _ m h = absurd h
 
 -- A fall by at least one byte or error lowers the rank.
 one_below : (n : ℕ) (xs ys : List ℕ) → Falls (n + 1) xs ys → Below xs ys
@@ -52,12 +59,14 @@ module _ {R : Type 0} {reads : Runs ReadMark R} where
   module _ (laws : MarkLaws reads) where
     pub bytes_runs : RunLaws (GivesBytes reads)
     bytes_runs = record {
-      rests = λ x. record { marks = []; came = laws.rests x.inner; told = tt; idle = λ e. refl };
+      rests = λ x. record { marks = []; came = laws.rests x.inner; told = tt; noted = refl; idle = λ e. refl };
       stays = λ x y h. h.idle refl;
       follows = λ x y z l m h k. record {
         marks = h.marks ++ k.marks;
         came = laws.follows _ _ _ h.marks k.marks h.came k.came;
         told = tells_join h.marks k.marks l m h.told k.told;
+        noted = k.noted ∙ ap (λ b. interrupted_after b k.marks m) h.noted
+            ∙ sym (interrupted_join x.interrupted h.marks k.marks l m h.told);
         idle = idle_join x y z l m h.idle k.idle;
       };
     }
@@ -179,6 +188,7 @@ module _ {R : Type 0} {reads ample : Runs ReadMark R} {needs_none : Type 0} {ali
           marks = h.marks;
           came = s.found n x.inner y.inner h.marks h.came;
           told = h.told;
+          noted = h.noted;
           idle = h.idle;
         };
       }
