@@ -1,5 +1,5 @@
 -- The runs of a future, stream, reader or writer of the toolchain, from what its own traits say of each call.
-use Rattle.std.specs.Prelude.{◌≡◌, ◌⊎◌, ⊤, ℕ, Bool, true, false, List, [], ◌∷◌, ◌++◌, Option, Some, None, flat_map}
+use Rattle.std.specs.Prelude.{◌≡◌, ◌⊎◌, ⊤, ℕ, Bool, true, false, List, [], ◌∷◌, ◌++◌, Option, Some, None}
 use Rattle.compat.specs.Uses.{Answer, Error, FoldsTo, Lasting, Passes, Pending, Poll, ReadMark, Ready, WriteMark, bytes, error_kind}
 use Rattle.compat.specs.declared.compat.Compat.{Compat}
 use Rattle.futures.specs.Runs.{After, Runs as Answers, Within}
@@ -39,17 +39,12 @@ KitLists {A} yields xs = (ys : List A) (last : Option A) → yields ys last → 
 
 module _ {R : Type 0} (reads : Passes R) (is_at_end : R → Type 0) (fails : R → Error → Type 0) where
   -- One call on a reader of tokio, and the marks that it leaves.
-  pub data KitReadCall (x : R) : List ReadMark → R → Type 0 where
-    gave : {y : R} (xs : List ℕ) → reads x xs y → KitReadCall x (bytes xs) y
-    waited : {y : R} → reads x [] y → KitReadCall x (ReadMark.pending ∷ []) y
-    failed : {y : R} (e : Error) → reads x [] y → fails y e → KitReadCall x (ReadMark.fault (error_kind e) ∷ []) y
-    ended : {y : R} → reads x [] y → is_at_end y → KitReadCall x (ReadMark.end ∷ []) y
-
-  -- Such calls one after the other, and the marks of all of them.
-  pub record KitReads (x : Compat R) (l : List ReadMark) (y : Compat R) : Type 0 where
-    pub calls : List (List ReadMark)
-    pub folds : FoldsTo KitReadCall x.inner calls y.inner
-    pub joined : l ≡ flat_map (λ call. call) calls
+  pub data KitReadCall (x : Compat R) : List ReadMark → Compat R → Type 0 where
+    gave : {y : Compat R} (xs : List ℕ) → reads x.inner xs y.inner → KitReadCall x (bytes xs) y
+    waited : {y : Compat R} → reads x.inner [] y.inner → KitReadCall x (ReadMark.pending ∷ []) y
+    failed : {y : Compat R} (e : Error) → reads x.inner [] y.inner → fails y.inner e
+        → KitReadCall x (ReadMark.fault (error_kind e) ∷ []) y
+    ended : {y : Compat R} → reads x.inner [] y.inner → is_at_end y.inner → KitReadCall x (ReadMark.end ∷ []) y
 
 module _ {W : Type 0} (writes : Passes W) (is_flushed is_shut_down : W → Type 0) (fails : W → Error → Type 0) where
   -- One call on a writer of tokio, by the mark that it leaves.

@@ -4,15 +4,15 @@ use Rattle.lite_io_base.specs.Marks.{moved_marks}
 use Rattle.std.proofs.Common.{append-nil, arith, length-take-le}
 use lib.Seq.{take-nil}
 use Rattle.tokio.specs.Io.Moved.{IfReadyErr, OnReadyOk, PassesInOrder, PassesNothing, bytes_moved, count_moved}
-use Rattle.std.proofs.lemmas.Grind.{flat_map-append}
-use Rattle.lite_base.specs.Laws.Calling.{folds_follow}
 use Rattle.lite_write.specs.Laws.Copy.{told_both}
+use Rattle.lite_io_base.specs.Joined.{Joined}
+use Rattle.lite_io_base.specs.Laws.Joined.{joined_one}
 use Rattle.lite_io_base.specs.Laws.Marks.{taken_both}
 use Rattle.lite_views.specs.Laws.Steps.{lists_as, lists_by_relation}
 use Rattle.lite_views.specs.Views.{ItemsAfter, ListsAs}
 use Rattle.compat.specs.Laws.ToKit.{told_bytes}
-use Rattle.compat.specs.FromKit.{FutureStep, KitFits, KitLists, KitReadCall, KitReads, StreamStep, Unended, KitWriteStep}
-use Rattle.compat.specs.Uses.{Answer, Error, FoldsTo, MarkLaws, Passes, Pending, Poll, ReadMark, Ready, Steps, WriteMark, ap, bytes_taken, bytes_told, inl, inr, done_marks, read_marks, refl, subst, sym, write_marks, ◌∙◌}
+use Rattle.compat.specs.FromKit.{FutureStep, KitFits, KitLists, KitReadCall, StreamStep, Unended, KitWriteStep}
+use Rattle.compat.specs.Uses.{Answer, Error, FoldsTo, Passes, Pending, Poll, ReadMark, Ready, Steps, WriteMark, ap, bytes_taken, bytes_told, inl, inr, done_marks, read_marks, refl, subst, sym, write_marks, ◌∙◌}
 use Rattle.compat.specs.declared.compat.Compat.{Compat}
 use Rattle.futures.specs.Poll.{IfReady, OnPending}
 use Rattle.futures.specs.Runs.{Runs as Answers}
@@ -42,40 +42,25 @@ none_moved : (n : ℕ) (buf : List ℕ) → n ≤ length buf → take n buf ≡ 
 none_moved n buf fits e = ap (λ k. Ready (Ok k)) (sym (length-take-le n buf fits) ∙ ap length e)
 
 module _ {R : Type 0} {reads : Passes R} {is_at_end : R → Type 0} {fails : R → Error → Type 0} where
-  reads_rest : (x : Compat R) → KitReads reads is_at_end fails x [] x
-  reads_rest x = record { calls = []; folds = refl; joined = refl }
-
-  reads_follow : (x y z : Compat R) (l m : List ReadMark) → KitReads reads is_at_end fails x l y
-      → KitReads reads is_at_end fails y m z → KitReads reads is_at_end fails x (l ++ m) z
-  reads_follow x y z l m h k =
-      record {
-        calls = h.calls ++ k.calls;
-        folds = folds_follow _ x.inner y.inner z.inner h.calls k.calls h.folds k.folds;
-        joined = rw (h.joined, k.joined, flat_map-append (λ call. call) h.calls k.calls);
-      }
-
-  one_read : (x y : Compat R) (l : List ReadMark) → KitReadCall reads is_at_end fails x.inner l y.inner
-      → KitReads reads is_at_end fails x l y
-  one_read x y l h = record { calls = l ∷ []; folds = (y.inner, h, refl); joined = sym (append-nil l) }
-
   moved_ran : (x y : Compat R) (buf xs : List ℕ) → reads x.inner xs y.inner
-      → (xs ≡ [] → 0 < length buf → is_at_end y.inner) → KitReads reads is_at_end fails x (moved_marks buf xs) y
-  moved_ran x y buf (b ∷ xs) h end = one_read x y _ (KitReadCall.gave (b ∷ xs) h)
-  moved_ran x y [] [] h end = one_read x y _ (KitReadCall.gave [] h)
-  moved_ran x y (r ∷ room) [] h end = one_read x y _ (KitReadCall.ended h (end refl (omega arith)))
+      → (xs ≡ [] → 0 < length buf → is_at_end y.inner) → KitReadCall reads is_at_end fails x (moved_marks buf xs) y
+  moved_ran x y buf (b ∷ xs) h end = KitReadCall.gave (b ∷ xs) h
+  moved_ran x y [] [] h end = KitReadCall.gave [] h
+  moved_ran x y (r ∷ room) [] h end = KitReadCall.ended h (end refl (omega arith))
+
+  call_ran : (x y : Compat R) (r : Poll (Result ℕ Error)) (buf : List ℕ) → count_moved r ≤ length buf
+      → reads x.inner (bytes_moved r buf) y.inner → (r ≡ Ready (Ok 0) → 0 < length buf → is_at_end y.inner)
+      → IfReadyErr r (fails y.inner) → KitReadCall reads is_at_end fails x (read_marks r buf) y
+  call_ran x y Pending buf fits h end failed = KitReadCall.waited h
+  call_ran x y (Ready (Err e)) buf fits h end failed = KitReadCall.failed e h failed
+  call_ran x y (Ready (Ok n)) buf fits h end failed =
+      moved_ran x y buf (take n buf) h (λ e some. end (none_moved n buf fits e) some)
 
   -- One read of tokio, by what it says of it.
   pub read_ran : (x y : Compat R) (r : Poll (Result ℕ Error)) (buf : List ℕ) → count_moved r ≤ length buf
-      → reads x.inner (bytes_moved r buf) y.inner
-      → (r ≡ Ready (Ok 0) → 0 < length buf → is_at_end y.inner) → IfReadyErr r (fails y.inner)
-      → KitReads reads is_at_end fails x (read_marks r buf) y
-  read_ran x y Pending buf fits h end failed = one_read x y _ (KitReadCall.waited h)
-  read_ran x y (Ready (Err e)) buf fits h end failed = one_read x y _ (KitReadCall.failed e h failed)
-  read_ran x y (Ready (Ok n)) buf fits h end failed =
-      moved_ran x y buf (take n buf) h (λ e some. end (none_moved n buf fits e) some)
-
-  pub reads_laws : MarkLaws (KitReads reads is_at_end fails)
-  reads_laws = record { rests = reads_rest; follows = reads_follow }
+      → reads x.inner (bytes_moved r buf) y.inner → (r ≡ Ready (Ok 0) → 0 < length buf → is_at_end y.inner)
+      → IfReadyErr r (fails y.inner) → Joined (KitReadCall reads is_at_end fails) x (read_marks r buf) y
+  read_ran x y r buf fits h end failed = joined_one _ x y _ (call_ran x y r buf fits h end failed)
 
 module _ {W : Type 0} (writes : Passes W) (is_flushed is_shut_down : W → Type 0) (fails : W → Error → Type 0) where
   -- One write of tokio, by what it says of it.
@@ -103,23 +88,23 @@ module _ {W : Type 0} (writes : Passes W) (is_flushed is_shut_down : W → Type 
 -- The bytes of the marks are those that tokio's calls moved.
 module _ {R : Type 0} {reads : Passes R} (is_at_end : R → Type 0) (fails : R → Error → Type 0)
     (nothing : PassesNothing reads) (in_order : PassesInOrder reads) where
-  call_told : (x y : R) (l : List ReadMark) → KitReadCall reads is_at_end fails x l y → reads x (bytes_told l) y
-  call_told x y l (KitReadCall.gave xs h) = subst (λ b. reads x b y) (sym (told_bytes xs)) h
+  call_told : (x y : Compat R) (l : List ReadMark) → KitReadCall reads is_at_end fails x l y
+      → reads x.inner (bytes_told l) y.inner
+  call_told x y l (KitReadCall.gave xs h) = subst (λ b. reads x.inner b y.inner) (sym (told_bytes xs)) h
   call_told x y l (KitReadCall.waited h) = h
   call_told x y l (KitReadCall.failed e h f) = h
   call_told x y l (KitReadCall.ended h e) = h
 
-  calls_told : (x y : R) (calls : List (List ReadMark)) → FoldsTo (KitReadCall reads is_at_end fails) x calls y
-      → reads x (bytes_told (flat_map (λ call. call) calls)) y
-  calls_told x y [] h = subst (reads x []) h (nothing x)
+  calls_told : (x y : Compat R) (calls : List (List ReadMark)) → FoldsTo (KitReadCall reads is_at_end fails) x calls y
+      → reads x.inner (bytes_told (flat_map (λ (call : List ReadMark). call) calls)) y.inner
+  calls_told x y [] h = subst (λ z. reads x.inner [] (Compat.inner z)) h (nothing x.inner)
   calls_told x y (c ∷ calls) h =
-      subst (λ b. reads x b y) (sym (told_both c (flat_map (λ call. call) calls)))
-      (in_order x (bytes_told c) h.0 _ y (call_told x h.0 c h.1) (calls_told h.0 y calls h.2))
+      subst (λ b. reads x.inner b y.inner) (sym (told_both c (flat_map (λ (call : List ReadMark). call) calls)))
+      (in_order x.inner (bytes_told c) h.0.inner _ y.inner (call_told x h.0 c h.1) (calls_told h.0 y calls h.2))
 
-  pub reads_told : (x y : Compat R) (l : List ReadMark) → KitReads reads is_at_end fails x l y
+  pub reads_told : (x y : Compat R) (l : List ReadMark) → Joined (KitReadCall reads is_at_end fails) x l y
       → reads x.inner (bytes_told l) y.inner
-  reads_told x y l h =
-      subst (λ m. reads x.inner (bytes_told m) y.inner) (sym h.joined) (calls_told x.inner y.inner h.calls h.folds)
+  reads_told x y l h = subst (λ m. reads x.inner (bytes_told m) y.inner) h.2 (calls_told x y h.0 h.1)
 
 module _ {W : Type 0} {writes : Passes W} (is_flushed is_shut_down : W → Type 0) (fails : W → Error → Type 0)
     (nothing : PassesNothing writes) (in_order : PassesInOrder writes) where

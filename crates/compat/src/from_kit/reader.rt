@@ -1,6 +1,7 @@
 //! Readers of the toolchain's `tokio` as those of this library.
-ghost use Rattle.compat.specs.FromKit.{Needs, KitReads};
-ghost use Rattle.compat.specs.Laws.FromKit.{reads_laws};
+ghost use Rattle.compat.specs.FromKit.{KitReadCall, Needs};
+ghost use Rattle.lite_io_base.specs.Joined.{Joined};
+ghost use Rattle.lite_io_base.specs.Laws.Joined.{joined_laws};
 
 use crate::compat::Compat;
 use lite_base::{Context, Poll};
@@ -8,9 +9,9 @@ use lite_io_base::{AsyncRead, ReadSpec};
 use std::io;
 
 impl<R: tokio::io::AsyncRead> ReadSpec for Compat<R> {
-    ghost reads = { KitReads R.reads R.is_at_end R.fails };
+    ghost reads = { Joined (KitReadCall R.reads R.is_at_end R.fails) };
 
-    ghost read_laws = { reads_laws };
+    ghost read_laws = { joined_laws (KitReadCall R.reads R.is_at_end R.fails) };
 }
 
 impl<R: tokio::io::AsyncRead> AsyncRead for Compat<R> {
