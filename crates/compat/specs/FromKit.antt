@@ -1,6 +1,6 @@
 -- The runs of a future, stream, reader or writer of the toolchain, from what its own traits say of each call.
 use Rattle.std.specs.Prelude.{◌≡◌, ◌⊎◌, ⊤, ℕ, Bool, true, false, List, [], ◌∷◌, ◌++◌, Option, Some, None}
-use Rattle.compat.specs.Uses.{Answer, Error, FoldsTo, Lasting, Passes, Pending, Poll, ReadMark, Ready, WriteMark, bytes, error_kind}
+use Rattle.compat.specs.Uses.{Answer, Error, Lasting, Passes, Pending, Poll, ReadMark, Ready, WriteMark, bytes, error_kind}
 use Rattle.compat.specs.declared.compat.Compat.{Compat}
 use Rattle.futures.specs.Runs.{After, Runs as Answers, Within}
 

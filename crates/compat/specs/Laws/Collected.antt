@@ -91,7 +91,7 @@ module _ {S C A : Type 0} (can_poll : S → Type 0) (yields : S → Answers A) (
   kit_collected x running is out y c h g =
       let w =
       collected may_refuse holds (λ (f : Collect C). f.collection) out x.folder y.folder h.ins [] c is h.consumed g in
-      let stripped = paced h.ins h.came.ins _ _ h.came.related ∙ ap strip w.cut ∙ whole w.body w.no_end in (
+      let stripped = paced h.ins h.came.ins _ _ h.came.related.0 ∙ ap strip w.cut ∙ whole w.body w.no_end in (
         items_given w.body,
         w.held,
         step_yields can_poll yields x.stream.stream y.stream.stream h.came.ins (items_given w.body) None [] running h.came.came

@@ -1,5 +1,5 @@
 -- Laws of the toolchain's futures, streams, readers and writers as this library's.
-use Rattle.std.specs.Prelude.{◌≡◌, ℕ, true, false, List, [], ◌∷◌, ◌++◌, Option, None, Some, ◌≤◌, ◌<◌, ◌⊎◌, flat_map, length, take, Result, Ok, Err}
+use Rattle.std.specs.Prelude.{◌≡◌, ℕ, true, false, List, [], ◌∷◌, Option, None, Some, ◌≤◌, ◌<◌, ◌⊎◌, flat_map, length, take, Result, Ok, Err}
 use Rattle.lite_io_base.specs.Marks.{moved_marks}
 use Rattle.std.proofs.Common.{append-nil, arith, length-take-le}
 use lib.Seq.{take-nil}
