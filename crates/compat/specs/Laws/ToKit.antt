@@ -2,13 +2,14 @@
 use Rattle.std.specs.Prelude.{◌≡◌, ℕ, List, [], ◌∷◌, ◌++◌, Option, None, Some, IfSome, Result, Ok, Err, take}
 use Rattle.lite_base.specs.StreamLaws.{RunLaws}
 use Rattle.lite_io_base.specs.Laws.Marks.{taken_both}
+use Rattle.lite_io_base.specs.Runs.{MarkLaws}
 use Rattle.lite_write.specs.Laws.Copy.{told_both}
 use Rattle.futures.specs.Runs.{After}
 use Rattle.lite_io_base.specs.Marks.{moved_marks}
 use Rattle.tokio.specs.Io.Moved.{bytes_moved}
 use Rattle.lite_base.specs.FutureLaws.{FutureLaws}
 use Rattle.compat.specs.ToKit.{FinishesWith, GaveBytes, TookBytes, YieldsUpTo}
-use Rattle.compat.specs.Uses.{Answer, Error, MarkLaws, bytes, error_kind, read_marks, Pending, Poll, ReadMark, Ready, Runs, WriteMark, ap, bytes_told, refl}
+use Rattle.compat.specs.Uses.{Answer, Error, bytes, error_kind, read_marks, Pending, Poll, ReadMark, Ready, Runs, WriteMark, ap, bytes_told, refl}
 
 module _ {S A : Type 0} {run : Runs (Answer A) S} (laws : RunLaws run) where
   -- After an item the stream gives what the one that is left gives.

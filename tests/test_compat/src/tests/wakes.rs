@@ -21,6 +21,20 @@ fn a_wait_is_woken_from_another_thread(rt: HostRuntime) -> Result<(), Fail> {
     Ok(())
 }
 
+// What is wrapped can be sent to another thread, as tokio's runtime of threads asks.
+#[test]
+fn what_is_wrapped_is_sent_to_another_thread(rt: HostRuntime) -> Result<(), Fail> {
+    let (sender, receiver) = oneshot::channel::<u8>(rt.alloc())?;
+    let wrapped = future::zip(receiver.compat(), future::ready(1u8)).compat();
+    let moving = thread::spawn(&rt, move || wrapped)?;
+    let wrapped = moving.join(&rt);
+    assert!(rt; sender.send(7).is_ok());
+    let mut on = BlockOn::new(&rt)?;
+    let (got, one) = wait_from_kit(&mut on, &rt, wrapped)?;
+    assert_eq!(rt; (got.ok(), one), (Some(7), 1));
+    Ok(())
+}
+
 // A `Pending` in either direction wakes nothing by itself; the sender does.
 #[test]
 fn a_pending_wakes_nothing(rt: HostRuntime) -> Result<(), Fail> {
