@@ -2,6 +2,7 @@
 import contextlib
 import glob
 import os
+import re
 import shutil
 import socket
 import struct
@@ -9,18 +10,23 @@ import subprocess
 import threading
 import time
 
+from repository import read_text
+
 HOST = "127.0.0.1"
-# How many seconds a client waits for a reply, and socat for the side that has not ended.
+# How many seconds a client waits for a reply.
 PATIENCE = 60
 # How many bytes a client sends or takes at once.
 PIECE = 1 << 16
-# What is run for a connection. socat ends it by a signal, which is not to end the program.
+# What is run for a connection. It ends with the status of the program, which is what socat sees.
 SCRIPT = """#!/bin/sh
-trap '' TERM
 {limit}
 {program} 2>>{folder}/errors
-echo $? >>{folder}/ends
+status=$?
+echo $status >>{folder}/ends
+exit $status
 """
+# How a document calls socat: the words for its listener, before and behind the port, and those for the program.
+BY_SOCAT = r"socat (TCP-LISTEN:)\d+(,\S+) (EXEC:out/{name}\b[^\s`]*)"
 
 
 class Wrong(Exception):
@@ -138,15 +144,29 @@ class Served:
         return self.taken("errors")
 
 
-class Behind(Served):
-    """A program behind socat."""
+def socat_words(documents, name):
+    """Returns the words by which the documents say that socat serves a program: those before its port, behind it, and of the program.
 
-    def __init__(self, program, folder, environment, most_kib=None):
+    Each document has to have them, and all of them the same.
+    """
+    found = {it: set(re.findall(BY_SOCAT.format(name=name), read_text(it))) for it in documents}
+    lacking = [it for it, lines in found.items() if len(lines) != 1]
+    agrees(not lacking, f"not one line of socat for {name}: {', '.join(lacking)}")
+    agrees(len(set.union(*found.values())) == 1, f"the lines of socat for {name} differ")
+    return found[documents[0]].pop()
+
+
+class Behind(Served):
+    """A program behind socat, by the line of the documents. In its folder the program is what the line calls."""
+
+    def __init__(self, program, folder, environment, most_kib, documents, name):
         super().__init__(program, folder, most_kib)
-        listen = f"TCP-LISTEN:{self.port},bind={HOST},fork,nodelay,reuseaddr"
+        os.mkdir(f"{folder}/out")
+        os.symlink(f"{folder}/begin", f"{folder}/out/{name}")
+        before, behind, program_words = socat_words(documents, name)
+        words = ["socat", f"{before}{self.port}{behind}", program_words]
         with open(f"{folder}/socat", "w", encoding="utf-8") as log:
-            words = ["socat", "-t", str(PATIENCE), listen, f"EXEC:{folder}/begin"]
-            self.socat = subprocess.Popen(words, env=environment, stdin=subprocess.DEVNULL, stdout=log, stderr=log)
+            self.socat = subprocess.Popen(words, cwd=folder, env=environment, stdin=subprocess.DEVNULL, stdout=log, stderr=log)
         agrees(within(PATIENCE, lambda: is_open(self.port)), "socat does not listen")
         self.statuses()
 
