@@ -80,7 +80,10 @@ impl<R: Wait> Service for Session<R> {
         let mut replies = Vec::with_capacity(alloc, 1)?;
         let (reply, goes_on) = match str::from_utf8(line.as_slice()) {
             _ if is_of_web(line.as_slice()) => {
-                (String::from_str(alloc, "ERROR this is no web server")?, false)
+                (
+                    String::from_str(alloc, "ERROR this is no web server")?,
+                    false,
+                )
             }
             // (a reply that ends in a return would not be encoded)
             Ok(text) if !text.ends_with('\r') => (self.perform(alloc, text)?, text != "QUIT"),
