@@ -4,6 +4,8 @@
 //! has answered. Each other path is answered with 404, and each other method with 405 and the methods that are allowed.
 //! Connections stay open, requests may be pipelined, a body may be chunked, and `Expect: 100-continue` is answered. A
 //! request that cannot be read, has more than 1 MiB of body or more than 16 KiB of head is refused, and ends the connection.
+//! A client that still sends then may get a reset in place of the response, because its input is left unread. The crate
+//! `http_server` of the toolchain refuses versions above HTTP/1.1 with 400, and gives a response no `Date`.
 //!
 //! An error is one line on standard error, and the status 1.
 //!
