@@ -17,14 +17,13 @@ HOST = "127.0.0.1"
 PATIENCE = 60
 # How many bytes a client sends or takes at once.
 PIECE = 1 << 16
-# What is run for a connection. It ends with the status of the program, which is what socat sees.
+# What is run for a connection. It becomes the program, so that nothing stands between its end and what waits for that.
 SCRIPT = """#!/bin/sh
 {limit}
-{program} 2>>{folder}/errors
-status=$?
-echo $status >>{folder}/ends
-exit $status
+exec {program} 2>>{folder}/errors
 """
+# What socat tells of a process that ended, if it is to tell much.
+ENDED = re.compile(r"waitpid\(\): child \d+ exited with status (\d+)")
 # How a document calls socat: the words for its listener, before and behind the port, and those for the program.
 BY_SOCAT = r"socat (TCP-LISTEN:)\d+(,\S+) (EXEC:out/{name}\b[^\s`]*)"
 
@@ -135,9 +134,9 @@ class Served:
     def statuses(self):
         """Returns the status of each process that has ended since the last call; waits for those that run."""
         agrees(within(PATIENCE, self.is_idle), "a process of the server goes on without its client")
-        # (the script writes the status behind the end)
+        # (its status is told behind its end)
         time.sleep(0.1)
-        return [int(it) for it in self.taken("ends").split()]
+        return self.ended()
 
     def errors(self):
         """Returns what the processes wrote to standard error since the last call."""
@@ -164,11 +163,18 @@ class Behind(Served):
         os.mkdir(f"{folder}/out")
         os.symlink(f"{folder}/begin", f"{folder}/out/{name}")
         before, behind, program_words = socat_words(documents, name)
-        words = ["socat", f"{before}{self.port}{behind}", program_words]
+        words = ["socat", "-d", "-d", "-d", f"{before}{self.port}{behind}", program_words]
+        self.told = 0
         with open(f"{folder}/socat", "w", encoding="utf-8") as log:
             self.socat = subprocess.Popen(words, cwd=folder, env=environment, stdin=subprocess.DEVNULL, stdout=log, stderr=log)
         agrees(within(PATIENCE, lambda: is_open(self.port)), "socat does not listen")
         self.statuses()
+
+    def ended(self):
+        """Returns the statuses that socat told since the last call."""
+        found = [int(it) for it in ENDED.findall(read_text(f"{self.folder}/socat"))]
+        new, self.told = found[self.told :], len(found)
+        return new
 
     def stop(self):
         self.socat.terminate()
@@ -180,7 +186,7 @@ class Handed(Served):
 
     def __init__(self, program, folder, environment, most_kib=None):
         super().__init__(program, folder, most_kib)
-        self.listener, self.environment = socket.create_server((HOST, self.port)), environment
+        self.listener, self.environment, self.found = socket.create_server((HOST, self.port)), environment, []
         threading.Thread(target=self.accept, daemon=True).start()
 
     def accept(self):
@@ -190,7 +196,12 @@ class Handed(Served):
                 with one:
                     one.setsockopt(socket.IPPROTO_TCP, socket.TCP_NODELAY, 1)
                     ran = subprocess.Popen([f"{self.folder}/begin"], env=self.environment, stdin=one, stdout=one)
-                threading.Thread(target=ran.wait, daemon=True).start()
+                threading.Thread(target=lambda ran=ran: self.found.append(ran.wait()), daemon=True).start()
+
+    def ended(self):
+        """Returns the statuses of the processes that have ended since the last call."""
+        found, self.found = self.found, []
+        return found
 
     def stop(self):
         self.listener.close()
