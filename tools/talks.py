@@ -2,6 +2,7 @@
 import contextlib
 import glob
 import os
+import re
 import shutil
 import socket
 import struct
@@ -9,18 +10,22 @@ import subprocess
 import threading
 import time
 
+from repository import read_text
+
 HOST = "127.0.0.1"
-# How many seconds a client waits for a reply, and socat for the side that has not ended.
+# How many seconds a client waits for a reply.
 PATIENCE = 60
 # How many bytes a client sends or takes at once.
 PIECE = 1 << 16
-# What is run for a connection. socat ends it by a signal, which is not to end the program.
+# What is run for a connection. It becomes the program, so that nothing stands between its end and what waits for that.
 SCRIPT = """#!/bin/sh
-trap '' TERM
 {limit}
-{program} 2>>{folder}/errors
-echo $? >>{folder}/ends
+exec {program} 2>>{folder}/errors
 """
+# What socat tells of a process that ended, if it is to tell much.
+ENDED = re.compile(r"waitpid\(\): child \d+ exited with status (\d+)")
+# How a document calls socat: the words for its listener, before and behind the port, and those for the program.
+BY_SOCAT = r"socat (TCP-LISTEN:)\d+(,\S+) (EXEC:out/{name}\b[^\s`]*)"
 
 
 class Wrong(Exception):
@@ -129,26 +134,47 @@ class Served:
     def statuses(self):
         """Returns the status of each process that has ended since the last call; waits for those that run."""
         agrees(within(PATIENCE, self.is_idle), "a process of the server goes on without its client")
-        # (the script writes the status behind the end)
+        # (its status is told behind its end)
         time.sleep(0.1)
-        return [int(it) for it in self.taken("ends").split()]
+        return self.ended()
 
     def errors(self):
         """Returns what the processes wrote to standard error since the last call."""
         return self.taken("errors")
 
 
-class Behind(Served):
-    """A program behind socat."""
+def socat_words(documents, name):
+    """Returns the words by which the documents say that socat serves a program: those before its port, behind it, and of the program.
 
-    def __init__(self, program, folder, environment, most_kib=None):
+    Each document has to have them, and all of them the same.
+    """
+    found = {it: set(re.findall(BY_SOCAT.format(name=name), read_text(it))) for it in documents}
+    lacking = [it for it, lines in found.items() if len(lines) != 1]
+    agrees(not lacking, f"not one line of socat for {name}: {', '.join(lacking)}")
+    agrees(len(set.union(*found.values())) == 1, f"the lines of socat for {name} differ")
+    return found[documents[0]].pop()
+
+
+class Behind(Served):
+    """A program behind socat, by the line of the documents. In its folder the program is what the line calls."""
+
+    def __init__(self, program, folder, environment, most_kib, documents, name):
         super().__init__(program, folder, most_kib)
-        listen = f"TCP-LISTEN:{self.port},bind={HOST},fork,nodelay,reuseaddr"
+        os.mkdir(f"{folder}/out")
+        os.symlink(f"{folder}/begin", f"{folder}/out/{name}")
+        before, behind, program_words = socat_words(documents, name)
+        words = ["socat", "-d", "-d", "-d", f"{before}{self.port}{behind}", program_words]
+        self.told = 0
         with open(f"{folder}/socat", "w", encoding="utf-8") as log:
-            words = ["socat", "-t", str(PATIENCE), listen, f"EXEC:{folder}/begin"]
-            self.socat = subprocess.Popen(words, env=environment, stdin=subprocess.DEVNULL, stdout=log, stderr=log)
+            self.socat = subprocess.Popen(words, cwd=folder, env=environment, stdin=subprocess.DEVNULL, stdout=log, stderr=log)
         agrees(within(PATIENCE, lambda: is_open(self.port)), "socat does not listen")
         self.statuses()
+
+    def ended(self):
+        """Returns the statuses that socat told since the last call."""
+        found = [int(it) for it in ENDED.findall(read_text(f"{self.folder}/socat"))]
+        new, self.told = found[self.told :], len(found)
+        return new
 
     def stop(self):
         self.socat.terminate()
@@ -160,7 +186,7 @@ class Handed(Served):
 
     def __init__(self, program, folder, environment, most_kib=None):
         super().__init__(program, folder, most_kib)
-        self.listener, self.environment = socket.create_server((HOST, self.port)), environment
+        self.listener, self.environment, self.found = socket.create_server((HOST, self.port)), environment, []
         threading.Thread(target=self.accept, daemon=True).start()
 
     def accept(self):
@@ -170,7 +196,12 @@ class Handed(Served):
                 with one:
                     one.setsockopt(socket.IPPROTO_TCP, socket.TCP_NODELAY, 1)
                     ran = subprocess.Popen([f"{self.folder}/begin"], env=self.environment, stdin=one, stdout=one)
-                threading.Thread(target=ran.wait, daemon=True).start()
+                threading.Thread(target=lambda ran=ran: self.found.append(ran.wait()), daemon=True).start()
+
+    def ended(self):
+        """Returns the statuses of the processes that have ended since the last call."""
+        found, self.found = self.found, []
+        return found
 
     def stop(self):
         self.listener.close()

@@ -9,15 +9,21 @@ mod task;
 use futures_lite::future::{self, Either, Exhausted};
 use futures_lite::{StreamExt, stream};
 use outcomes::run_each;
-use programs::end;
+use programs::{end, without_words};
 use std::alloc::AllocGlobal;
 use std::io;
 use std::process::ExitCode;
 use std::random::RandomSource;
 use std::sync::Wait;
 
+/// The name of the program.
+const NAME: &str = "example_executor";
+
 fn main(rt: HostRuntime) -> ExitCode {
-    end(&rt, "example_executor", print(&rt))
+    match without_words(&rt, NAME) {
+        Ok(()) => end(&rt, NAME, print(&rt)),
+        Err(status) => status,
+    }
 }
 
 /// Prints what becomes of three futures.

@@ -4,9 +4,19 @@
 //! has answered. Each other path is answered with 404, and each other method with 405 and the methods that are allowed.
 //! Connections stay open, requests may be pipelined, a body may be chunked, and `Expect: 100-continue` is answered. A
 //! request that cannot be read, has more than 1 MiB of body or more than 16 KiB of head is refused, and ends the connection.
+//! A client that still sends then may get a reset in place of the response, because its input is left unread. The crate
+//! `http_server` of the toolchain refuses versions above HTTP/1.1 with 400, and gives a response no `Date`.
 //!
-//! Behind `socat TCP-LISTEN:8080,fork,nodelay EXEC:out/example_http` each connection of the network has a process of its
-//! own. An error is one line on standard error, and the status 1.
+//! An error is one line on standard error, and the status 1.
+//!
+//! This line serves the port 8080 of this machine. Each connection has a process of its own:
+//!
+//! ```sh
+//! socat TCP-LISTEN:8080,bind=127.0.0.1,reuseaddr,backlog=1024,max-children=100,fork,nodelay EXEC:out/example_http,nofork
+//! ```
+//!
+//! `nofork` hands the program the socket itself. Without it `socat` drops the responses that it still holds when the program
+//! ends with the status 1.
 //!
 //! `server.rt` is for any reader, writer and service. Its contract says that the server makes whole steps. In each, the
 //! requests that were received are answered, and then bytes move one way. `session.rt` says of a whole session that what

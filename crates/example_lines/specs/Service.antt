@@ -10,7 +10,7 @@ use Rattle.framed.specs.declared.Answer.{Answer}
 use Rattle.example_lines.specs.Request.{request_of}
 use Rattle.example_lines.specs.Store.{KeyValues, stored, with_value, without_key}
 use Rattle.example_lines.specs.declared.request.Request.{Request}
-use Rattle.example_lines.specs.declared.request.Request.TheVariants.{Count, Delete, Get, Malformed, Quit, Set, Unknown}
+use Rattle.example_lines.specs.declared.request.Request.TheVariants.{Count, Delete, Get, Malformed, Quit, Set, Unknown, Web}
 use Rattle.example_lines.specs.declared.store.Store.{Store}
 
 -- The reply, whether the session goes on, and what is held then.
@@ -34,6 +34,7 @@ reply_to h (Get key) = (value_line (h.at key), true, h)
 reply_to h (Delete key) = (deletion (h.at key), true, without_key h key)
 reply_to h Count = (codes "count " ++ decimal h.count, true, h)
 reply_to h Quit = (codes "bye", false, h)
+reply_to h Web = (codes "error: this is no web server", false, h)
 reply_to h Malformed = (codes "error: SET takes a key and a value", true, h)
 reply_to h Unknown = (codes "error: unknown request", true, h)
 

@@ -54,8 +54,8 @@ module _ {T O : Type 0} (reads : Runs ReadMark T) (writes : Runs WriteMark O) (x
     pub replied : bytes_taken took ≡ flat_map with_newline (replies_to lines ++ words)
     pub flushed : EndsFlushed took
 
-  -- How a session ends. On `Ok` the input ended behind the last line, or that line was `QUIT`. On `Input` no line was `QUIT`,
-  -- and the last words to the error were written. Of other errors `LinesServed` says what was done.
+  -- How a session ends. On `Ok` the input ended behind the last line, or that line was `QUIT` or one of a web page. On `Input` no
+  -- line was such a one, and the last words to the error were written. Of other errors `LinesServed` says what was done.
   abbrev pub LineSessionEnds : Result (Unit {0}) (ServeError FrameError FrameError) → Type 0
   LineSessionEnds (Ok u) = LineSession EndsWell []
   LineSessionEnds (Err (Input e)) = LineSession (λ answers behind. EachGoesOn answers) (last_lines e)

@@ -3,8 +3,19 @@
 //! Its requests are `SET key value`, `GET key`, `DEL key`, `COUNT` and `QUIT`. A line that is cut off by the end of the input
 //! is not performed. That, or a line that is too long, is answered with an error, and ends the session.
 //!
-//! Behind `socat TCP-LISTEN:7000,fork,nodelay EXEC:out/example_lines` each connection of the network has a process and a store
-//! of its own. An error is one line on standard error, and the status 1.
+//! A line that begins with `POST ` or `Host:` ends the session too, as Redis does it. A web page can send such lines to this
+//! port through its visitor's browser, and the lines of the page's own that follow them must not be performed.
+//!
+//! An error is one line on standard error, and the status 1.
+//!
+//! This line serves the port 7000 of this machine. Each connection has a process and a store of its own:
+//!
+//! ```sh
+//! socat TCP-LISTEN:7000,bind=127.0.0.1,reuseaddr,backlog=1024,max-children=100,fork,nodelay EXEC:out/example_lines,nofork
+//! ```
+//!
+//! `nofork` hands the program the socket itself. Without it `socat` drops the replies that it still holds when the program
+//! ends with the status 1.
 #![tactic(auto)]
 
 mod fault;

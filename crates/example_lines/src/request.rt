@@ -1,7 +1,7 @@
 //! What a line asks for.
 ghost use Rattle.std.specs.Prelude.{◌≡◌};
 ghost use Rattle.std.specs.List.{after_first, before_first, position};
-ghost use Rattle.example_lines.specs.Request.{request_of, asked_to_set, bytes_of, is_space};
+ghost use Rattle.example_lines.specs.Request.{request_of, asked_to_set, bytes_of, is_of_web, is_space};
 
 /// What a line asks for, with its texts.
 #[derive(Debug, PartialEq, Eq, Drop)]
@@ -16,6 +16,8 @@ pub enum Request<T> {
     Count,
     /// `QUIT`: that the session ends.
     Quit,
+    /// A line of a web page's request, which begins with `POST ` or `Host:`. The session ends.
+    Web,
     /// A `SET` without a key or a value, or with a value that no line can end with.
     Malformed,
     /// Any other line.
@@ -41,7 +43,17 @@ pub fn parse(line: &[u8]) -> Request<&[u8]>
     if line == b"QUIT".as_slice() {
         return Request::Quit;
     }
+    if is_web(line) {
+        return Request::Web;
+    }
     Request::Unknown
+}
+
+// Returns whether a line is one of a web page's request.
+fn is_web(line: &[u8]) -> bool
+    ensures { result ≡ is_of_web line.now }
+{
+    line.strip_prefix(b"POST ").is_some() || line.strip_prefix(b"Host:").is_some()
 }
 
 // Returns what `SET` asks for, with this text behind it.

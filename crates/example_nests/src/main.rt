@@ -13,7 +13,7 @@ use futures_lite::stream::iter_vec;
 use gather::{
     NotDigits, all_doubled, digits, evens_doubled, flattened, joined, numbered, pairs, parted, sums,
 };
-use programs::end;
+use programs::{end, without_words};
 use std::alloc::AllocGlobal;
 use std::io::{self, ErrorKind};
 use std::process::ExitCode;
@@ -22,8 +22,14 @@ use std::sync::Wait;
 use sum::{counted, total};
 use text::{all, front_lines, lines, packed};
 
+/// The name of the program.
+const NAME: &str = "example_nests";
+
 fn main(rt: HostRuntime) -> ExitCode {
-    end(&rt, "example_nests", print(&rt))
+    match without_words(&rt, NAME) {
+        Ok(()) => end(&rt, NAME, print(&rt)),
+        Err(status) => status,
+    }
 }
 
 /// Prints what each nest gives.

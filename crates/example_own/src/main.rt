@@ -18,15 +18,21 @@ mod ticks;
 mod total;
 mod upper;
 
-use programs::end;
+use programs::{end, without_words};
 use std::alloc::AllocGlobal;
 use std::io;
 use std::process::ExitCode;
 use std::random::RandomSource;
 use std::sync::Wait;
 
+/// The name of the program.
+const NAME: &str = "example_own";
+
 fn main(rt: HostRuntime) -> ExitCode {
-    end(&rt, "example_own", show(&rt))
+    match without_words(&rt, NAME) {
+        Ok(()) => end(&rt, NAME, show(&rt)),
+        Err(status) => status,
+    }
 }
 
 /// Uses each of them, and prints what it gave.

@@ -10,7 +10,7 @@ mod sender;
 mod transfer;
 
 use callers::{evens, tripled};
-use programs::end;
+use programs::{end, without_words};
 use queue::Queue;
 use std::alloc::AllocGlobal;
 use std::io;
@@ -18,8 +18,14 @@ use std::process::ExitCode;
 use std::random::RandomSource;
 use std::sync::Wait;
 
+/// The name of the program.
+const NAME: &str = "example_queue";
+
 fn main(rt: HostRuntime) -> ExitCode {
-    end(&rt, "example_queue", print(&rt))
+    match without_words(&rt, NAME) {
+        Ok(()) => end(&rt, NAME, print(&rt)),
+        Err(status) => status,
+    }
 }
 
 /// Prints what came through a queue, and which items it refused.

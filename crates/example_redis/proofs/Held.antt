@@ -1,5 +1,5 @@
 -- What the server's map holds after a change at one key.
-use Rattle.std.proofs.Common.{◌≡◌, ◌∙◌, ◌⊎◌, ◌+◌, ◌-◌, arith, inl, inr, ℕ, true, false, List, Option, None, Some, ap, refl, sym, subst, cond}
+use Rattle.std.proofs.Common.{◌≡◌, ◌∙◌, ◌⊎◌, ◌+◌, ◌-◌, arith, inl, inr, ℕ, Bool, true, false, List, Option, None, Some, ap, refl, sym, subst, cond}
 use Rattle.std.proofs.lemmas.Bool.{cases_Bool, cond-false, cond-true}
 use Rattle.std.proofs.lemmas.Map.Text.{is_eq-slice_cmp}
 use Rattle.std.proofs.lemmas.Slice.Eq.{bytes_eq-Decides}
@@ -43,14 +43,13 @@ module _ {K X A : Type 0} (items : K → List ℕ) (shown : X → A) where
           (λ k. apart p q (items k) y))
           ∙ sym (cond-false (bytes_eq p q) _ _ y)
 
-abbrev pub held_of : (List ℕ → Option (List ℕ)) → ℕ → HeldValues
-held_of f n = record { at = f; size = n }
+abbrev pub held_of : (List ℕ → Option (List ℕ)) → ℕ → ℕ → ℕ → Bool → HeldValues
+held_of f n k limit refuses = record { at = f; size = n; bytes = k; limit = limit; refuses = refuses }
 
-pub same_held : (f g : List ℕ → Option (List ℕ)) (m n : ℕ) → f ≡ g → m ≡ n → held_of f m ≡ held_of g n
-same_held f g m n e h =
-    let by_at : (List ℕ → Option (List ℕ)) → HeldValues = λ x. record { at = x; size = m } in
-    let by_size : ℕ → HeldValues = λ k. record { at = g; size = k } in
-    ap by_at e ∙ ap by_size h
+pub same_held : (f g : List ℕ → Option (List ℕ)) (m n k l limit : ℕ) (refuses : Bool) → f ≡ g → m ≡ n → k ≡ l
+    → held_of f m k limit refuses ≡ held_of g n l limit refuses
+same_held f g m n k l limit refuses e h i =
+    ap (λ x. held_of x m k limit refuses) e ∙ ap (λ x. held_of g x k limit refuses) h ∙ ap (λ x. held_of g n x limit refuses) i
 
 pub is_some-option_map : {X Y : Type 0} (f : X → Y) (o : Option X) → is_some (option_map f o) ≡ is_some o
 is_some-option_map f None = refl

@@ -1,7 +1,7 @@
 //! The commands.
 ghost use Rattle.std.specs.Prelude.{◌≡◌, IfOk, map};
 ghost use Rattle.std.specs.Char.{to_ascii_lowercase};
-ghost use Rattle.example_redis.specs.Commands.{takes, verb, verb_name};
+ghost use Rattle.example_redis.specs.Commands.{takes, verb, verb_name, verb_of_connection};
 
 use std::alloc::{AllocError, Global};
 
@@ -20,10 +20,24 @@ pub enum Verb {
     Delete,
     /// `DBSIZE`: how many keys have a value.
     Size,
-    /// `COMMAND` and `CONFIG`: nothing is known.
+    /// `SELECT 0`: that the keys are those of the one store there is.
+    Select,
+    /// `COMMAND`: nothing is told of the commands, but how many they are by `COMMAND COUNT`.
     Describe,
+    /// `CONFIG GET`: that there is nothing to configure.
+    Config,
+    /// `CLIENT SETNAME` and `CLIENT SETINFO`: what the client is called.
+    Client,
+    /// `MULTI`: that a transaction begins.
+    Multi,
+    /// `EXEC`: that a transaction is performed.
+    Exec,
+    /// `DISCARD`: that a transaction is given up.
+    Discard,
     /// `QUIT`: that the session ends.
     Quit,
+    /// `POST` and `HOST:`, which begin a line of a web page's request. The session ends.
+    Web,
     /// Any other word.
     Unknown,
 }
@@ -59,11 +73,39 @@ impl Verb {
         if name == b"dbsize".as_slice() {
             return Verb::Size;
         }
-        if name == b"command".as_slice() || name == b"config".as_slice() {
-            return Verb::Describe;
-        }
         if name == b"quit".as_slice() {
             return Verb::Quit;
+        }
+        if name == b"post".as_slice() || name == b"host:".as_slice() {
+            return Verb::Web;
+        }
+        Verb::of_connection(name)
+    }
+
+    // Returns the command of this name, of those that are about the connection.
+    fn of_connection(name: &[u8]) -> Verb
+        ensures { result ≡ verb_of_connection name.now }
+    {
+        if name == b"select".as_slice() {
+            return Verb::Select;
+        }
+        if name == b"command".as_slice() {
+            return Verb::Describe;
+        }
+        if name == b"config".as_slice() {
+            return Verb::Config;
+        }
+        if name == b"client".as_slice() {
+            return Verb::Client;
+        }
+        if name == b"multi".as_slice() {
+            return Verb::Multi;
+        }
+        if name == b"exec".as_slice() {
+            return Verb::Exec;
+        }
+        if name == b"discard".as_slice() {
+            return Verb::Discard;
         }
         Verb::Unknown
     }
@@ -79,9 +121,10 @@ impl Verb {
             Verb::Get => count == 1,
             Verb::Delete => 0 < count,
             Verb::Size => count == 0,
-            Verb::Describe => true,
-            Verb::Quit => true,
-            Verb::Unknown => true,
+            Verb::Select => count == 1,
+            Verb::Config | Verb::Client => 0 < count,
+            Verb::Multi | Verb::Exec | Verb::Discard => count == 0,
+            Verb::Describe | Verb::Quit | Verb::Web | Verb::Unknown => true,
         }
     }
 
@@ -96,15 +139,21 @@ impl Verb {
             Verb::Get => b"get",
             Verb::Delete => b"del",
             Verb::Size => b"dbsize",
+            Verb::Select => b"select",
             Verb::Describe => b"command",
+            Verb::Config => b"config",
+            Verb::Client => b"client",
+            Verb::Multi => b"multi",
+            Verb::Exec => b"exec",
+            Verb::Discard => b"discard",
             Verb::Quit => b"quit",
-            Verb::Unknown => b"",
+            Verb::Web | Verb::Unknown => b"",
         }
     }
 }
 
-// Copies a word in lower case.
-fn lowercase(alloc: Global, word: &[u8]) -> Result<Vec<u8>, AllocError>
+/// Copies a word in lower case.
+pub fn lowercase(alloc: Global, word: &[u8]) -> Result<Vec<u8>, AllocError>
     ensures { IfOk result (λ v. v.items ≡ map to_ascii_lowercase word.now) }
 {
     word.iter()

@@ -8,15 +8,21 @@ mod retry;
 
 use callers::{paired, retried, waited};
 use later::Later;
-use programs::end;
+use programs::{end, without_words};
 use std::alloc::AllocGlobal;
 use std::io;
 use std::process::ExitCode;
 use std::random::RandomSource;
 use std::sync::Wait;
 
+/// The name of the program.
+const NAME: &str = "example_retry";
+
 fn main(rt: HostRuntime) -> ExitCode {
-    end(&rt, "example_retry", print(&rt))
+    match without_words(&rt, NAME) {
+        Ok(()) => end(&rt, NAME, print(&rt)),
+        Err(status) => status,
+    }
 }
 
 /// Prints how attempts ended.

@@ -11,7 +11,7 @@ use futures_lite::io::{
     WriteSpec, history, split_journalled,
 };
 use futures_lite::{AsyncRead, AsyncWrite};
-use programs::end;
+use programs::{end, without_words};
 use std::alloc::AllocGlobal;
 use std::io::ErrorKind;
 use std::marker::Brand;
@@ -21,8 +21,14 @@ use std::sync::Wait;
 use std::thread::Threads;
 use std::{io, thread};
 
+/// The name of the program.
+const NAME: &str = "example_two_threads";
+
 fn main(rt: HostRuntime) -> ExitCode {
-    end(&rt, "example_two_threads", print(rt))
+    match without_words(&rt, NAME) {
+        Ok(()) => end(&rt, NAME, print(rt)),
+        Err(status) => status,
+    }
 }
 
 /// Uses a journal in two threads, and prints what its history has of both.

@@ -26,13 +26,17 @@ use tokio_util::codec::Encoder;
 /// it reads, that is, if no whole request is in hand ([`in_hand`](FramedRead::in_hand)), and at the end. So no
 /// reply waits behind a request that is not whole. Between two requests that are in hand it does not flush.
 ///
+/// A client has to read while it sends, because the replies to a request are written to their end before the next
+/// read. If it sends many requests and reads no reply, the buffers between the two fill, and both wait forever.
+///
 /// The call blocks this thread, by `on` and the runtime `rt`, and may wait forever. The caller guarantees that
 /// `ranks.counts` holds for the reader below `requests`.
 ///
 /// # Errors
 ///
 /// Nothing is read or performed behind an error. Unless the output failed, all that was written before is
-/// flushed. Close the connection then: part of a frame may have been written, or a request may have no reply.
+/// flushed. Close the connection then: part of a frame may have been written, or a request may have no reply. Before
+/// you close a socket, read on for a while, or the client may lose the last words.
 /// The [`ServeError`] says why serving stopped:
 ///
 /// - `ServeError::Input`: `requests` returned this error. [`refuse`](Service::refuse) gave the last words to it,

@@ -12,7 +12,7 @@ use closures::hundredths;
 use futures_lite::stream::{iter_vec, script};
 use futures_lite::{Doorbell, Poll, Solo};
 use nest::{first_evens, small_evens, tripled};
-use programs::end;
+use programs::{end, without_words};
 use std::alloc::AllocGlobal;
 use std::io;
 use std::process::ExitCode;
@@ -21,8 +21,14 @@ use std::sync::Wait;
 use twice::triples_agree;
 use unfolding::below_two;
 
+/// The name of the program.
+const NAME: &str = "nests_by_hand";
+
 fn main(rt: HostRuntime) -> ExitCode {
-    end(&rt, "nests_by_hand", print(&rt))
+    match without_words(&rt, NAME) {
+        Ok(()) => end(&rt, NAME, print(&rt)),
+        Err(status) => status,
+    }
 }
 
 /// Prints what the polls answer, and then the calls of `next`.

@@ -12,12 +12,24 @@ mod spelling;
 use crate::fault::Fault;
 use crate::serve::{report, serve};
 use futures::task::{Doorbell, Solo};
+use programs::help;
 use std::env;
 use std::io::ErrorKind;
 use std::process::ExitCode;
 
+/// The name of the program.
+const NAME: &str = "pollrun";
+
+/// How it is called.
+const USAGE: &str = "pollrun PIPE POLLS ANSWERS [ANSWERS]";
+
 fn main(rt: HostRuntime) -> ExitCode {
-    match served(&rt) {
+    let ended = match words_of(&rt) {
+        Ok(words) if asks_usage(&words) => return help(&rt, NAME, USAGE),
+        Ok(words) => served(&rt, &words),
+        Err(fault) => Err(fault),
+    };
+    match ended {
         Ok(status) => ExitCode::from(status),
         Err(fault) => {
             let _ = report(fault, &mut rt.stderr());
@@ -26,12 +38,16 @@ fn main(rt: HostRuntime) -> ExitCode {
     }
 }
 
+/// Returns whether the words are `--help` alone.
+fn asks_usage(words: &[String]) -> bool {
+    matches!(words, [word] if word.as_str() == "--help")
+}
+
 /// Hands the words, the standard streams and a task of its own to `serve`.
-fn served(rt: &HostRuntime) -> Result<u8, Fault>
+fn served(rt: &HostRuntime, words: &[String]) -> Result<u8, Fault>
     ensures status { IfOk result (λ status. (status ≤ 2) ⊎ (status ≡ 141)) }
-    ensures failed { IfErr result (λ fault. (fault ≡ Arguments) ⊎ (fault ≡ Memory)) }
+    ensures failed { IfErr result (λ fault. fault ≡ Memory) }
 {
-    let words = words_of(rt)?;
     let Ok(solo) = Solo::new(rt, Doorbell::spinning()) else {
         return Err(Fault::Memory);
     };
@@ -39,7 +55,7 @@ fn served(rt: &HostRuntime) -> Result<u8, Fault>
     let status = serve(
         rt.alloc(),
         &mut cx,
-        &words,
+        words,
         &mut rt.stdout(),
         &mut rt.stderr(),
     );

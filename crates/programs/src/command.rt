@@ -1,38 +1,59 @@
 //! The words that a program is called with.
+ghost use Rattle.programs.specs.Starting.{AreOthers, HasOthers, StartsBy, has_none};
 ghost use Rattle.programs.specs.Statuses.{EndsUnstarted, EndsUnread};
-ghost use Rattle.std.specs.List.{AllByRecursion};
-ghost use Rattle.std.specs.Prelude.{◌≢◌, IfErr, IfOk, codes, string_bytes};
+ghost use Rattle.std.specs.Prelude.{◌≡◌, IfErr, IfOk, false, true};
+ghost use Rattle.std.specs.Process.{exit_status};
 
-use crate::ending::{failed, misused};
+use crate::ending::{failed, help, misused};
 use std::alloc::AllocGlobal;
 use std::env::{self, Env};
-use std::io::{self, Eprint, ErrorKind};
+use std::io::{self, Eprint, ErrorKind, Print};
 use std::process::ExitCode;
 
 /// The words behind the name of the program, except `--quiet`.
 #[derive(Debug, Drop)]
 pub struct Command {
-    /// The words, in their order.
+    /// The words, in their order. None of them is `--help`.
     pub words: Vec<String>,
     /// Whether `--quiet` was among them.
     pub quiet: bool,
 }
 
+/// What the words behind the name of a program ask for.
+#[derive(Drop)]
+enum Asked {
+    /// To run with these words.
+    Run(Command),
+    /// To print the usage, since `--help` was among them.
+    Help,
+}
+
 impl Command {
     /// Returns the words that this program was called with.
     ///
-    /// The error is the status to end with. It is 2 if a word is not UTF-8: then the usage was printed. It is 1 if memory
-    /// was refused.
+    /// The error is the status to end with. If `--help` is among the words, the usage was printed on standard output, and
+    /// the status is that of [`help`]. It is 2 if a word is not UTF-8, and then the usage was printed on standard error. It
+    /// is 1 if memory was refused.
     pub fn of<R>(rt: &R, name: &str, usage: &str) -> Result<Command, ExitCode>
     where
-        R: Env + AllocGlobal + Eprint,
-        ensures others { IfOk result (λ command. AllByRecursion (λ word. string_bytes word ≢ codes "--quiet") command.words.items) }
+        R: Env + AllocGlobal + Print + Eprint,
+        ensures others { IfOk result (λ command. AreOthers command.words.items) }
         ensures failed { IfErr result EndsUnstarted }
     {
-        match read_words(rt) {
-            Ok(command) => Ok(command),
-            Err(e) => Err(unread(rt, name, usage, &e)),
-        }
+        started(rt, name, usage, read_words(rt))
+    }
+}
+
+// Returns the words that were read. If they ask for the usage, or were not read, that is printed.
+fn started<R>(rt: &R, name: &str, usage: &str, read: io::Result<Asked>) -> Result<Command, ExitCode>
+where
+    R: Print + Eprint,
+    ensures { StartsBy read result }
+{
+    match read {
+        Ok(Asked::Run(command)) => Ok(command),
+        Ok(Asked::Help) => Err(help(rt, name, usage)),
+        Err(e) => Err(unread(rt, name, usage, &e)),
     }
 }
 
@@ -47,34 +68,44 @@ fn unread<R: Eprint>(rt: &R, name: &str, usage: &str, error: &io::Error) -> Exit
     }
 }
 
-/// Returns `Ok` if the program was called without words. If not, its usage is printed, and the error is the status 2. It
-/// is 1 if memory was refused.
+/// Returns `Ok` if the program was called without words.
+///
+/// The error is the status to end with. It is that of [`Command::of`] for `--help` and for words that were not read. If
+/// there are other words, the usage was printed on standard error, and the status is 2.
 pub fn without_words<R>(rt: &R, name: &str) -> Result<(), ExitCode>
 where
-    R: Env + AllocGlobal + Eprint,
+    R: Env + AllocGlobal + Print + Eprint,
     ensures failed { IfErr result EndsUnstarted }
 {
     let command = Command::of(rt, name, name)?;
+    alone(rt, name, &command)
+}
+
+// Returns `Ok` if the command has no words. If it has, the usage is printed, and the error is the status 2.
+fn alone<R: Eprint>(rt: &R, name: &str, command: &Command) -> Result<(), ExitCode>
+    ensures none { IfOk result (λ _. has_none command.now ≡ true) }
+    ensures some { IfErr result (λ status. (has_none command.now ≡ false) × (exit_status status ≡ 2)) }
+{
     if command.quiet || !command.words.is_empty() {
         return Err(misused(rt, name, name));
     }
     Ok(())
 }
 
-// The words of the process. `InvalidData`: one is not UTF-8.
-fn read_words<R: Env + AllocGlobal>(rt: &R) -> io::Result<Command>
-    ensures { IfOk result (λ command. AllByRecursion (λ word. string_bytes word ≢ codes "--quiet") command.words.items) }
+// Reads the words of the process. `InvalidData`: one is not UTF-8.
+fn read_words<R: Env + AllocGlobal>(rt: &R) -> io::Result<Asked>
+    ensures { IfOk result HasOthers }
 {
     let mut command = Command {
         words: Vec::new(rt.alloc()),
         quiet: false,
     };
     for word in env::args(rt)?.skip(1) {
-        if word.as_str() == "--quiet" {
-            command.quiet = true;
-        } else {
-            command.words.push(word)?;
+        match word.as_str() {
+            "--help" => return Ok(Asked::Help),
+            "--quiet" => command.quiet = true,
+            _ => command.words.push(word)?,
         }
     }
-    Ok(command)
+    Ok(Asked::Run(command))
 }

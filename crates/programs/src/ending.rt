@@ -1,10 +1,10 @@
 //! How a program ends.
-ghost use Rattle.programs.specs.Statuses.{EndsAtError, IsBrokenPipe};
+ghost use Rattle.programs.specs.Statuses.{EndsAtError, EndsHelped, IsBrokenPipe};
 ghost use Rattle.std.specs.Prelude.{◌≡◌, ◌↔◌, IfErr, IfOk, IsTrue};
 ghost use Rattle.std.specs.Process.{exit_status};
 
 use std::fmt::Display;
-use std::io::{self, Eprint, ErrorKind};
+use std::io::{self, Eprint, ErrorKind, Print};
 use std::process::ExitCode;
 
 /// The status of a program if nobody reads its output any more. A shell shows it for a tool that SIGPIPE ended.
@@ -53,6 +53,15 @@ pub(crate) fn failed<R: Eprint, E: Display>(rt: &R, name: &str, error: &E) -> Ex
 {
     let _ = eprintln!(rt; "{name}: {error}");
     ExitCode::from(1)
+}
+
+/// Prints on standard output how the program is called, and returns the status 0.
+///
+/// The status is that of [`end`] if standard output fails: 1, or [`BROKEN_PIPE`] if nobody reads it any more.
+pub fn help<R: Print + Eprint>(rt: &R, name: &str, usage: &str) -> ExitCode
+    ensures { EndsHelped result }
+{
+    end(rt, name, println!(rt; "usage: {usage}"))
 }
 
 /// Prints on standard error how the program is called, and returns the status 2.

@@ -6,5 +6,5 @@ mod ending;
 mod watched;
 
 pub use command::{Command, without_words};
-pub use ending::{BROKEN_PIPE, ProgramError, end, misused};
+pub use ending::{BROKEN_PIPE, ProgramError, end, help, misused};
 pub use watched::Watched;

@@ -1,5 +1,5 @@
 //! How the server answers a line.
-ghost use Rattle.std.specs.Prelude.{◌≡◌, ◌++◌, ◌∷◌, [], IfOk, map, true};
+ghost use Rattle.std.specs.Prelude.{◌≡◌, ◌++◌, ◌∷◌, [], IfOk, false, map, true};
 ghost use Rattle.framed.specs.Services.{ServesAs};
 ghost use Rattle.example_lines.specs.Request.{bytes_of};
 ghost use Rattle.example_lines.specs.Service.{HasReplied, SaysLast, deletion, line_step, reply_to};
@@ -69,10 +69,8 @@ impl Store {
                 b"count ",
                 Buffer::new().format(self.len()).as_bytes(),
             ),
-            Request::Quit => Ok(Answer {
-                replies: one_line(alloc, b"bye", b"")?,
-                goes_on: false,
-            }),
+            Request::Quit => say_last(alloc, b"bye"),
+            Request::Web => say_last(alloc, b"error: this is no web server"),
             Request::Malformed => say(alloc, b"error: SET takes a key and a value", b""),
             Request::Unknown => say(alloc, b"error: unknown request", b""),
         }
@@ -96,6 +94,16 @@ fn say(alloc: Global, text: &[u8], more: &[u8]) -> Result<Answer<Vec<u8>>, Alloc
     Ok(Answer {
         replies: one_line(alloc, text, more)?,
         goes_on: true,
+    })
+}
+
+// Replies one line, after which the session ends.
+fn say_last(alloc: Global, text: &[u8]) -> Result<Answer<Vec<u8>>, AllocError>
+    ensures { (h : KeyValues) → HasReplied h (text.now, false, h) result h }
+{
+    Ok(Answer {
+        replies: one_line(alloc, text, b"")?,
+        goes_on: false,
     })
 }
 

@@ -1,16 +1,17 @@
 -- What the commands say can be encoded.
 use Rattle.std.specs.Prelude.{◌≡◌, ◌≢◌, ◌≤◌, ◌||◌, ◌==◌, ℕ, zero, suc, Bool, true, false, List, []}
-use Rattle.std.specs.Prelude.{◌∷◌, ◌++◌, Option, Some, None, codes, if◌then◌else◌, length, map, take, ⊤}
+use Rattle.std.specs.Prelude.{◌∷◌, ◌++◌, Option, Some, None, codes, if◌then◌else◌, length, map, pos, take, ⊤}
 use Rattle.std.specs.Char.{to_ascii_lowercase}
 use Rattle.std.proofs.Common.{◌∙◌, arith, refl, subst, sym}
 use Rattle.std.proofs.lemmas.Bool.{eq-eqb}
-use Rattle.example_redis.specs.Commands.{Done, Said, answer, does, found, one_line, perform, said, shown_name, takes, unknown_said, verb, verb_name, wrong_count}
+use Rattle.example_redis.specs.Commands.{Done, Said, answer, configured, described, does, found, introduced, one_line, perform, refuse_in, said, selected, set_done, shown_words, takes, unknown_text, verb, verb_name, wrong_count}
 use Rattle.example_redis.specs.Replies.{HaveLines, IsEncodable, IsOneLine, count, greatest_depth}
-use Rattle.example_redis.specs.Store.{HeldValues}
+use Rattle.std.specs.Str.{bytes_eq}
+use Rattle.example_redis.specs.Store.{HeldValues, fits, put}
 use Rattle.example_redis.specs.declared.reply.Reply.{Reply, Row_of-Reply, end_of-Reply, more_of-Reply}
 use Rattle.example_redis.specs.declared.reply.Reply.TheVariants.{Simple, Error, Integer, Bulk, Null, Array'}
 use Rattle.example_redis.specs.declared.verb.Verb.{Verb}
-use Rattle.example_redis.specs.declared.verb.Verb.TheVariants.{Delete, Describe, Echo, Get, Ping, Quit, Set, Size, Unknown}
+use Rattle.example_redis.specs.declared.verb.Verb.TheVariants.{Client, Config, Delete, Describe, Discard, Echo, Exec, Get, Multi, Ping, Quit, Select, Set, Size, Unknown, Web}
 
 -- Whether a text has no carriage return and no line feed.
 abbrev is_line : List ℕ → Bool
@@ -74,7 +75,14 @@ name_is_line Set = refl
 name_is_line Get = refl
 name_is_line Delete = refl
 name_is_line Size = refl
+name_is_line Select = refl
 name_is_line Describe = refl
+name_is_line Config = refl
+name_is_line Client = refl
+name_is_line Multi = refl
+name_is_line Exec = refl
+name_is_line Discard = refl
+name_is_line Web = refl
 name_is_line Quit = refl
 name_is_line Unknown = refl
 
@@ -85,8 +93,39 @@ between a text b before here behind = line_by_test (a ++ text ++ b) (line_append
 plain_wrong : (v : Verb) → IsPlainText (wrong_count v)
 plain_wrong v = between (codes "ERR wrong number of arguments for '") (verb_name v) (codes "' command") refl (name_is_line v) refl
 
-plain_unknown : (name : List ℕ) → IsPlainText (unknown_said name)
-plain_unknown name = between (codes "ERR unknown command '") (shown_name name) (codes "'") refl (one_line_is (take 128 name)) refl
+plain_unknown : (name : List ℕ) (words : List (List ℕ)) → IsPlainText (Said.wrong (unknown_text name words))
+plain_unknown name words = line_by_test (unknown_text name words)
+    (one_line_is (codes "ERR unknown command '" ++ take 128 name ++ codes "', with args beginning with: " ++ shown_words [] words))
+
+plain_if : (b : Bool) (one other : Done) → IsPlainText one.0 → IsPlainText other.0 → IsPlainText (if b then one else other).0
+plain_if true one other a d = a
+plain_if false one other a d = d
+
+plain_either : (b : Bool) (one other : Said) → IsPlainText one → IsPlainText other → IsPlainText (if b then one else other)
+plain_either true one other a d = a
+plain_either false one other a d = d
+
+plain_set : (h : HeldValues) (key value : List ℕ) → IsPlainText (set_done h key value).0
+plain_set h key value =
+    plain_if (fits (put h key value)) _ _ (line_by_test (codes "OK") refl)
+    (line_by_test (codes "OOM command not allowed when used memory > 'maxmemory'.") refl)
+
+plain_selected : (index : List ℕ) → IsPlainText (selected index)
+plain_selected index =
+    plain_either (bytes_eq index (codes "0")) _ _ (line_by_test (codes "OK") refl)
+    (line_by_test (codes "ERR DB index is out of range") refl)
+
+plain_described : (topic : List ℕ) → IsPlainText (described topic)
+plain_described topic = plain_either (bytes_eq topic (codes "count")) (Said.number (pos 14)) (Said.array 0) tt refl
+
+plain_configured : (what : List ℕ) → IsPlainText (configured what)
+plain_configured what =
+    plain_either (bytes_eq what (codes "get")) (Said.array 0) _ refl (line_by_test (codes "ERR only CONFIG GET is supported") refl)
+
+plain_introduced : (what : List ℕ) → IsPlainText (introduced what)
+plain_introduced what =
+    plain_either (bytes_eq what (codes "setname") || bytes_eq what (codes "setinfo")) _ _ (line_by_test (codes "OK") refl)
+    (line_by_test (codes "ERR only CLIENT SETNAME and CLIENT SETINFO are supported") refl)
 
 plain_does : (h : HeldValues) (name : List ℕ) (v : Verb) (ws : List (List ℕ)) → IsPlainText (does h name v ws).0
 plain_does h name Ping [] = line_by_test (codes "PONG") refl
@@ -97,7 +136,7 @@ plain_does h name Echo (a ∷ []) = tt
 plain_does h name Echo (a ∷ b ∷ ws) = tt
 plain_does h name Set [] = tt
 plain_does h name Set (a ∷ []) = tt
-plain_does h name Set (a ∷ b ∷ []) = line_by_test (codes "OK") refl
+plain_does h name Set (a ∷ b ∷ []) = plain_set h a b
 plain_does h name Set (a ∷ b ∷ d ∷ ws) = line_by_test (codes "ERR syntax error") refl
 plain_does h name Get [] = tt
 plain_does h name Get (a ∷ []) = plain_found (h.at a)
@@ -106,20 +145,54 @@ plain_does h name Delete [] = tt
 plain_does h name Delete (a ∷ ws) = tt
 plain_does h name Size [] = tt
 plain_does h name Size (a ∷ ws) = tt
-plain_does h name Describe ws = refl
+plain_does h name Select [] = tt
+plain_does h name Select (a ∷ []) = plain_selected a
+plain_does h name Select (a ∷ b ∷ ws) = tt
+plain_does h name Describe [] = refl
+plain_does h name Describe (a ∷ ws) = plain_described (map to_ascii_lowercase a)
+plain_does h name Config [] = tt
+plain_does h name Config (a ∷ ws) = plain_configured (map to_ascii_lowercase a)
+plain_does h name Client [] = tt
+plain_does h name Client (a ∷ ws) = plain_introduced (map to_ascii_lowercase a)
+plain_does h name Multi [] = line_by_test (codes "ERR MULTI is not supported: nothing is performed up to EXEC or DISCARD") refl
+plain_does h name Multi (a ∷ ws) = tt
+plain_does h name Exec [] = line_by_test (codes "ERR EXEC without MULTI") refl
+plain_does h name Exec (a ∷ ws) = tt
+plain_does h name Discard [] = line_by_test (codes "ERR DISCARD without MULTI") refl
+plain_does h name Discard (a ∷ ws) = tt
 plain_does h name Quit ws = line_by_test (codes "OK") refl
-plain_does h name Unknown ws = plain_unknown name
-
-plain_if : (b : Bool) (one other : Done) → IsPlainText one.0 → IsPlainText other.0 → IsPlainText (if b then one else other).0
-plain_if true one other a d = a
-plain_if false one other a d = d
+plain_does h name Web ws = tt
+plain_does h name Unknown ws = plain_unknown name ws
 
 plain_answer : (h : HeldValues) (name : List ℕ) (v : Verb) (ws : List (List ℕ)) → IsPlainText (answer h name v ws).0
 plain_answer h name v ws = plain_if (takes v (length ws)) _ _ (plain_does h name v ws) (plain_wrong v)
 
+plain_not_performed : IsPlainText (Said.wrong (codes "ERR not performed, since MULTI was refused"))
+plain_not_performed = line_by_test (codes "ERR not performed, since MULTI was refused") refl
+
+plain_refused : (h : HeldValues) (v : Verb) → IsPlainText (refuse_in h v).0
+plain_refused h Exec = line_by_test (codes "EXECABORT Transaction discarded because of previous errors.") refl
+plain_refused h Discard = line_by_test (codes "OK") refl
+plain_refused h Quit = line_by_test (codes "OK") refl
+plain_refused h Web = tt
+plain_refused h Ping = plain_not_performed
+plain_refused h Echo = plain_not_performed
+plain_refused h Set = plain_not_performed
+plain_refused h Get = plain_not_performed
+plain_refused h Delete = plain_not_performed
+plain_refused h Size = plain_not_performed
+plain_refused h Select = plain_not_performed
+plain_refused h Describe = plain_not_performed
+plain_refused h Config = plain_not_performed
+plain_refused h Client = plain_not_performed
+plain_refused h Multi = plain_not_performed
+plain_refused h Unknown = plain_not_performed
+
 plain_done : (h : HeldValues) (words : List (List ℕ)) → IsPlainText (perform h words).0
 plain_done h [] = tt
-plain_done h (name ∷ words) = plain_answer h name (verb (map to_ascii_lowercase name)) words
+plain_done h (name ∷ words) =
+    let v = verb (map to_ascii_lowercase name) in
+    plain_if h.refuses _ _ (plain_refused h v) (plain_answer h name v words)
 
 no_replies : {m : _} (all : Row_of-Reply m) → count all ≡ 0 → (greatest_depth all ≤ 0) × HaveLines all
 no_replies end_of-Reply none = (omega arith, tt)

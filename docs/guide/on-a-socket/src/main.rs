@@ -1,6 +1,7 @@
 //! A store of texts on a socket. All connections share it, and each is served in a thread of its own.
 //!
 //! A request is a line: `SET key text`, `GET key`, `DELETE key`, `COUNT` or `QUIT`. Each one has one line as its reply.
+//! A line that begins with `POST ` or `Host:` ends its session, since a web page can send such requests by a browser.
 //! The first argument is the address to listen at, such as `127.0.0.1:7000`; at port 0 the system picks one.
 #![tactic(auto)]
 

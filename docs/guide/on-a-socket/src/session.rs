@@ -1,5 +1,5 @@
 //! What is answered to the requests of a connection.
-ghost use Rattle.std.specs.Prelude.{◌≡◌, ◌≤◌, IfSome, length};
+ghost use Rattle.std.specs.Prelude.{◌≡◌, ◌≢◌, ◌≤◌, IfSome, IsFalse, codes, false, length, take};
 
 use crate::store::Store;
 use bytes::BytesMut;
@@ -55,6 +55,13 @@ impl<R: Wait> Session<R> {
     }
 }
 
+/// Returns whether a line is one of a web page's request, such as its visitor's browser sends.
+fn is_of_web(line: &[u8]) -> bool
+    ensures { IsFalse result → (take 5 line.now ≢ codes "POST ") × (take 5 line.now ≢ codes "Host:") }
+{
+    line.strip_prefix(b"POST ").is_some() || line.strip_prefix(b"Host:").is_some()
+}
+
 impl<R: Wait> Service for Session<R> {
     type Request = BytesMut;
 
@@ -62,8 +69,9 @@ impl<R: Wait> Service for Session<R> {
 
     type Error = FrameError;
 
-    // Each request has one reply.
-    ghost answers = { λ _ line out _. IfSome out (λ a. length a.0 ≡ 1) };
+    // Each request has one reply. A line of a web page's request ends the session.
+    ghost answers = { λ _ line out _. IfSome out (λ a. (length a.0 ≡ 1)
+        × (take 5 line.items ≡ codes "POST " → a.1 ≡ false) × (take 5 line.items ≡ codes "Host:" → a.1 ≡ false)) };
 
     // An error has at most one line.
     ghost refuses = { λ _ e words _. IfSome words (λ w. length w ≤ 1) };
@@ -71,6 +79,12 @@ impl<R: Wait> Service for Session<R> {
     fn answer(&mut self, alloc: Global, line: BytesMut) -> Result<Answer<String>, AllocError> {
         let mut replies = Vec::with_capacity(alloc, 1)?;
         let (reply, goes_on) = match str::from_utf8(line.as_slice()) {
+            _ if is_of_web(line.as_slice()) => {
+                (
+                    String::from_str(alloc, "ERROR this is no web server")?,
+                    false,
+                )
+            }
             // (a reply that ends in a return would not be encoded)
             Ok(text) if !text.ends_with('\r') => (self.perform(alloc, text)?, text != "QUIT"),
             _ => (String::from_str(alloc, "ERROR the line is no text")?, true),

@@ -49,6 +49,21 @@ fn a_session_quits(rt: HostRuntime) -> Result<(), Fail> {
 }
 
 #[test]
+fn a_web_page_writes_nothing(rt: HostRuntime) -> Result<(), Fail> {
+    for head in ["POST / HTTP/1.1\r\n", "GET / HTTP/1.1\r\nHost: a\r\n"] {
+        let text = format!(in rt.alloc(); "COUNT\n{head}\r\nSET k evil\nCOUNT\n")?;
+        let replies = session(rt.alloc(), text.as_bytes())?;
+        assert!(rt; replies.as_slice().starts_with(b"count 0\n"));
+        assert!(rt;
+            replies
+                .as_slice()
+                .ends_with(b"\nerror: this is no web server\n")
+        );
+    }
+    Ok(())
+}
+
+#[test]
 fn a_line_that_is_cut_off_is_not_performed(rt: HostRuntime) -> Result<(), Fail> {
     let replies = session(rt.alloc(), b"SET user1 x\nDEL user1")?;
     assert_eq!(rt;

@@ -145,7 +145,7 @@ fn replies_that_are_refused(rt: HostRuntime) -> Result<(), Fail> {
 // Returns the replies to these requests.
 fn session(alloc: Global, bytes: &[u8]) -> Result<BytesMut, Fail> {
     let mut requests = Requests::new(alloc, Limits::USUAL);
-    let mut store = Store::new(alloc);
+    let mut store = Store::new(alloc, usize::MAX);
     let mut src = BytesMut::new(alloc);
     let mut dst = BytesMut::new(alloc);
     src.extend_from_slice(bytes)?;
@@ -182,8 +182,85 @@ fn a_session_of_mistakes(rt: HostRuntime) -> Result<(), Fail> {
     let replies = session(rt.alloc(), b"set k\nset a b c d\n*1\r\n$4\r\na\r\nb\r\n")?;
     let (first, rest) = (
         b"-ERR wrong number of arguments for 'set' command\r\n".as_slice(),
-        b"-ERR syntax error\r\n-ERR unknown command 'a  b'\r\n".as_slice(),
+        b"-ERR syntax error\r\n-ERR unknown command 'a  b', with args beginning with: \r\n".as_slice(),
     );
     assert_eq!(rt; replies.as_slice().strip_prefix(first), Some(rest));
+    Ok(())
+}
+
+// The replies are those of redis-server 7.0, but for the texts of the errors of `CONFIG`, `CLIENT` and `MULTI`.
+#[test]
+fn a_session_about_the_connection(rt: HostRuntime) -> Result<(), Fail> {
+    let replies = session(
+        rt.alloc(),
+        b"select 0\nSELECT 1\nCommand Count\nCOMMAND DOCS\nCONFIG SET a b\nCLIENT setname me\nCLIENT SETINFO a b\nCLIENT LIST\nSELECT\n",
+    )?;
+    let (first, rest) = (
+        b"+OK\r\n-ERR DB index is out of range\r\n:14\r\n*0\r\n-ERR only CONFIG GET is supported\r\n+OK\r\n+OK\r\n".as_slice(),
+        b"-ERR only CLIENT SETNAME and CLIENT SETINFO are supported\r\n-ERR wrong number of arguments for 'select' command\r\n".as_slice(),
+    );
+    assert_eq!(rt; replies.as_slice().strip_prefix(first), Some(rest));
+    Ok(())
+}
+
+#[test]
+fn a_transaction_performs_nothing(rt: HostRuntime) -> Result<(), Fail> {
+    let replies = session(
+        rt.alloc(),
+        b"EXEC\nDISCARD\nMULTI\nSET a 1\nMULTI\nEXEC\nDBSIZE\nMULTI\nDISCARD\nGET a\nMULTI\nQUIT\n",
+    )?;
+    let multi = "-ERR MULTI is not supported: nothing is performed up to EXEC or DISCARD\r\n";
+    let not_performed = "-ERR not performed, since MULTI was refused\r\n";
+    let wanted = format!(in rt.alloc();
+        "-ERR EXEC without MULTI\r\n-ERR DISCARD without MULTI\r\n{multi}{not_performed}{not_performed}-EXECABORT Transaction discarded because of previous errors.\r\n:0\r\n{multi}+OK\r\n$-1\r\n{multi}+OK\r\n"
+    )?;
+    assert_eq!(rt; replies.as_slice(), wanted.as_bytes());
+    Ok(())
+}
+
+#[test]
+fn a_web_page_writes_nothing(rt: HostRuntime) -> Result<(), Fail> {
+    let replies = session(rt.alloc(), b"PING\nPOST / HTTP/1.1\r\nSET evil x\nDBSIZE\n")?;
+    assert_eq!(rt; replies.as_slice(), b"+PONG\r\n".as_slice());
+    let replies = session(
+        rt.alloc(),
+        b"PING\nGET /a HTTP/1.1\r\nHost: a\r\n\r\nSET evil x\nDBSIZE\n",
+    )?;
+    assert_eq!(rt;
+        replies.as_slice(),
+        b"+PONG\r\n-ERR wrong number of arguments for 'get' command\r\n".as_slice()
+    );
+    Ok(())
+}
+
+// The words of an unknown command are shown as redis-server 7.0 shows them.
+#[test]
+fn unknown_commands(rt: HostRuntime) -> Result<(), Fail> {
+    let long = format!(in rt.alloc();
+        "NO {}\nINCR a b\nNO {} c\n",
+        "x".repeat(rt.alloc(), 200)?,
+        "y".repeat(rt.alloc(), 125)?
+    )?;
+    let replies = session(rt.alloc(), long.as_bytes())?;
+    let begun = ", with args beginning with: ";
+    let wanted = format!(in rt.alloc();
+        "-ERR unknown command 'NO'{begun}'{}' \r\n-ERR unknown command 'INCR'{begun}'a' 'b' \r\n-ERR unknown command 'NO'{begun}'{}' \r\n",
+        "x".repeat(rt.alloc(), 128)?,
+        "y".repeat(rt.alloc(), 125)?
+    )?;
+    assert_eq!(rt; replies.as_slice(), wanted.as_bytes());
+    Ok(())
+}
+
+#[test]
+fn a_full_store_refuses_values(rt: HostRuntime) -> Result<(), Fail> {
+    let mut store = Store::new(rt.alloc(), 300);
+    assert!(rt; store.set(b"a", b"12345")?);
+    assert!(rt; store.set(b"b", &[0u8; 101])?);
+    assert!(rt; !store.set(b"c", b"")? && !store.set(b"a", b"123456")?);
+    assert!(rt; store.set(b"a", b"1234")?);
+    assert!(rt; store.delete(b"b") && store.set(b"c", b"")?);
+    assert_eq!(rt; store.get(b"a"), Some(b"1234".as_slice()));
+    assert_eq!(rt; store.len(), 2);
     Ok(())
 }

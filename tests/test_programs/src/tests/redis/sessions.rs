@@ -47,7 +47,7 @@ where
     };
     let mut on = BlockOn::new(rt)?;
     let mut requests = FramedRead::new(alloc, reader, Requests::new(alloc, Limits::USUAL));
-    let (mut encoder, mut store) = (Replies::USUAL, Store::new(alloc));
+    let (mut encoder, mut store) = (Replies::USUAL, Store::new(alloc, usize::MAX));
     Ok(serve_session(&mut on, rt, &mut requests, taken, &mut encoder, &mut store))
 }
 

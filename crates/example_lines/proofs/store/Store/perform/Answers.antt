@@ -16,3 +16,6 @@ returns-in-Malformed c = rw c.in-Malformed.is (c.say-in-Malformed.ensures (store
 
 pub returns-in-Unknown : goal.returns-in-Unknown
 returns-in-Unknown c = rw c.in-Unknown.is (c.say-in-Unknown.ensures (stored c.args.self.now))
+
+pub returns-in-Web : goal.returns-in-Web
+returns-in-Web c = rw c.in-Web.is (c.say_last-in-Web.ensures (stored c.args.self.now))

@@ -1,6 +1,3 @@
-use Rattle.std.proofs.Common.{◌∙◌, ap, length, refl}
-use Rattle.example_redis.specs.Commands.{Said, said}
-use Rattle.example_redis.specs.Laws.Commands.{said_array}
 use Rattle.example_redis.specs.Store.{held}
 use Rattle.example_redis.proofs.store.Store.does.Goals as goal
 
@@ -22,13 +19,32 @@ returns-in-Delete c = rw c.in-Delete.is (c.answer_delete.ensures c.args.name.now
 pub returns-in-Size : goal.returns-in-Size
 returns-in-Size c = rw c.in-Size.is (c.answer_size.ensures c.args.name.now)
 
-pub returns-in-Unknown : goal.returns-in-Unknown
-returns-in-Unknown c = rw c.in-Unknown.is (c.unknown.ensures (held c.args.self.now))
+pub returns-in-Select : goal.returns-in-Select
+returns-in-Select c = rw c.in-Select.is (c.select.ensures (held c.args.self.now) c.args.name.now)
 
 pub returns-in-Describe : goal.returns-in-Describe
-returns-in-Describe c =
-    rw c.in-Describe.is (
-      ap said c.reply.ensures.reply ∙ said_array c.new.result ∙ ap (λ l. Said.array (length l)) c.new.ensures.items,
-      c.reply.ensures.goes_on,
-      refl,
-    )
+returns-in-Describe c = rw c.in-Describe.is (c.describe.ensures (held c.args.self.now) c.args.name.now)
+
+pub returns-in-Config : goal.returns-in-Config
+returns-in-Config c = rw c.in-Config.is (c.configure.ensures (held c.args.self.now) c.args.name.now)
+
+pub returns-in-Client : goal.returns-in-Client
+returns-in-Client c = rw c.in-Client.is (c.introduce.ensures (held c.args.self.now) c.args.name.now)
+
+pub returns-in-Exec : goal.returns-in-Exec
+returns-in-Exec c = rw c.in-Exec.is (c.exec.ensures (held c.args.self.now) c.args.name.now)
+
+pub returns-in-Discard : goal.returns-in-Discard
+returns-in-Discard c = rw c.in-Discard.is (c.discard.ensures (held c.args.self.now) c.args.name.now)
+
+pub returns-in-Multi : goal.returns-in-Multi
+returns-in-Multi c = rw c.in-Multi.is (c.begin_transaction.ensures c.args.name.now)
+
+pub returns-in-Quit : goal.returns-in-Quit
+returns-in-Quit c = rw c.in-Quit.is (c.quit.ensures (held c.args.self.now))
+
+pub returns-in-Web : goal.returns-in-Web
+returns-in-Web c = rw c.in-Web.is (c.hang_up.ensures (held c.args.self.now))
+
+pub returns-in-Unknown : goal.returns-in-Unknown
+returns-in-Unknown c = rw c.in-Unknown.is (c.unknown.ensures (held c.args.self.now))
