@@ -13,7 +13,7 @@ use std::io;
 use std::io::ErrorKind;
 use std::test::Fail;
 use test_support::{by_kind, is_done};
-use tokio::io::{duplex, read_to_end, write_all};
+use tokio::io::{duplex, read_exact, read_to_end, write_all};
 
 #[test]
 fn lines_over_a_duplex(rt: HostRuntime) -> Result<(), Fail> {
@@ -77,6 +77,24 @@ fn a_buffered_writer_under_the_copy_of_tokio(rt: HostRuntime) -> Result<(), Fail
     assert_eq!(rt; copied?, 19);
     let (_end, read) = read?;
     assert_eq!(rt; read.as_slice(), b"by tokio, over ours".as_slice());
+    Ok(())
+}
+
+// Calls of tokio that own their writer or reader, over those of this library: each hands it back.
+#[test]
+fn calls_by_value_hand_back_what_they_own(rt: HostRuntime) -> Result<(), Fail> {
+    let alloc = rt.alloc();
+    let writer = Vec::<u8>::new(alloc).compat();
+    let (writer, _text) = block_on_there(&rt, write_all(writer, b"by value".as_slice()))??;
+    let written = writer.into_inner();
+    assert_eq!(rt; written.as_slice(), b"by value".as_slice());
+
+    let Ok(reader) = BufReader::with_capacity(alloc, 3, written.as_slice()) else {
+        return Err(AllocError.into());
+    };
+    let (reader, read) = block_on_there(&rt, read_exact(reader.compat(), vec![in alloc; 0; 2]?))??;
+    assert_eq!(rt; read.as_slice(), b"by".as_slice());
+    assert_eq!(rt; reader.get_ref().buffer(), b" ".as_slice());
     Ok(())
 }
 
