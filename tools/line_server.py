@@ -16,7 +16,7 @@ FOLDER = "docs/guide/on-one-thread/line_server"
 CLIENT = "line_client"
 CRATES = Crates(
     (f"docs/guide/on-one-thread/{CLIENT}", f"{CLIENT} may_wait=3: compat futures_lite bytes tokio"),
-    (FOLDER, "line_server may_wait=2: compat framed futures_lite bytes futures tokio"),
+    (FOLDER, "line_server may_wait=3: compat framed futures_lite bytes futures tokio"),
 )
 
 
