@@ -13,7 +13,7 @@ HALL = "docs/guide/on-one-thread"
 CRATES = Crates(
     (f"{HALL}/chat_room", "chat_room: bytes"),
     (f"{HALL}/chat_session", "chat_session: chat_room framed futures_lite bytes futures"),
-    (f"{HALL}/chat_server", "chat_server may_wait=2: chat_session chat_room compat framed futures_lite bytes futures tokio"),
+    (f"{HALL}/chat_server", "chat_server may_wait=3: chat_session chat_room compat framed futures_lite bytes futures tokio"),
 )
 # How many members there may be, how many lines may wait for one, and how many bytes a line has.
 MEMBERS, WAITING = (number_in(f"{HALL}/chat_server/src/hall.rs", it) for it in ("MEMBERS", "WAITING"))
