@@ -39,6 +39,8 @@ class Member(Talk):
         super().__init__(port, options)
         self.name = b"%s:%d" % tuple(it if isinstance(it, int) else it.encode() for it in self.socket.getsockname())
         self.told, self.open, self.is_over = [], b"", False
+        # How many lines of others it was told, and how many of them left.
+        self.lines, self.gone = 0, 0
 
     def take(self):
         """Takes what was told by now."""
@@ -51,11 +53,16 @@ class Member(Talk):
         self.is_over = not piece
         *lines, self.open = (self.open + piece).split(b"\n")
         self.told += lines
+        self.lines += sum(b": " in it for it in lines)
+        self.gone += sum(it.endswith(b" has left") for it in lines)
 
-    def heard(self, name):
-        """Returns what was told of the member of this name, in order."""
-        head = name + b": "
-        return [it[len(head) :] for it in self.told if it.startswith(head)]
+    def heard(self):
+        """Returns what was told of each other member, in order, by its name."""
+        found = {}
+        for name, between, text in (it.partition(b": ") for it in self.told):
+            if between:
+                found.setdefault(name, []).append(text)
+        return found
 
 
 @contextlib.contextmanager
@@ -106,8 +113,9 @@ def compare(found, said):
     """Each member was told what each other one said, once and in order, and nothing of itself."""
     for it in found:
         agrees(not it.is_over, "a member lost its connection")
+        heard = it.heard()
         for name, lines in said.items():
-            agree(it.heard(name), [] if name == it.name else lines)
+            agree(heard.get(name, []), [] if name == it.name else lines)
 
 
 def tell(at, count, said_by):
@@ -116,7 +124,7 @@ def tell(at, count, said_by):
         said = {it.name: said_by(n) for n, it in enumerate(found)}
         lanes = [say_aside(it, said[it.name]) for it in found]
         wanted = {it.name: sum(len(lines) for name, lines in said.items() if name != it.name) for it in found}
-        listen(found, lambda: all(sum(b": " in line for line in it.told) >= wanted[it.name] for it in found))
+        listen(found, lambda: all(it.lines >= wanted[it.name] for it in found))
         for it in lanes:
             it.join(PATIENCE)
         compare(found, said)
@@ -142,7 +150,7 @@ def some_read_nothing(at):
         speaker, *others = found
         for n in range(0, LOUD, LOUD_TURN):
             sends = say_aside(speaker, lines[n : n + LOUD_TURN])
-            listen(others, lambda: all(len(it.heard(speaker.name)) >= n + LOUD_TURN for it in others))
+            listen(others, lambda: all(it.lines >= n + LOUD_TURN for it in others))
             sends.join(PATIENCE)
         gone = full.name + b" has left"
         listen(others, lambda: all(gone in it.told for it in others))
@@ -164,7 +172,7 @@ def come_and_go(at):
                 guest.say(b"here\n")
             listen(found, lambda: all(guest.name + b" has left" in it.told for it in found))
             for it in found:
-                agree(it.heard(guest.name), [b"here"])
+                agree(it.heard()[guest.name], [b"here"])
 
 
 def is_refused(at):
@@ -178,9 +186,9 @@ def is_refused(at):
             agree(guest.hear_all(), b"")
         with Member(at.port) as guest:
             guest.say(b"reset\nhalf")
-            listen([one], lambda: one.heard(guest.name) == [b"reset"])
+            listen([one], lambda: one.heard().get(guest.name) == [b"reset"])
             guest.reset()
-        listen([one, other], lambda: all(sum(b" has left" in line for line in it.told) == 3 for it in (one, other)))
+        listen([one, other], lambda: all(it.gone == 3 for it in (one, other)))
 
 
 def is_slow(at):
@@ -189,7 +197,7 @@ def is_slow(at):
         lines = [b"slow line %d" % it for it in range(20)]
         for byte in b"".join(it + b"\n" for it in lines):
             found[0].say(bytes([byte]))
-        listen(found[1:], lambda: all(len(it.heard(found[0].name)) == 20 for it in found[1:]))
+        listen(found[1:], lambda: all(it.lines == 20 for it in found[1:]))
         compare(found, {found[0].name: lines})
 
 
@@ -207,7 +215,7 @@ class Guests:
     """Guests who come, talk, and go in every way, beside members who have to be told all."""
 
     def __init__(self, at, seconds):
-        self.at, self.end, self.said, self.wrong = at, time.monotonic() + seconds, {}, []
+        self.at, self.end, self.said, self.visits, self.wrong = at, time.monotonic() + seconds, {}, [], []
 
     def lane(self, n):
         kinds = random.Random(n)
@@ -223,7 +231,9 @@ class Guests:
             said = b"".join(it + b"\n" for it in lines)
             if kinds.random() < 0.3:
                 said = said[: kinds.randrange(len(said))]
-            self.said.setdefault(guest.name, []).append(said.split(b"\n")[:-1])
+            # (a port may come twice)
+            self.said.setdefault(guest.name, []).extend(said.split(b"\n")[:-1])
+            self.visits.append(guest.name)
             guest.say(said)
             if kinds.random() < 0.3:
                 time.sleep(kinds.random() / 10)
@@ -241,17 +251,11 @@ def soaks(at):
         begun = at.held()
         listen(found, lambda: not any(it.is_alive() for it in lanes), at.soak + PATIENCE)
         agrees(not guests.wrong, "; ".join(guests.wrong[:3]))
-        listen(found, lambda: all(is_told(it, guests.said) for it in found))
+        listen(found, lambda: all(it.gone == len(guests.visits) for it in found))
         for it in found:
-            for name, visits in guests.said.items():
-                agree(it.heard(name), [line for lines in visits for line in lines])
+            agree(it.heard(), {name: lines for name, lines in guests.said.items() if lines})
         grown = at.held() - begun
         agrees(grown < GROWS, f"the server grew by {grown} KiB")
-
-
-def is_told(member, said):
-    """Whether the member was told that each guest left."""
-    return sum(b" has left" in it for it in member.told) >= sum(map(len, said.values()))
 
 
 RUNS = {

@@ -1,4 +1,7 @@
 //! What is answered to the requests of a connection.
+ghost use Rattle.std.specs.Prelude.{◌≡◌, ◌++◌, ◌∷◌, [], OnOk};
+ghost use Rattle.line_server.specs.Connection.{AddsLine};
+
 use crate::store::Store;
 use framed::FrameError;
 use std::alloc::{AllocError, Global};
@@ -32,7 +35,9 @@ impl Session {
     }
 
     /// Performs a request, and puts its reply, a line, behind what `out` has.
-    pub fn answer(&self, request: &[u8], out: &mut Vec<u8>) -> Result<Then, AllocError> {
+    pub fn answer(&self, request: &[u8], out: &mut Vec<u8>) -> Result<Then, AllocError>
+        ensures { OnOk result (AddsLine out.old.items out.new.items) }
+    {
         let (reply, then) = match str::from_utf8(request) {
             // (a reply that ends in a return would not be a line)
             Ok(text) if !text.ends_with('\r') => (self.perform(text)?, after(text)),
@@ -88,7 +93,9 @@ fn after(text: &str) -> Then {
 }
 
 /// Puts a text and a newline behind what `out` has.
-pub fn put_line(out: &mut Vec<u8>, text: &[u8]) -> Result<(), AllocError> {
+pub fn put_line(out: &mut Vec<u8>, text: &[u8]) -> Result<(), AllocError>
+    ensures { OnOk result (out.new.items ≡ out.old.items ++ text.now ++ 10 ∷ []) }
+{
     out.extend_from_slice(text)?;
     out.push(b'\n').map_err(|_| AllocError)
 }
