@@ -145,21 +145,24 @@ pub trait CompatExt {
     ///
     /// # Examples
     ///
-    /// A future of this library, which waits for one of the toolchain, in an executor of the toolchain.
+    /// A task of this library in an executor of the toolchain. It sends numbers to a future of this library.
     ///
     /// ```
     /// use compat::CompatExt;
-    /// use futures::channel::oneshot;
+    /// use futures::channel::mpsc;
     /// use futures::executor::LocalPool;
-    /// use futures_lite::future;
+    /// use futures_lite::{StreamExt, stream};
     ///
-    /// let (sender, receiver) = oneshot::channel::<u8>(rt.alloc())?;
-    /// assert!(rt; sender.send(7).is_ok());
-    /// let waiting = future::zip(receiver.compat(), future::ready(1u8));
-    ///
+    /// let (sender, receiver) = mpsc::unbounded::<u64>(rt.alloc())?;
+    /// let sending = stream::iter(1..=3u64).for_each(move |n: u64| {
+    ///     let _ = sender.unbounded_send(n);
+    /// });
     /// let mut pool = LocalPool::new(&rt)?;
-    /// let (got, one) = pool.run_until(&rt, waiting.compat())?;
-    /// assert_eq!(rt; (got.ok(), one), (Some(7), 1));
+    /// assert!(rt; pool.spawner()?.spawn(sending.compat()).is_ok());
+    ///
+    /// let numbers = receiver.compat().with_budget(16);
+    /// let last = numbers.last();
+    /// assert_eq!(rt; pool.run_until(&rt, last.compat())?, Some(3));
     /// ```
     final fn compat(self) -> Compat<Self>
     where
