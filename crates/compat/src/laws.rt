@@ -1,5 +1,5 @@
 //! What is kept between the two sides.
-ghost use Rattle.std.specs.Prelude.{◌≡◌, ◌++◌, ◌∷◌, List, Option, Some, false, map, ℕ};
+ghost use Rattle.std.specs.Prelude.{◌≡◌, ◌⊎◌, ◌++◌, ◌∷◌, List, Option, Some, false, map, ℕ};
 ghost use Rattle.compat.specs.FromKit.{KitLists, StreamStep};
 ghost use Rattle.compat.specs.ToKit.{FinishesWith, GaveBytes, TookBytes, YieldsUpTo};
 ghost use Rattle.compat.specs.Uses.{Answer, FoldsTo, ReadMark, WriteMark, bytes_taken, bytes_told, strip};
@@ -8,6 +8,7 @@ ghost use Rattle.lite_views.specs.Views.{ListsAs};
 
 use crate::compat::Compat;
 use lite_base::{Future, Stream};
+use lite_future::Or;
 use lite_io_base::{AsyncRead, AsyncWrite, ReadSpec, WriteSpec};
 
 /// States that a future of the toolchain gives each value that it has here, and each that it has when it is wrapped
@@ -144,6 +145,28 @@ pub fn writer_comes_back<W: AsyncWrite + Drop>(_writer: &Compat<Compat<W>>)
 where
     ensures { (x : _) (y : _) (l : List WriteMark) → ⟦<Compat<Compat<W>> as WriteSpec>⟧.writes x l y
         → TookBytes W.writes (Compat.inner (Compat.inner x)) (bytes_taken l) (Compat.inner (Compat.inner y)) }
+{}
+
+/// States that a nest of this library over two futures of the toolchain needs the sources of both, if it is wrapped for
+/// the toolchain again.
+///
+/// So what the toolchain's event loop says of the sources that a task needs holds of those below a nest of this library.
+///
+/// # Examples
+///
+/// ```
+/// use compat::{Compat, needs_both};
+/// use futures_lite::future;
+///
+/// let (one, other) = (futures::future::ready(7u8), futures::future::pending());
+/// needs_both(&Compat::new(future::or(Compat::new(one), Compat::new(other))));
+/// ```
+pub fn needs_both<A, B>(nest: &Compat<Or<Compat<A>, Compat<B>>>)
+where
+    A: futures::Future,
+    B: futures::Future<Output = A::Output>,
+    ensures { (s : ℕ) → A.needs nest.now.inner.future1.inner s ⊎ B.needs nest.now.inner.future2.inner s
+        → ⟦<Compat<Or<Compat<A>, Compat<B>>> as futures::Future>⟧.needs nest.now s }
 {}
 
 /// Wraps a stream of the toolchain, and passes its list on.

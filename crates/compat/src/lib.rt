@@ -15,7 +15,7 @@ mod wait;
 
 pub use compat::{Compat, CompatExt};
 pub use laws::{
-    future_comes_back, gives_same, reader_comes_back, reads_same, stream_comes_back,
+    future_comes_back, gives_same, needs_both, reader_comes_back, reads_same, stream_comes_back,
     stream_from_kit, writer_comes_back, writes_same, yields_same,
 };
 pub use wait::{collect_from_kit, wait_from_kit};
