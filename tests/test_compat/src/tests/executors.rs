@@ -1,4 +1,5 @@
 //! Futures of this library in executors and combinators of the toolchain.
+use super::error_of;
 use compat::CompatExt;
 use futures::StreamExt as _;
 use futures::channel::{mpsc, oneshot};
@@ -36,17 +37,23 @@ fn tasks_wake_each_other(rt: HostRuntime) -> Result<(), Fail> {
             .with_budget(8)
             .for_each(move |n: u64| {
                 let _ = steps.fetch_add(1, Ordering::SeqCst);
-                let _ = output.unbounded_send(n);
+                // A number that is not sent ends the next task, and so each behind it.
+                if output.unbounded_send(n).is_err() {
+                    output.close_channel();
+                }
             });
         if spawner.spawn(task.compat()).is_err() {
             return Err(AllocError.into());
         }
     }
-    assert!(rt; start.unbounded_send(0).is_ok());
+    assert_eq!(rt; error_of(alloc, &start.unbounded_send(0))?.as_str(), "");
     drop(start);
     drop(spawner);
     pool.run(&rt);
-    assert_eq!(rt; steps.load(Ordering::SeqCst), 300);
+    // (a number that could not be sent ends them)
+    if steps.load(Ordering::SeqCst) != 300 {
+        return Err(AllocError.into());
+    }
     Ok(())
 }
 
@@ -55,7 +62,9 @@ fn a_set_of_the_toolchain_runs_futures_of_this_library(rt: HostRuntime) -> Resul
     let mut sums = FuturesUnordered::new(rt.alloc())?;
     for n in 1..=4u64 {
         let sum = stream::iter(0..n).fold(0u64, |sum: u64, x: u64| sum.wrapping_add(x));
-        assert!(rt; sums.push(sum.compat()).is_ok());
+        if sums.push(sum.compat()).is_err() {
+            return Err(AllocError.into());
+        }
     }
     let sorted = sums.compat().with_budget(2).collect::<Vec<u64>>(rt.alloc());
     let mut sorted = future::block_on(&rt, sorted)?.map_err(|_| AllocError)?;

@@ -1,4 +1,5 @@
 //! Crates of the toolchain over readers and writers of this library.
+use super::error_of;
 use bytes::{Bytes, BytesMut};
 use compat::CompatExt;
 use futures::executor::block_on as block_on_there;
@@ -49,8 +50,8 @@ fn hyper_serves_over_a_reader_with_a_budget(rt: HostRuntime) -> Result<(), Fail>
         &rt,
         join(serving, read_to_end(far, BytesMut::new(alloc))),
     )?;
-    assert!(rt; served.is_ok());
     let (_end, read) = read?;
+    assert_eq!(rt; error_of(alloc, &served)?.as_str(), "");
     assert!(rt; read.as_slice().starts_with(b"HTTP/1.1 204 No Content\r\n"));
     Ok(())
 }
@@ -70,8 +71,11 @@ fn frames_of_tokio_util_over_buffers_of_this_library(rt: HostRuntime) -> Result<
     let sink = FramedWrite::new(alloc, writer.compat(), LinesCodec::new_with_max_length(40))?;
     let sending = futures::stream::iter([Ok("one"), Ok("and two"), Ok("")]).forward(sink);
     let (sent, lines) = block_on_there(&rt, join(sending, frames.collect(alloc)))?;
-    assert!(rt; sent.is_ok());
     let lines = lines?;
+    for line in &lines {
+        assert_eq!(rt; error_of(alloc, line)?.as_str(), "");
+    }
+    assert_eq!(rt; error_of(alloc, &sent)?.as_str(), "");
     assert_eq!(rt; lines.len(), 3);
     assert!(rt; matches!(&lines[1], Ok(line) if line.as_str() == "and two"));
     Ok(())

@@ -1,4 +1,5 @@
 //! Items of streams, their ends, and channels.
+use super::error_of;
 use compat::{CompatExt, stream_from_kit};
 use futures::StreamExt as _;
 use futures::channel::mpsc;
@@ -25,8 +26,8 @@ fn or_merges_two_channels(rt: HostRuntime) -> Result<(), Fail> {
     let (mut one, left) = mpsc::channel::<u32>(alloc, 4)?;
     let (mut two, right) = mpsc::channel::<u32>(alloc, 4)?;
     for n in 0..4u32 {
-        assert!(rt; one.try_send(n).is_ok());
-        assert!(rt; two.try_send(n + 10).is_ok());
+        assert_eq!(rt; error_of(alloc, &one.try_send(n))?.as_str(), "");
+        assert_eq!(rt; error_of(alloc, &two.try_send(n + 10))?.as_str(), "");
     }
     drop(one);
     drop(two);
@@ -47,11 +48,9 @@ fn a_nest_of_this_library_is_forwarded_into_a_channel(rt: HostRuntime) -> Result
     let forwarding = sent.compat().forward(sender);
     let all = receiver.compat().with_budget(8).collect::<Vec<u8>>(alloc);
     let (all, forwarded) = future::block_on(&rt, future::zip(all, forwarding.compat()))?;
-    assert!(rt; forwarded.is_ok());
-    assert_eq!(rt;
-        all.map_err(|_| AllocError)?.as_slice(),
-        [0, 2, 4].as_slice()
-    );
+    let all = all.map_err(|_| AllocError)?;
+    assert_eq!(rt; error_of(alloc, &forwarded)?.as_str(), "");
+    assert_eq!(rt; all.as_slice(), [0, 2, 4].as_slice());
     Ok(())
 }
 

@@ -7,6 +7,7 @@ use futures::task::Poll;
 use futures::test::MockTask;
 use futures_lite::future::BlockOn;
 use futures_lite::{Future, future};
+use std::alloc::AllocError;
 use std::test::Fail;
 use std::thread;
 
@@ -93,7 +94,9 @@ fn polls_of_a_join(rt: HostRuntime) -> Result<(), Fail> {
         });
         let mut pool = LocalPool::new(&rt)?;
         let spawner = pool.spawner()?;
-        assert!(rt; spawner.spawn(sending).is_ok());
+        if spawner.spawn(sending).is_err() {
+            return Err(AllocError.into());
+        }
         if is_wrapped {
             let _ = pool.run_until(&rt, join(got_first.compat().compat(), counting))?;
         } else {
