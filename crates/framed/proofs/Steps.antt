@@ -1,15 +1,15 @@
 -- One step of a poll of a framed reader.
-use Rattle.std.specs.Prelude.{◌≡◌, ◌⊎◌, ◌≤◌, ◌-◌, ◌<◌, ◌==◌, true, false, ℕ, List, [], ◌∷◌, ◌++◌, length, take, drop, Option, Some, None, Result, Ok, Err}
+use Rattle.std.specs.Prelude.{◌≡◌, ◌⊎◌, ◌≤◌, ◌+◌, ◌-◌, ◌<◌, ◌==◌, true, false, ℕ, List, [], ◌∷◌, ◌++◌, length, take, drop, Option, Some, None, Result, Ok, Err}
 use Rattle.std.specs.IoError.{error_kind}
 use Rattle.std.specs.List.{FoldsTo}
 use Rattle.std.specs.declared.io.Error.{Error}
-use Rattle.std.proofs.Common.{◌∙◌, ap, append-nil, arith, drop_at, eqb-true, inl, inr, length-append, le_refl, refl, subst, sym, take_all, take_at}
+use Rattle.std.proofs.Common.{◌∙◌, ap, append-nil, append_assoc, arith, drop_at, eqb-true, inl, inr, length-append, length-take-le, refl, subst, sym, take-append-drop, take_at}
 use Rattle.std.proofs.lemmas.List.{map-append}
 use Rattle.framed.specs.Uses.{Answer, MarkLaws, Pending, Reaches, ReadMark, Ready, Runs, bytes}
 use Rattle.lite_io_base.specs.Marks.{filled_marks}
-use Rattle.tokio_util.specs.Codec.Next.{Gives, IsStable, PartialHasNoFrame, at_end as last_frame, decoded, partial}
-use Rattle.framed.specs.FrameLaws.{TakesMore, frame_ran, goes_on, joined, last_on}
-use Rattle.framed.specs.Frames.{FrameStep, Framed, InHand, InStep, Last, PollGives, NoFrame, ended, held_at, phase_of, reading}
+use Rattle.tokio_util.specs.Codec.Next.{Gives, IsStable, PartialHasNoFrame, Resumes, at_end as last_frame, decoded, partial}
+use Rattle.framed.specs.FrameLaws.{TakesMore, frame_ran, goes_on, joined, last_on, not_after, polled_on}
+use Rattle.framed.specs.Frames.{FrameStep, Framed, InHand, InStep, Last, Looks, PollGives, NoFrame, ended, held_at, phase_of, reading}
 use Rattle.framed.specs.Prompt.{PromptLaws}
 use Rattle.framed.specs.declared.framed_read.Stage.{Stage}
 use Rattle.framed.specs.declared.framed_read.Stage.TheVariants.{AtEnd, Done, Fresh, Open}
@@ -81,35 +81,43 @@ still_in_step gives c Open buffer shown later none h = h
 still_in_step gives c AtEnd buffer shown later none h = tt
 still_in_step gives c Done buffer shown later none h = tt
 
--- A frame that was found in the buffer takes the bytes held and some of those that are shown.
-pub whole_taken : (xs : List ℕ) → take (length xs) xs ≡ xs
-whole_taken xs = take_all (length xs) xs (le_refl (length xs))
-
 pub look_refused : {D X E : Type 0} (gives : Gives D X E) (c : D) (held shown whole : List ℕ) (e : E) (t : D) (ys : List ℕ)
     → whole ≡ held ++ shown → gives c whole (decoded (Err e) t ys) → gives c (held ++ shown) (decoded (Err e) t ys)
 look_refused gives c held shown whole e t ys is found = rw is at found
 
+-- A frame that was found in the buffer takes the bytes held and some of the piece of those shown that was looked at.
 pub look_splits : {D X E : Type 0} {gives : Gives D X E} {owes : D → ℕ} → PromptLaws gives owes → IsStable gives
-    → PartialHasNoFrame gives → (c : D) (stage : Stage) (buffer shown whole : List ℕ) (v : X) (t : D) (ys : List ℕ)
-    → phase_of stage ≡ reading → InStep gives c stage buffer shown → whole ≡ held_at stage buffer ++ shown
-    → gives c whole (decoded (Ok v) t ys) → Splits gives c (held_at stage buffer) shown v t ys
-look_splits {gives} laws stable no_frame c stage buffer shown whole v t ys was sound is found =
-    splits laws stable no_frame c (held_at stage buffer) shown v t ys (held_known gives c stage buffer shown was sound)
+    → PartialHasNoFrame gives → (c : D) (stage : Stage) (buffer shown piece whole : List ℕ) (v : X) (t : D) (ys : List ℕ)
+    → phase_of stage ≡ reading → InStep gives c stage buffer shown → whole ≡ held_at stage buffer ++ piece
+    → gives c whole (decoded (Ok v) t ys) → Splits gives c (held_at stage buffer) piece v t ys
+look_splits {gives} laws stable no_frame c stage buffer shown piece whole v t ys was sound is found =
+    splits laws stable no_frame c (held_at stage buffer) piece v t ys (held_known gives c stage buffer shown was sound)
     (rw is at found)
 
-module _ (s xs ys : List ℕ) (cut : s ≡ xs ++ ys) where
-  pub rest_within : length ys ≤ length s
-  rest_within = omega (arith, ap length cut, length-append xs ys)
+-- Of the first `n` of the bytes shown, `s`, the frame takes `xs`.
+module _ (s xs ys : List ℕ) (n : ℕ) (fits : n ≤ length s) (cut : take n s ≡ xs ++ ys) where
+  both_length : n ≡ length xs + length ys
+  both_length = omega (arith, length-take-le n s fits, ap length cut, length-append xs ys)
 
-  front_length : length s - length ys ≡ length xs
-  front_length = omega (arith, ap length cut, length-append xs ys)
+  pub rest_within : length ys ≤ n
+  rest_within = omega (arith, both_length)
 
-  -- Without the bytes behind it, the bytes shown are those of the frame.
-  pub front_taken : take (length s - length ys) s ≡ xs
-  front_taken = rw (front_length, cut) (take_at xs ys (length xs) refl)
+  front_length : n - length ys ≡ length xs
+  front_length = omega (arith, both_length)
 
-  pub rest_left : drop (length s - length ys) s ≡ ys
-  rest_left = rw (front_length, cut) (drop_at xs ys (length xs) refl)
+  pub front_cut : s ≡ xs ++ (ys ++ drop n s)
+  front_cut = sym (take-append-drop n s) ∙ ap (λ l. l ++ drop n s) cut ∙ append_assoc xs ys (drop n s)
+
+  -- Without the bytes behind it, those that were looked at are those of the frame.
+  pub front_taken : take (n - length ys) s ≡ xs
+  front_taken = rw (front_length, front_cut) (take_at xs (ys ++ drop n s) (length xs) refl)
+
+  pub rest_left : drop (n - length ys) s ≡ ys ++ drop n s
+  rest_left = ap (λ k. drop k s) front_length ∙ ap (drop (length xs)) front_cut ∙ drop_at xs (ys ++ drop n s) (length xs) refl
+
+-- Only of no bytes is a front of some bytes empty.
+pub none_looked : (n : ℕ) (s : List ℕ) → n ≤ length s → (n ≡ 0 → s ≡ []) → take n s ≡ [] → s ≡ []
+none_looked n s fits none e = none (omega (arith, length-take-le n s fits, ap length e))
 
 pub none_shown : (xs : List ℕ) → true ≡ (length xs == 0) → xs ≡ []
 none_shown [] e = refl
@@ -127,6 +135,50 @@ no_mark reads (x ∷ xs) some h = h
 
 more_length : (xs ys : List ℕ) → 0 < length ys → 0 < length (xs ++ ys)
 more_length xs ys some = omega (arith, length-append xs ys, some)
+
+-- Of some of the bytes shown came no frame, and `x` became `m`.
+module _ {T D X E : Type 0} (gives : Gives D X E) (from_gives : Error → E → Type 0) (reads : Runs ReadMark T)
+    (laws : MarkLaws reads) (no_frame : PartialHasNoFrame gives) (buffer_of : T → List ℕ) (x m : Framed T D)
+    (was : x.phase ≡ reading) (h : Looks gives from_gives reads buffer_of x Pending m) where
+  both_came : (xs : List ℕ) (s : T) → reads m.reader (bytes xs) s → reads x.reader (bytes (h.0 ++ xs)) s
+  both_came xs s came =
+      subst (λ l. reads x.reader l s) (sym (map-append ReadMark.byte h.0 xs)) (laws.follows _ _ _ _ _ h.1 came)
+
+  -- What is in hand at `m` is in hand at `x`.
+  pub looked_on : (a : Answer (Result X E)) (z : Framed T D) → InHand gives from_gives reads buffer_of m a z
+      → InHand gives from_gives reads buffer_of x a z
+  looked_on Pending z k = (
+    was,
+    subst (λ l. reads x.reader (bytes l) z.reader) (sym h.2) (both_came _ _ k.1),
+    k.2,
+    (k.3.0, k.3.1, subst (λ l. Resumes gives x.decoder (x.held ++ l) z.decoder z.held) (sym h.2) (goes_on gives x m z h.0 h.4.2 _ k.3.2)),
+  )
+  looked_on (Ready r) z (inl after) = absurd (not_after gives m z r h.4.0 after)
+  looked_on (Ready r) z (inr k) =
+      inr (
+        was,
+        h.0 ++ k.1,
+        both_came _ _ k.2,
+        (k.3.0, h.2 ∙ ap (λ l. h.0 ++ l) k.3.1 ∙ sym (append_assoc h.0 k.1 k.3.0)),
+        polled_on gives x m z h.0 h.4.2 no_frame h.4.1 from_gives k.1 [] (Ready r) k.4,
+      )
+
+  -- Nothing more is shown.
+  pub looked_all : buffer_of m.reader ≡ [] → InHand gives from_gives reads buffer_of x Pending m
+  looked_all none =
+      let all : buffer_of x.reader ≡ h.0 = h.2 ∙ ap (λ l. h.0 ++ l) none ∙ append-nil h.0 in (
+        was,
+        subst (λ l. reads x.reader (bytes l) m.reader) (sym all) h.1,
+        none,
+        (h.4.0, h.4.1, subst (λ l. Resumes gives x.decoder (x.held ++ l) m.decoder m.held) (sym all) h.4.2),
+      )
+
+  less_by : (xs ys zs : List ℕ) → ys ≡ xs ++ zs → (xs ≡ [] → ys ≡ []) → 0 < length zs → length zs < length ys
+  less_by [] ys zs e none some = absurd (omega (arith, ap length e, ap length (none refl), some))
+  less_by (a ∷ xs) ys zs e none some = omega (arith, ap length e, length-append (a ∷ xs) zs)
+
+  pub less_shown : 0 < length (buffer_of m.reader) → length (buffer_of m.reader) < length (buffer_of x.reader)
+  less_shown some = less_by h.0 _ _ h.2 h.3 some
 
 -- No frame was in hand at `x`, which became `m`. Then the reader of `m` was filled.
 module _ {T D X E : Type 0} (gives : Gives D X E) (from_gives : Error → E → Type 0) (reads : Runs ReadMark T)

@@ -110,6 +110,13 @@ module _ {T D X E : Type 0} (gives : Gives D X E) where
           ⊎ ((x.phase ≡ reading) × (xs : List ℕ) × reads x.reader (bytes xs) y.reader × StandsFirst xs (buffer_of x.reader)
           × PollGives x xs [] (Ready r) y)
 
+      -- A look at some of the bytes that the reader shows, `buffer_of`. `Pending`: of those that were looked at came no whole frame,
+      -- and they were taken. If any are shown, some were looked at.
+      abbrev pub Looks : (T → List ℕ) → Framed T D → Answer (Result X E) → Framed T D → Type 0
+      Looks buffer_of x Pending y = (xs : List ℕ) × reads x.reader (bytes xs) y.reader
+          × (buffer_of x.reader ≡ xs ++ buffer_of y.reader) × (xs ≡ [] → buffer_of x.reader ≡ []) × NoFrame x xs y
+      Looks buffer_of x (Ready r) y = InHand buffer_of x (Ready r) y
+
 -- The rank: that of the reader, then whether the input goes on, then the bytes and the frames that are left.
 abbrev pub phase_rank : {D : Type 0} → (D → ℕ) → Phase → D → List ℕ → List ℕ
 phase_rank owes reading c held = 1 ∷ 0 ∷ owes c ∷ []

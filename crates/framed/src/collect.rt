@@ -5,7 +5,7 @@ ghost use Rattle.framed.specs.Frames.{ended, ending, reading};
 ghost use Rattle.framed.specs.Whole.{Collects, CollectsLast, CollectsNone};
 
 use crate::framed_read::FramedRead;
-use crate::next_frame::wait_frame;
+use crate::next_frame::frame_by;
 use crate::prompt_decoder::PromptDecoder;
 use lite_base::future::block_on::BlockOn;
 use lite_io_base::{AsyncBufRead, CountedRead};
@@ -62,9 +62,10 @@ where
     ensures over { framed.old.phase ≡ ended → (framed.new ≡ framed.old) × CollectsNone result }
     ensures again { T.ranks.counts framed.new.reader }
 {
+    let waits = &mut on.waits();
     let mut frames = Vec::new(rt.alloc());
     for _ in rt.forever() {
-        match wait_frame(on, rt, framed) {
+        match frame_by(waits, rt, framed) {
             Some(Ok(frame)) => {
                 if let Err(e) = frames.push(frame) {
                     return Err(D::Error::from(io::Error::from(e)));

@@ -1,12 +1,12 @@
 //! A stream of the frames that a decoder finds in a reader.
-ghost use Rattle.std.specs.Prelude.{◌≡◌, ◌⊎◌, ◌==◌, ◌↔◌, ◌++◌, [], Err, IfOk, IsTrue, List, None, OnErr, OnOk, Some, length, ℕ};
+ghost use Rattle.std.specs.Prelude.{◌≡◌, ◌⊎◌, ◌==◌, ◌≤◌, ◌↔◌, ◌++◌, [], Err, IfOk, IsTrue, List, None, OnErr, Some, length, take, ℕ};
 ghost use Rattle.std.specs.List.{FoldsTo};
 ghost use Rattle.framed.specs.Uses.{IfReady, Keeps, Registered, bytes, fill_marks};
 ghost use Rattle.lite_base.specs.Chain.{OneStep};
 ghost use Rattle.lite_base.specs.Laws.Ranks.{Terminates-map};
 ghost use Rattle.lite_base.specs.Laws.Streams.{stream_by_keeping_steps};
 ghost use Rattle.lite_base.specs.Runs.{NoHint};
-ghost use Rattle.framed.specs.Frames.{FrameStep, InHand, Last, ended, ending, frame_ranks, held_at, reading};
+ghost use Rattle.framed.specs.Frames.{FrameStep, InHand, Last, Looks, ended, ending, frame_ranks, held_at, reading};
 ghost use Rattle.framed.specs.FrameLaws.{TakesMore, frame_counts, frames_counting, takes_given};
 
 use crate::fill::fill;
@@ -55,6 +55,9 @@ pub struct FramedRead<T: AsyncBufRead, D: PromptDecoder> {
     buffer: BytesMut,
     stage: Stage,
 }
+
+// How many bytes are copied at once for the decoder, or as many as it has of an open frame.
+const MOST_AT_ONCE: usize = 8 * 1024;
 
 /// Where a framed reader stands in its input.
 #[derive(Clone, Copy)]
@@ -232,28 +235,46 @@ impl<T: AsyncBufRead, D: PromptDecoder> FramedRead<T, D> {
         requires { self.old.phase ≡ reading }
         ensures { InHand D.gives D.Error.from_gives T.reads T.buffer_of self.old result self.new }
     {
-        let shown = self.reader.buffer();
-        let amount = shown.len();
-        if matches!(self.stage, Stage::Open) && amount == 0 {
+        if matches!(self.stage, Stage::Open) && self.reader.buffer().is_empty() {
             return Poll::Pending;
         }
-        if let Err(e) = append_shown(&mut self.buffer, self.stage, shown) {
-            self.stage = Stage::Done;
-            return Poll::Ready(Some(Err(D::Error::from(io::Error::from(e)))));
+        'looks: loop {
+            if let Poll::Ready(item) = self.look_once() {
+                return Poll::Ready(item);
+            }
+            if self.reader.buffer().is_empty() {
+                return Poll::Pending;
+            }
         }
+    }
+
+    // The same, in as many of those that the reader shows as are copied at once.
+    #[inline(always)]
+    fn look_once(&mut self) -> Poll<Option<Result<D::Item, D::Error>>>
+        requires { self.old.phase ≡ reading }
+        ensures { Looks D.gives D.Error.from_gives T.reads T.buffer_of self.old result self.new }
+    {
+        let shown = self.reader.buffer();
+        let taken = match append_shown(&mut self.buffer, self.stage, shown) {
+            Ok(taken) => taken,
+            Err(e) => {
+                self.stage = Stage::Done;
+                return Poll::Ready(Some(Err(D::Error::from(io::Error::from(e)))));
+            }
+        };
         match self.decoder.decode(&mut self.buffer) {
             Ok(Some(frame)) => {
-                self.reader.consume(amount - self.buffer.len());
+                self.reader.consume(taken - self.buffer.len());
                 self.stage = Stage::Fresh;
                 Poll::Ready(Some(Ok(frame)))
             }
             Ok(None) => {
-                self.reader.consume(amount);
+                self.reader.consume(taken);
                 self.stage = Stage::Open;
                 Poll::Pending
             }
             Err(e) => {
-                self.reader.consume(amount);
+                self.reader.consume(taken);
                 self.stage = Stage::Done;
                 Poll::Ready(Some(Err(e)))
             }
@@ -307,22 +328,23 @@ impl<T: AsyncBufRead, D: PromptDecoder> FramedRead<T, D> {
     }
 }
 
-// Puts what the reader shows behind the bytes held. If memory is refused, the buffer has the bytes held.
+// Puts the first bytes that the reader shows behind the bytes held, as many as are copied at once, and returns how many. Before a
+// frame a copy that is there already serves. If memory is refused, the buffer has the bytes held.
 #[inline(always)]
-fn append_shown(buffer: &mut BytesMut, stage: Stage, shown: &[u8]) -> Result<(), AllocError>
+fn append_shown(buffer: &mut BytesMut, stage: Stage, shown: &[u8]) -> Result<usize, AllocError>
     requires { stage ≡ Stage.Fresh → (rest : List ℕ) × (shown.now ≡ buffer.old.items ++ rest) }
-    ensures whole { OnOk result (buffer.new.items ≡ held_at stage buffer.old.items ++ shown.now) }
+    ensures within { IfOk result (λ n. n ≤ length shown.now) }
+    ensures some { IfOk result (λ n. n ≡ 0 → shown.now ≡ []) }
+    ensures front { IfOk result (λ n. buffer.new.items ≡ held_at stage buffer.old.items ++ take n shown.now) }
     ensures refused { OnErr result (buffer.new.items ≡ held_at stage buffer.old.items) }
 {
-    let Stage::Fresh = stage else {
-        return buffer.extend_from_slice(shown);
-    };
-    let copied = buffer.len();
-    let appended = buffer.extend_from_slice(&shown[copied..]);
-    if appended.is_err() {
-        buffer.clear();
+    let held = buffer.len();
+    if matches!(stage, Stage::Fresh) && held > 0 {
+        return Ok(held);
     }
-    appended
+    let taken = shown.len().min(held.max(MOST_AT_ONCE));
+    buffer.extend_from_slice(&shown[..taken])?;
+    Ok(taken)
 }
 
 impl<T: AsyncBufRead + CountedRead, D: PromptDecoder> PollSteps for FramedRead<T, D> {

@@ -5,8 +5,7 @@ ghost use Rattle.framed.specs.Frames.{FrameStep};
 
 use crate::framed_read::FramedRead;
 use crate::prompt_decoder::PromptDecoder;
-use lite_base::future::Waits;
-use lite_base::future::block_on::BlockOn;
+use lite_base::future::Waiter;
 use lite_consume::make::next;
 use lite_io_base::{AsyncBufRead, CountedRead};
 use std::sync::Wait;
@@ -32,36 +31,38 @@ use std::sync::Wait;
 /// }
 /// assert!(rt; matches!(wait_frame(&mut on, &rt, &mut frames), None));
 /// ```
-pub fn wait_frame<R, T, D>(
-    on: &mut BlockOn,
+pub fn wait_frame<R, W, T, D>(
+    on: &mut W,
     rt: &R,
     framed: &mut FramedRead<T, D>,
 ) -> Option<Result<D::Item, D::Error>>
 where
     R: Wait,
+    W: Waiter,
     T: AsyncBufRead + CountedRead,
     D: PromptDecoder,
     requires { T.ranks.counts framed.old.reader }
     ensures told { FrameStep D.gives D.Error.from_gives (ToldStripped T.reads) framed.old (Ready result) framed.new }
     ensures again { T.ranks.counts framed.new.reader }
 {
-    frame_by(&mut on.waits(), rt, framed)
+    frame_by(on, rt, framed)
 }
 
 // As `wait_frame`, for waits that share a context.
 #[inline(always)]
-pub(crate) fn frame_by<R, T, D>(
-    waits: &mut Waits<'_>,
+pub(crate) fn frame_by<R, W, T, D>(
+    waits: &mut W,
     rt: &R,
     framed: &mut FramedRead<T, D>,
 ) -> Option<Result<D::Item, D::Error>>
 where
     R: Wait,
+    W: Waiter,
     T: AsyncBufRead + CountedRead,
     D: PromptDecoder,
     requires { T.ranks.counts framed.old.reader }
     ensures told { FrameStep D.gives D.Error.from_gives (ToldStripped T.reads) framed.old (Ready result) framed.new }
     ensures again { T.ranks.counts framed.new.reader }
 {
-    waits.wait_for(rt, &mut next(framed))
+    waits.wait(rt, &mut next(framed))
 }

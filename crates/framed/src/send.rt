@@ -2,8 +2,7 @@
 ghost use Rattle.framed.specs.Sending.{FlushesOnce, HandsBytes, SendsOne};
 
 use bytes::BytesMut;
-use lite_base::future::Waits;
-use lite_base::future::block_on::BlockOn;
+use lite_base::future::Waiter;
 use lite_io_base::AsyncWrite;
 use lite_write::make::{flush, write_all};
 use std::io;
@@ -36,8 +35,8 @@ use tokio_util::codec::Encoder;
 /// assert!(rt; sent.is_ok());
 /// assert_eq!(rt; written.as_slice(), b"one\n".as_slice());
 /// ```
-pub fn wait_send<R, O, X, E>(
-    on: &mut BlockOn,
+pub fn wait_send<R, W, O, X, E>(
+    on: &mut W,
     rt: &R,
     writer: &mut O,
     encoder: &mut E,
@@ -46,6 +45,7 @@ pub fn wait_send<R, O, X, E>(
 ) -> Result<(), E::Error>
 where
     R: Wait,
+    W: Waiter,
     O: AsyncWrite,
     E: Encoder<X>,
     ensures { SendsOne E.encodes E.refuses O.writes E.Error.from_gives writer.old encoder.old item result writer.new encoder.new }
@@ -54,7 +54,7 @@ where
     if let Err(e) = encoder.encode(item, out) {
         return Err(e);
     }
-    match hand(&mut on.waits(), rt, writer, out.as_slice()) {
+    match hand(on, rt, writer, out.as_slice()) {
         Ok(()) => Ok(()),
         Err(e) => Err(E::Error::from(e)),
     }
@@ -62,25 +62,25 @@ where
 
 // Writes these bytes.
 #[inline(always)]
-pub(crate) fn hand<R: Wait, O: AsyncWrite>(
-    waits: &mut Waits<'_>,
+pub(crate) fn hand<R: Wait, W: Waiter, O: AsyncWrite>(
+    waits: &mut W,
     rt: &R,
     writer: &mut O,
     bytes: &[u8],
 ) -> io::Result<()>
     ensures { HandsBytes O.writes writer.old bytes.now result writer.new }
 {
-    waits.wait_for(rt, &mut write_all(writer, bytes))
+    waits.wait(rt, &mut write_all(writer, bytes))
 }
 
 // Flushes the writer.
 #[inline(always)]
-pub(crate) fn flush_by<R: Wait, O: AsyncWrite>(
-    waits: &mut Waits<'_>,
+pub(crate) fn flush_by<R: Wait, W: Waiter, O: AsyncWrite>(
+    waits: &mut W,
     rt: &R,
     writer: &mut O,
 ) -> io::Result<()>
     ensures { FlushesOnce O.writes writer.old result writer.new }
 {
-    waits.wait_for(rt, &mut flush(writer))
+    waits.wait(rt, &mut flush(writer))
 }

@@ -6,8 +6,7 @@ ghost use Rattle.framed.specs.Serving.{Sent};
 use crate::round_trip::RoundTrip;
 use crate::send::hand;
 use bytes::BytesMut;
-use lite_base::future::Waits;
-use lite_base::future::block_on::BlockOn;
+use lite_base::future::Waiter;
 use lite_io_base::AsyncWrite;
 use std::io;
 use std::sync::Wait;
@@ -40,8 +39,8 @@ use tokio_util::codec::Encoder;
 /// assert!(rt; sent.is_ok());
 /// assert_eq!(rt; written.as_slice(), b"\0\0\0\x02hi\0\0\0\x05there".as_slice());
 /// ```
-pub fn wait_send_all<R, O, X, E>(
-    on: &mut BlockOn,
+pub fn wait_send_all<R, W, O, X, E>(
+    on: &mut W,
     rt: &R,
     writer: &mut O,
     encoder: &mut E,
@@ -50,6 +49,7 @@ pub fn wait_send_all<R, O, X, E>(
 ) -> Result<(), E::Error>
 where
     R: Wait,
+    W: Waiter,
     O: AsyncWrite,
     X: Drop,
     E: RoundTrip<X>,
@@ -58,7 +58,7 @@ where
     ensures back { ComesBack E.encodes E.Decoder.gives E.Decoder.Error.from_gives E.readable E.means encoder.old items.items
         encoder.new }
 {
-    match send_all(&mut on.waits(), rt, writer, encoder, items, out) {
+    match send_all(on, rt, writer, encoder, items, out) {
         Ok(Ok(())) => Ok(()),
         Ok(Err(e)) => Err(E::Error::from(e)),
         Err(e) => Err(e),
@@ -67,8 +67,8 @@ where
 
 // Writes the frames of these items. `Err`: one was not encoded, and nothing was written.
 #[inline(always)]
-pub(crate) fn send_all<R, O, X, E>(
-    waits: &mut Waits<'_>,
+pub(crate) fn send_all<R, W, O, X, E>(
+    waits: &mut W,
     rt: &R,
     writer: &mut O,
     encoder: &mut E,
@@ -77,6 +77,7 @@ pub(crate) fn send_all<R, O, X, E>(
 ) -> Result<io::Result<()>, E::Error>
 where
     R: Wait,
+    W: Waiter,
     O: AsyncWrite,
     X: Drop,
     E: Encoder<X>,

@@ -10,10 +10,12 @@ use futures::task::{Context, Poll};
 pub mod block_on;
 mod calm;
 mod steady;
+mod waiter;
 mod waits;
 
 pub use calm::CalmFuture;
 pub use steady::SteadyFuture;
+pub use waiter::Waiter;
 pub use waits::Waits;
 
 /// A computation that may not be done yet, and returns its value when polled.

@@ -1,4 +1,4 @@
-ghost use Rattle.std.specs.Prelude.{◌≡◌, ◌≤◌, ◌⊎◌, Ok, length, take, IfOk};
+ghost use Rattle.std.specs.Prelude.{◌≡◌, ◌≤◌, ◌<◌, ◌⊎◌, Ok, length, take, IfOk};
 ghost use Rattle.lite_buffered.specs.Uses.{Lends, sem, IfReady, Keeps, read_marks, Idle, ReadsInto, room_in, idle_laws, Registered};
 
 use lite_base::{Context, Poll, ready};
@@ -213,6 +213,29 @@ impl<R> WriteSpec for Take<R> {
     ghost write_laws = { idle_laws };
 }
 
+impl<R: AsyncRead> Take<R> {
+    ghost use Rattle.lite_buffered.specs.Take.{ReadsWithin, limit_of, take_inner};
+
+    // Reads into a buffer that is not empty and no longer than the limit.
+    #[inline(always)]
+    fn read_within(&mut self, cx: &mut Context<'_>, buf: &mut [u8]) -> Poll<io::Result<usize>>
+        requires some { 0 < length buf.old }
+        requires fits { length buf.old ≤ limit_of self.old }
+        ensures bound { IfReady result (λ r. IfOk r (λ n. n ≤ length buf.new)) }
+        ensures ran { ReadsWithin R.reads self.old (read_marks result buf.new) self.new }
+        ensures registered { Registered result (R.registers (take_inner self.new)) cx.new }
+        ensures context { Keeps cx.old cx.new }
+    {
+        match ready!(self.inner.poll_read(cx, buf)) {
+            Ok(n) => {
+                self.limit -= n as u64;
+                Poll::Ready(Ok(n))
+            }
+            Err(e) => Poll::Ready(Err(e)),
+        }
+    }
+}
+
 impl<R: AsyncRead> AsyncRead for Take<R> {
     ghost use Rattle.lite_buffered.specs.Take.{ReadsWithin, limit_of, take_inner};
 
@@ -227,17 +250,15 @@ impl<R: AsyncRead> AsyncRead for Take<R> {
         // Without room, and if the limit is used up, nothing is polled.
         ensures idle { (length buf.old ≡ 0) ⊎ (limit_of self.old ≡ 0) → (result ≡ Poll.Ready (Ok 0)) × (self.new ≡ self.old) }
     {
-        let most = self.limit.min(buf.len() as u64) as usize;
-        if most == 0 {
+        if self.limit == 0 || buf.is_empty() {
             return Poll::Ready(Ok(0));
         }
-        match ready!(self.inner.poll_read(cx, &mut buf[..most])) {
-            Ok(n) => {
-                self.limit -= n as u64;
-                Poll::Ready(Ok(n))
-            }
-            Err(e) => Poll::Ready(Err(e)),
+        // A buffer that is not cut keeps the length that a compiler may know.
+        if buf.len() as u64 <= self.limit {
+            return self.read_within(cx, buf);
         }
+        let most = self.limit as usize;
+        self.read_within(cx, &mut buf[..most])
     }
 
     #[tactic(auto, using(lite_io_base::specs::Laws::Runs::within_more))]

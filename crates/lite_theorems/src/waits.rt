@@ -4,8 +4,7 @@ ghost use Rattle.std.specs.Prelude.{◌≡◌, ◌≤◌, ◌-◌, ◌++◌, [],
 ghost use Rattle.lite_theorems.specs.Uses.{Ready, ReadMark, read_marks, WriteMark, bytes_taken, FlushedUp, HandedUp, TakesFront};
 ghost use Rattle.lite_theorems.specs.Uses.{FillsUp, PieceTold, PieceWithin, ToldStripped, VectorLacksRoom};
 
-use lite_base::future::Waits;
-use lite_base::future::block_on::BlockOn;
+use lite_base::future::Waiter;
 use lite_buffered::make::take;
 use lite_io_base::{AsyncBufRead, AsyncRead, AsyncWrite, CountedRead};
 use lite_read::make::{read, read_exact, read_until};
@@ -34,8 +33,8 @@ use std::sync::Wait;
 /// assert_eq!(rt; wait_read(&mut on, &rt, &mut reader, &mut buf)??, 1);
 /// ```
 #[inline(always)]
-pub fn wait_read<R: Wait, T: AsyncRead>(
-    on: &mut BlockOn,
+pub fn wait_read<R: Wait, W: Waiter, T: AsyncRead>(
+    on: &mut W,
     rt: &R,
     reader: &mut T,
     buf: &mut [u8],
@@ -46,7 +45,7 @@ pub fn wait_read<R: Wait, T: AsyncRead>(
     ensures bound { IfOk result (λ v. IfOk v (λ n. n ≤ length buf.new)) }
     ensures waited { IsOk result }
 {
-    on.wait_for(rt, &mut read(reader, buf))
+    Ok(on.wait(rt, &mut read(reader, buf)))
 }
 
 /// Blocks this thread, by `on`, until `buf` is full, and returns the value.
@@ -73,8 +72,8 @@ pub fn wait_read<R: Wait, T: AsyncRead>(
 /// assert_eq!(rt; short.map_err(|e| e.kind()), Err(ErrorKind::UnexpectedEof));
 /// ```
 #[inline(always)]
-pub fn wait_read_exact<R: Wait, T: AsyncRead>(
-    on: &mut BlockOn,
+pub fn wait_read_exact<R: Wait, W: Waiter, T: AsyncRead>(
+    on: &mut W,
     rt: &R,
     reader: &mut T,
     buf: &mut [u8],
@@ -84,7 +83,7 @@ pub fn wait_read_exact<R: Wait, T: AsyncRead>(
     ensures room { length buf.new ≡ length buf.old }
     ensures waited { IsOk result }
 {
-    on.wait_for(rt, &mut read_exact(reader, buf))
+    Ok(on.wait(rt, &mut read_exact(reader, buf)))
 }
 
 /// Blocks this thread, by `on`, until a piece that ends in `byte`, or at an end of file, was appended to
@@ -109,8 +108,8 @@ pub fn wait_read_exact<R: Wait, T: AsyncRead>(
 /// assert_eq!(rt; piece.as_slice(), b"ab\nc".as_slice());
 /// ```
 #[inline(always)]
-pub fn wait_read_until<R: Wait, T: AsyncBufRead + CountedRead>(
-    on: &mut BlockOn,
+pub fn wait_read_until<R: Wait, W: Waiter, T: AsyncBufRead + CountedRead>(
+    on: &mut W,
     rt: &R,
     reader: &mut T,
     byte: u8,
@@ -124,12 +123,12 @@ pub fn wait_read_until<R: Wait, T: AsyncBufRead + CountedRead>(
     ensures again { T.ranks.counts reader.new }
     ensures waited { IsOk result }
 {
-    Ok(read_until_by(&mut on.waits(), rt, reader, byte, buf))
+    Ok(read_until_by(on, rt, reader, byte, buf))
 }
 
-// As `wait_read_until`, for waits that share a context.
-pub(crate) fn read_until_by<R: Wait, T: AsyncBufRead + CountedRead>(
-    waits: &mut Waits<'_>,
+// As `wait_read_until`, without the `Ok`.
+pub(crate) fn read_until_by<R: Wait, W: Waiter, T: AsyncBufRead + CountedRead>(
+    waits: &mut W,
     rt: &R,
     reader: &mut T,
     byte: u8,
@@ -141,7 +140,7 @@ pub(crate) fn read_until_by<R: Wait, T: AsyncBufRead + CountedRead>(
         × PieceTold (VectorLacksRoom byte (vec_capacity buf.old) buf.new.items (T.buffer_of reader.new)) byte xs l result }
     ensures again { T.ranks.counts reader.new }
 {
-    waits.wait_for(rt, &mut read_until(reader, byte, buf))
+    waits.wait(rt, &mut read_until(reader, byte, buf))
 }
 
 /// Blocks this thread, by `on`, until a piece that ends in `byte`, or `limit` bytes without it, or those before
@@ -172,8 +171,8 @@ pub(crate) fn read_until_by<R: Wait, T: AsyncBufRead + CountedRead>(
 /// assert_eq!(rt; reader, b"er\n".as_slice());
 /// ```
 #[inline(always)]
-pub fn wait_read_until_limited<R: Wait, T: AsyncBufRead + CountedRead>(
-    on: &mut BlockOn,
+pub fn wait_read_until_limited<R: Wait, W: Waiter, T: AsyncBufRead + CountedRead>(
+    on: &mut W,
     rt: &R,
     reader: &mut T,
     byte: u8,
@@ -211,8 +210,8 @@ pub fn wait_read_until_limited<R: Wait, T: AsyncBufRead + CountedRead>(
 /// assert_eq!(rt; written.as_slice(), b"abc".as_slice());
 /// ```
 #[inline(always)]
-pub fn wait_write_all<R: Wait, T: AsyncWrite>(
-    on: &mut BlockOn,
+pub fn wait_write_all<R: Wait, W: Waiter, T: AsyncWrite>(
+    on: &mut W,
     rt: &R,
     writer: &mut T,
     bytes: &[u8],
@@ -221,12 +220,12 @@ pub fn wait_write_all<R: Wait, T: AsyncWrite>(
         × IfOk result (λ v. HandedUp bytes.now took v) × IfErr result (λ _. took ≡ []) }
     ensures waited { IsOk result }
 {
-    Ok(write_all_by(&mut on.waits(), rt, writer, bytes))
+    Ok(write_all_by(on, rt, writer, bytes))
 }
 
-// As `wait_write_all`, for waits that share a context.
-pub(crate) fn write_all_by<R: Wait, T: AsyncWrite>(
-    waits: &mut Waits<'_>,
+// As `wait_write_all`, without the `Ok`.
+pub(crate) fn write_all_by<R: Wait, W: Waiter, T: AsyncWrite>(
+    waits: &mut W,
     rt: &R,
     writer: &mut T,
     bytes: &[u8],
@@ -234,7 +233,7 @@ pub(crate) fn write_all_by<R: Wait, T: AsyncWrite>(
     ensures { (took : List WriteMark) × TakesFront T.writes writer.old bytes.now took writer.new
         × HandedUp bytes.now took result }
 {
-    waits.wait_for(rt, &mut write_all(writer, bytes))
+    waits.wait(rt, &mut write_all(writer, bytes))
 }
 
 /// Blocks this thread, by `on`, until the writer was flushed, and returns the value.
@@ -260,8 +259,8 @@ pub(crate) fn write_all_by<R: Wait, T: AsyncWrite>(
 /// assert_eq!(rt; written.as_slice(), b"abc".as_slice());
 /// ```
 #[inline(always)]
-pub fn wait_flush<R: Wait, T: AsyncWrite>(
-    on: &mut BlockOn,
+pub fn wait_flush<R: Wait, W: Waiter, T: AsyncWrite>(
+    on: &mut W,
     rt: &R,
     writer: &mut T,
 ) -> Result<io::Result<()>, AllocError>
@@ -269,16 +268,16 @@ pub fn wait_flush<R: Wait, T: AsyncWrite>(
         × IfOk result (λ v. FlushedUp took v) × IfErr result (λ _. took ≡ []) }
     ensures waited { IsOk result }
 {
-    Ok(flush_by(&mut on.waits(), rt, writer))
+    Ok(flush_by(on, rt, writer))
 }
 
-// As `wait_flush`, for waits that share a context.
-pub(crate) fn flush_by<R: Wait, T: AsyncWrite>(
-    waits: &mut Waits<'_>,
+// As `wait_flush`, without the `Ok`.
+pub(crate) fn flush_by<R: Wait, W: Waiter, T: AsyncWrite>(
+    waits: &mut W,
     rt: &R,
     writer: &mut T,
 ) -> io::Result<()>
     ensures { (took : List WriteMark) × T.writes writer.old took writer.new × (bytes_taken took ≡ []) × FlushedUp took result }
 {
-    waits.wait_for(rt, &mut flush(writer))
+    waits.wait(rt, &mut flush(writer))
 }

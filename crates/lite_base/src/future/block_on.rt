@@ -4,7 +4,7 @@ ghost use Rattle.lite_base.specs.Uses.{Poll};
 ghost use Rattle.lite_base.specs.Answers.{Gives};
 ghost use Rattle.lite_base.specs.Spent.{Finishes};
 
-use super::{Future, Waits};
+use super::{Future, Waiter, Waits};
 use crate::Poll;
 use futures::task::{Doorbell, Queue, Source, Waker};
 use std::alloc::{AllocError, AllocGlobal};
@@ -179,6 +179,13 @@ impl BlockOn {
     /// ```
     pub fn waits(&mut self) -> Waits<'_> {
         Waits::new(&self.queue, &self.source, &mut self.slot)
+    }
+}
+
+impl Waiter for BlockOn {
+    #[inline(always)]
+    fn wait<R: Wait, F: Future>(&mut self, rt: &R, future: &mut F) -> F::Output {
+        self.waits().wait_for(rt, future)
     }
 }
 

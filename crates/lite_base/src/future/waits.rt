@@ -1,7 +1,7 @@
 //! Waits that share one context.
 ghost use Rattle.lite_base.specs.Answers.{Gives};
 
-use super::Future;
+use super::{Future, Waiter};
 use crate::Poll;
 use futures::task::{Context, Queue, Source, Waker};
 use std::sync::Wait;
@@ -106,6 +106,13 @@ impl<'a> Waits<'a> {
             let _: Poll<()> = cx.register(self.source, self.slot);
             cx.park();
         }
+    }
+}
+
+impl Waiter for Waits<'_> {
+    #[inline(always)]
+    fn wait<R: Wait, F: Future>(&mut self, rt: &R, future: &mut F) -> F::Output {
+        self.wait_for(rt, future)
     }
 }
 

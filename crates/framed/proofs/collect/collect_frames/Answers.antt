@@ -21,92 +21,92 @@ loop-init g c = (
 
 pub returns-in-Err-clause-told : goal.returns-in-Err-clause-told
 returns-in-Err-clause-told g c phase =
-    let is : c.wait_frame.result ≡ Some (Ok c.in-Some-Ok.frame) = rw c.in-Some-Ok.field-0-is at c.in-Some-Ok.is in
+    let is : c.frame_by.result ≡ Some (Ok c.in-Some-Ok.frame) = rw c.in-Some-Ok.field-0-is at c.in-Some-Ok.is in
     let kind : error_kind c.from.result ≡ OutOfMemory = search rules in
     refused g.D.Decoder.gives g.D.Error.From.from_gives (ToldStripped g.T.ReadSpec.reads) (stripped_laws g.T.ReadSpec.read_laws)
     g.met.D.Decoder.stable c.args.framed.now _ _ c.from.result _
     (more g.D.Decoder.gives g.D.Error.From.from_gives (ToldStripped g.T.ReadSpec.reads) (stripped_laws g.T.ReadSpec.read_laws)
     g.met.D.Decoder.stable c.args.framed.now c.loop.frames.items c.loop.framed _ c.in-Some-Ok.frame (c.loop.invariant.3 phase)
-    (rw is at c.wait_frame.ensures.told)) c.from-in-Err.ensures kind
+    (rw is at c.frame_by.ensures.told)) c.from-in-Err.ensures kind
 
 pub loop-preserved : goal.loop-preserved
 loop-preserved g c =
-    let is : c.wait_frame.result ≡ Some (Ok c.in-Some-Ok.frame) = rw c.in-Some-Ok.field-0-is at c.in-Some-Ok.is in
+    let is : c.frame_by.result ≡ Some (Ok c.in-Some-Ok.frame) = rw c.in-Some-Ok.field-0-is at c.in-Some-Ok.is in
     let pushed = c.in_default.ensures.items in (
       tt,
       tt,
-      c.wait_frame.ensures.again,
+      c.frame_by.ensures.again,
       λ phase. rw pushed (more g.D.Decoder.gives g.D.Error.From.from_gives
           (ToldStripped g.T.ReadSpec.reads) (stripped_laws g.T.ReadSpec.read_laws) g.met.D.Decoder.stable c.args.framed.now
-          c.loop.frames.items c.loop.framed _ c.in-Some-Ok.frame (c.loop.invariant.3 phase) (rw is at c.wait_frame.ensures.told)),
+          c.loop.frames.items c.loop.framed _ c.in-Some-Ok.frame (c.loop.invariant.3 phase) (rw is at c.frame_by.ensures.told)),
       λ phase. rw pushed (last_more g.D.Decoder.gives g.D.Error.From.from_gives
           (ToldStripped g.T.ReadSpec.reads) (stripped_laws g.T.ReadSpec.read_laws) g.met.D.Decoder.stable c.args.framed.now
-          c.loop.frames.items c.loop.framed _ c.in-Some-Ok.frame (c.loop.invariant.4 phase) (rw is at c.wait_frame.ensures.told)),
+          c.loop.frames.items c.loop.framed _ c.in-Some-Ok.frame (c.loop.invariant.4 phase) (rw is at c.frame_by.ensures.told)),
       λ phase.
           let none = nothing_left g.D.Decoder.gives g.D.Error.From.from_gives (ToldStripped g.T.ReadSpec.reads)
           (stripped_laws g.T.ReadSpec.read_laws) g.met.D.Decoder.stable c.args.framed.now c.loop.framed _ (Some (Ok c.in-Some-Ok.frame))
-          (c.loop.invariant.5 phase).0 phase (rw is at c.wait_frame.ensures.told) in
+          (c.loop.invariant.5 phase).0 phase (rw is at c.frame_by.ensures.told) in
           let no = none.0 in cc,
     )
 
 pub returns-in-Some-Err-clause-told : goal.returns-in-Some-Err-clause-told
 returns-in-Some-Err-clause-told g c phase =
-    let is : c.wait_frame.result ≡ Some (Err c.in-Some-Err.e) = rw c.in-Some-Err.field-0-is at c.in-Some-Err.is in
+    let is : c.frame_by.result ≡ Some (Err c.in-Some-Err.e) = rw c.in-Some-Err.field-0-is at c.in-Some-Err.is in
     stops g.D.Decoder.gives g.D.Error.From.from_gives (ToldStripped g.T.ReadSpec.reads) (stripped_laws g.T.ReadSpec.read_laws)
     g.met.D.Decoder.stable c.args.framed.now c.loop.frames.items c.loop.framed _ c.in-Some-Err.e (c.loop.invariant.3 phase)
-    (rw is at c.wait_frame.ensures.told)
+    (rw is at c.frame_by.ensures.told)
 
-pub returns-in-None-wait_frame-clause-told : goal.returns-in-None-wait_frame-clause-told
-returns-in-None-wait_frame-clause-told g c phase =
-    let is : c.wait_frame.result ≡ None = c.in-None-wait_frame.is in
+pub returns-in-None-frame_by-clause-told : goal.returns-in-None-frame_by-clause-told
+returns-in-None-frame_by-clause-told g c phase =
+    let is : c.frame_by.result ≡ None = c.in-None-frame_by.is in
     all_frames g.D.Decoder.gives g.D.Error.From.from_gives (ToldStripped g.T.ReadSpec.reads) (stripped_laws g.T.ReadSpec.read_laws)
     g.met.D.Decoder.stable c.args.framed.now c.loop.frames c.loop.frames.items (search rules) c.loop.framed _
-    (c.loop.invariant.3 phase) (rw is at c.wait_frame.ensures.told)
+    (c.loop.invariant.3 phase) (rw is at c.frame_by.ensures.told)
 
 pub returns-in-Err-clause-rest : goal.returns-in-Err-clause-rest
 returns-in-Err-clause-rest g c phase =
-    let is : c.wait_frame.result ≡ Some (Ok c.in-Some-Ok.frame) = rw c.in-Some-Ok.field-0-is at c.in-Some-Ok.is in
+    let is : c.frame_by.result ≡ Some (Ok c.in-Some-Ok.frame) = rw c.in-Some-Ok.field-0-is at c.in-Some-Ok.is in
     let kind : error_kind c.from.result ≡ OutOfMemory = search rules in
     last_refused g.D.Decoder.gives g.D.Error.From.from_gives
     (ToldStripped g.T.ReadSpec.reads) (stripped_laws g.T.ReadSpec.read_laws) g.met.D.Decoder.stable c.args.framed.now _ _ c.from.result _
     (last_more g.D.Decoder.gives g.D.Error.From.from_gives
     (ToldStripped g.T.ReadSpec.reads) (stripped_laws g.T.ReadSpec.read_laws) g.met.D.Decoder.stable c.args.framed.now c.loop.frames.items c.loop.framed _ c.in-Some-Ok.frame (c.loop.invariant.4 phase)
-    (rw is at c.wait_frame.ensures.told)) c.from-in-Err.ensures kind
+    (rw is at c.frame_by.ensures.told)) c.from-in-Err.ensures kind
 
 pub returns-in-Err-clause-over : goal.returns-in-Err-clause-over
 returns-in-Err-clause-over g c phase =
-    let is : c.wait_frame.result ≡ Some (Ok c.in-Some-Ok.frame) = rw c.in-Some-Ok.field-0-is at c.in-Some-Ok.is in
+    let is : c.frame_by.result ≡ Some (Ok c.in-Some-Ok.frame) = rw c.in-Some-Ok.field-0-is at c.in-Some-Ok.is in
     let none = nothing_left g.D.Decoder.gives g.D.Error.From.from_gives
     (ToldStripped g.T.ReadSpec.reads) (stripped_laws g.T.ReadSpec.read_laws) g.met.D.Decoder.stable c.args.framed.now c.loop.framed _ (Some (Ok c.in-Some-Ok.frame))
-    (c.loop.invariant.5 phase).0 phase (rw is at c.wait_frame.ensures.told) in
+    (c.loop.invariant.5 phase).0 phase (rw is at c.frame_by.ensures.told) in
     let no = none.0 in cc
 
 pub returns-in-Some-Err-clause-rest : goal.returns-in-Some-Err-clause-rest
 returns-in-Some-Err-clause-rest g c phase =
-    let is : c.wait_frame.result ≡ Some (Err c.in-Some-Err.e) = rw c.in-Some-Err.field-0-is at c.in-Some-Err.is in
+    let is : c.frame_by.result ≡ Some (Err c.in-Some-Err.e) = rw c.in-Some-Err.field-0-is at c.in-Some-Err.is in
     last_stops g.D.Decoder.gives g.D.Error.From.from_gives
     (ToldStripped g.T.ReadSpec.reads) (stripped_laws g.T.ReadSpec.read_laws) g.met.D.Decoder.stable c.args.framed.now c.loop.frames.items c.loop.framed _ c.in-Some-Err.e (c.loop.invariant.4 phase)
-    (rw is at c.wait_frame.ensures.told)
+    (rw is at c.frame_by.ensures.told)
 
 pub returns-in-Some-Err-clause-over : goal.returns-in-Some-Err-clause-over
 returns-in-Some-Err-clause-over g c phase =
-    let is : c.wait_frame.result ≡ Some (Err c.in-Some-Err.e) = rw c.in-Some-Err.field-0-is at c.in-Some-Err.is in
+    let is : c.frame_by.result ≡ Some (Err c.in-Some-Err.e) = rw c.in-Some-Err.field-0-is at c.in-Some-Err.is in
     let none = nothing_left g.D.Decoder.gives g.D.Error.From.from_gives
     (ToldStripped g.T.ReadSpec.reads) (stripped_laws g.T.ReadSpec.read_laws) g.met.D.Decoder.stable c.args.framed.now c.loop.framed _ (Some (Err c.in-Some-Err.e))
-    (c.loop.invariant.5 phase).0 phase (rw is at c.wait_frame.ensures.told) in
+    (c.loop.invariant.5 phase).0 phase (rw is at c.frame_by.ensures.told) in
     let no = none.0 in cc
 
-pub returns-in-None-wait_frame-clause-rest : goal.returns-in-None-wait_frame-clause-rest
-returns-in-None-wait_frame-clause-rest g c phase =
-    let is : c.wait_frame.result ≡ None = c.in-None-wait_frame.is in
+pub returns-in-None-frame_by-clause-rest : goal.returns-in-None-frame_by-clause-rest
+returns-in-None-frame_by-clause-rest g c phase =
+    let is : c.frame_by.result ≡ None = c.in-None-frame_by.is in
     all_left g.D.Decoder.gives g.D.Error.From.from_gives
     (ToldStripped g.T.ReadSpec.reads) (stripped_laws g.T.ReadSpec.read_laws) g.met.D.Decoder.stable c.args.framed.now c.loop.frames c.loop.frames.items (search rules) c.loop.framed _
-    (c.loop.invariant.4 phase) (rw is at c.wait_frame.ensures.told)
+    (c.loop.invariant.4 phase) (rw is at c.frame_by.ensures.told)
 
-pub returns-in-None-wait_frame-clause-over : goal.returns-in-None-wait_frame-clause-over
-returns-in-None-wait_frame-clause-over g c phase =
-    let is : c.wait_frame.result ≡ None = c.in-None-wait_frame.is in
+pub returns-in-None-frame_by-clause-over : goal.returns-in-None-frame_by-clause-over
+returns-in-None-frame_by-clause-over g c phase =
+    let is : c.frame_by.result ≡ None = c.in-None-frame_by.is in
     let none = nothing_left g.D.Decoder.gives g.D.Error.From.from_gives
     (ToldStripped g.T.ReadSpec.reads) (stripped_laws g.T.ReadSpec.read_laws) g.met.D.Decoder.stable c.args.framed.now c.loop.framed _ None
-    (c.loop.invariant.5 phase).0 phase (rw is at c.wait_frame.ensures.told) in
+    (c.loop.invariant.5 phase).0 phase (rw is at c.frame_by.ensures.told) in
     (none.1, (c.loop.invariant.5 phase).1)

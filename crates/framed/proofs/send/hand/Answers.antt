@@ -5,7 +5,7 @@ use Rattle.framed.proofs.send.hand.Goals as goal
 
 pub returns : goal.returns
 returns g c =
-    let lends = writer_lent g.O.WriteSpec.writes _ _ _ _ (done c.wait_for.result) c.write_all.ensures (c.wait_for.ensures, tt) in
-    let up = hand_up g.O.WriteSpec.writes _ _ _ _ (done c.wait_for.result) c.write_all.ensures (c.wait_for.ensures, tt)
+    let lends = writer_lent g.O.WriteSpec.writes _ _ _ _ (done c.wait.result) c.write_all.ensures (c.wait.ensures, tt) in
+    let up = hand_up g.O.WriteSpec.writes _ _ _ _ (done c.wait.result) c.write_all.ensures (c.wait.ensures, tt)
     g.O.WriteSpec.write_laws _ (search rules) in
     (up.0, up.1, up.2)

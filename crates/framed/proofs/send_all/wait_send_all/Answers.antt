@@ -11,7 +11,7 @@ returns-in-Ok-Err-clause-back g c =
     collects_back g.E.Encoder.encodes g.E.Decoder.Decoder.gives g.E.Decoder.Error.From.from_gives g.E.RoundTrip.readable
     g.E.RoundTrip.means g.met.E.RoundTrip.back g.met.E.Decoder.Decoder.stable _ _ _
 
-pub returns-clause-back : goal.returns-clause-back
-returns-clause-back g c =
+pub returns-in-Err-clause-back : goal.returns-in-Err-clause-back
+returns-in-Err-clause-back g c =
     collects_back g.E.Encoder.encodes g.E.Decoder.Decoder.gives g.E.Decoder.Error.From.from_gives g.E.RoundTrip.readable
     g.E.RoundTrip.means g.met.E.RoundTrip.back g.met.E.Decoder.Decoder.stable _ _ _

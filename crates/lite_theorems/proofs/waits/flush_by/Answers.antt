@@ -4,7 +4,7 @@ use Rattle.lite_theorems.proofs.waits.flush_by.Goals as goal
 
 pub returns : goal.returns
 returns g c =
-    let lends = flush_lent g.T.WriteSpec.writes _ _ _ (done c.wait_for.result) c.flush.ensures (c.wait_for.ensures, tt) in
-    let up = flush_up g.T.WriteSpec.writes _ _ _ (done c.wait_for.result) c.flush.ensures (c.wait_for.ensures, tt) g.T.WriteSpec.write_laws _
+    let lends = flush_lent g.T.WriteSpec.writes _ _ _ (done c.wait.result) c.flush.ensures (c.wait.ensures, tt) in
+    let up = flush_up g.T.WriteSpec.writes _ _ _ (done c.wait.result) c.flush.ensures (c.wait.ensures, tt) g.T.WriteSpec.write_laws _
     (search rules) in
     (up.0, up.1, up.2, up.3)

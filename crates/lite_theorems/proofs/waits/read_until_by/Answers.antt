@@ -8,10 +8,10 @@ returns-clause-told g c =
     let made = c.read_until.ensures in
     let begun = ap (λ z. z.start) made ∙ sym (ap (λ z. length z.buf.now.items) made) in
     let buffer_of = g.T.AsyncBufRead.buffer_of in
-    let h = rw c.read_until.ensures at (until_waited g.T.ReadSpec.read_laws buffer_of _ _ (done c.wait_for.result)
-    begun (c.wait_for.ensures, tt)) in
+    let h = rw c.read_until.ensures at (until_waited g.T.ReadSpec.read_laws buffer_of _ _ (done c.wait.result)
+    begun (c.wait.ensures, tt)) in
     let same = h.1 in
     let lacks = LacksBy c.args.byte (vec_capacity c.args.buf.now) buffer_of in
-    let told = told_at (ToldByUntil g.T.ReadSpec.reads c.args.byte lacks _ _ (done c.wait_for.result)) (search rules)
+    let told = told_at (ToldByUntil g.T.ReadSpec.reads c.args.byte lacks _ _ (done c.wait.result)) (search rules)
     (search rules) h.0 in
     (told.0, told.1, told.2, told.3, told.4)

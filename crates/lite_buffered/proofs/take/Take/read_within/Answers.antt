@@ -1,14 +1,13 @@
-use Rattle.std.specs.Prelude.{◌≡◌, ◌≤◌, ◌<◌, ◌-◌, [], Ok, length, take, drop}
+use Rattle.std.specs.Prelude.{◌≡◌, ◌≤◌, ◌<◌, ◌-◌, [], Ok, length, take}
 use Rattle.lite_buffered.specs.Uses.{rules, arith, sym, ◌∙◌, append-nil, length-take-le, subst, common_steps, Ready, read_marks_room, moved_marks}
 use Rattle.lite_buffered.specs.Take.{WithinLimit}
 use Rattle.lite_buffered.proofs.Reading.{fits_moved}
-use Rattle.lite_buffered.proofs.take.TakeAsyncRead.poll_read.Goals as goal
+use Rattle.lite_buffered.proofs.take.Take.read_within.Goals as goal
 
 pub returns-in-Ok-clause-ran : goal.returns-in-Ok-clause-ran
 returns-in-Ok-clause-ran g c =
     let n = c.in-Ok.n in
     let buf = c.poll_read.new.buf in
-    let more = drop c.min-most.result c.args.buf.now in
     let limit = c.args.self.now.limit in
     let got : c.poll_read.result ≡ Ready (Ok n) = search rules in
     let ran = rw got at c.poll_read.ensures.ran in
@@ -20,7 +19,7 @@ returns-in-Ok-clause-ran g c =
     record {
       front = moved_marks buf (take n buf);
       ends = [];
-      cut = read_marks_room (Ready (Ok n)) buf more some fits ∙ sym (append-nil (moved_marks buf (take n buf)));
+      cut = sym (append-nil (moved_marks buf (take n buf)));
       ran = ran;
       fits = subst (λ k. WithinLimit limit (moved_marks buf (take n buf)) (limit - k)) len
           (fits_moved limit buf (take n buf) (omega (arith, len)) (omega arith) some);
