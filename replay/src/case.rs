@@ -33,28 +33,61 @@ pub(crate) fn answered<R: Wait + AllocGlobal + Copy + Drop>(
         polls,
     };
     match words.take()? {
-        "io" => {
-            io_case::answered(rt, alloc, cx, words, polls, &mut answers.text)?;
-            return Ok(answers.text);
-        }
-        "future" => future_nest::answered(alloc, cx, words, &mut answers)?,
-        "fused" => future_nest::fused(alloc, cx, words, &mut answers)?,
-        "wakes" => wakes::of_stream(alloc, solo, words, &mut answers)?,
-        "wakes_future" => wakes::of_future(alloc, solo, words, &mut answers)?,
+        "still" => still(rt, alloc, solo, words, &mut answers)?,
+        mode => of_mode(mode, rt, alloc, cx, solo, words, &mut answers)?,
+    }
+    Ok(answers.text)
+}
+
+/// The case behind the word, all of it in a context of its own: a star behind its answers if one of its polls woke the task, and
+/// otherwise a dot.
+fn still<R: Wait + AllocGlobal + Copy + Drop>(
+    rt: R,
+    alloc: Global,
+    solo: &Solo,
+    words: &mut Words<'_>,
+    answers: &mut Answers,
+) -> Result<(), Fault> {
+    words.is_quiet = true;
+    let mode = words.take()?;
+    let mut own = solo.begin();
+    let told = of_mode(mode, rt, alloc, &mut own, solo, words, answers);
+    let is_woken = wakes::is_woken(solo, own);
+    told?;
+    Ok(answers.text.push_str(if is_woken { "*" } else { "." })?)
+}
+
+fn of_mode<R: Wait + AllocGlobal + Copy + Drop>(
+    mode: &str,
+    rt: R,
+    alloc: Global,
+    cx: &mut Context<'_>,
+    solo: &Solo,
+    words: &mut Words<'_>,
+    answers: &mut Answers,
+) -> Result<(), Fault> {
+    match mode {
+        "io" => return io_case::answered(rt, alloc, cx, words, answers.polls, &mut answers.text),
+        "future" => future_nest::answered(alloc, cx, words, answers)?,
+        "future_lent" => future_nest::lent(alloc, cx, words, answers)?,
+        "future_fn" => future_nest::by_function(alloc, cx, words, answers)?,
+        "fused" => future_nest::fused(alloc, cx, words, answers)?,
+        "wakes" => wakes::of_stream(alloc, solo, words, answers)?,
+        "wakes_future" => wakes::of_future(alloc, solo, words, answers)?,
         "quiet" => {
             words.is_quiet = true;
-            wakes::of_stream(alloc, solo, words, &mut answers)?;
+            wakes::of_stream(alloc, solo, words, answers)?;
         }
         "quiet_future" => {
             words.is_quiet = true;
-            wakes::of_future(alloc, solo, words, &mut answers)?;
+            wakes::of_future(alloc, solo, words, answers)?;
         }
-        "polls" => with_counts(alloc, cx, words, &mut answers)?,
-        "rest" => of_lent_nest(alloc, cx, words, &mut answers)?,
-        mode => of_nest(mode, alloc, cx, words, &mut answers)?,
+        "polls" => with_counts(alloc, cx, words, answers)?,
+        "rest" => of_lent_nest(alloc, cx, words, answers)?,
+        mode => of_nest(mode, alloc, cx, words, answers)?,
     }
     match words.words {
-        [] => Ok(answers.text),
+        [] => Ok(()),
         _ => Err(Fault::Words),
     }
 }

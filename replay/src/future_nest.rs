@@ -33,6 +33,34 @@ pub(crate) fn answered(
     }
 }
 
+/// Polls what is lent of a future until its value.
+pub(crate) fn lent(
+    alloc: Global,
+    cx: &mut Context<'_>,
+    words: &mut Words<'_>,
+    answers: &mut Answers,
+) -> Result<(), Fault> {
+    let mut nest = Nest::build(alloc, words)?;
+    match answers.finish(&mut &mut nest, cx)? {
+        Some(value) => Ok(answers.number(value)?),
+        None => Ok(()),
+    }
+}
+
+/// Polls a function that polls a future until its value.
+pub(crate) fn by_function(
+    alloc: Global,
+    cx: &mut Context<'_>,
+    words: &mut Words<'_>,
+    answers: &mut Answers,
+) -> Result<(), Fault> {
+    let mut nest = Nest::build(alloc, words)?;
+    match answers.finish(&mut future::poll_fn(|cx| nest.poll(cx)), cx)? {
+        Some(value) => Ok(answers.number(value)?),
+        None => Ok(()),
+    }
+}
+
 /// Polls a fused future, after its value too.
 pub(crate) fn fused(
     alloc: Global,

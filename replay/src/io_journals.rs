@@ -55,8 +55,9 @@ impl Duplex {
         let Some(marks) = word.strip_prefix("M:") else {
             return Err(Fault::Words);
         };
+        let reader = marks_of(alloc, marks)?;
         Ok(Duplex {
-            reader: marks_of(alloc, marks)?,
+            reader: if words.is_quiet { reader.quiet() } else { reader },
             writer: writer_of(alloc, words)?,
         })
     }

@@ -96,7 +96,8 @@ impl BuildReader for Source {
     fn build(alloc: Global, words: &mut Words<'_>) -> Result<Source, Fault> {
         let word = words.take()?;
         if let Some(rest) = word.strip_prefix("M:") {
-            return Ok(Source::Marks(marks_of(alloc, rest)?));
+            let marks = marks_of(alloc, rest)?;
+            return Ok(Source::Marks(if words.is_quiet { marks.quiet() } else { marks }));
         }
         match word {
             "mem" => Memory::of(alloc, 0, words.take()?),

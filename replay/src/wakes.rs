@@ -97,7 +97,7 @@ fn waited<F: Future<Output: Drop>>(
 }
 
 /// Ends the context, and tells whether its task was woken while it stood.
-fn is_woken(solo: &Solo, mut cx: Context<'_>) -> bool {
+pub(crate) fn is_woken(solo: &Solo, mut cx: Context<'_>) -> bool {
     let source = Source::new();
     let mut slot = None;
     let _: Poll<()> = cx.register(&source, &mut slot);

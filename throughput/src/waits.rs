@@ -1,4 +1,4 @@
-//! Calls that wait, `n` of each, with one `BlockOn` for all.
+//! Calls that wait, `n` of each, with one `Waits` for all.
 
 use crate::bytes::{BLOCK, blocks_len};
 use crate::codecs::{LINE, MAX, VALUE};
@@ -22,11 +22,13 @@ where
     R: Wait + RandomSource + AllocGlobal,
 {
     let bytes = text(rt.alloc(), n)?;
-    let (mut on, mut reader) = (BlockOn::new(rt)?, bytes.as_slice());
+    let mut reader = bytes.as_slice();
+    let mut on = BlockOn::new(rt)?;
+    let mut waits = on.waits();
     let mut block = [0u8; BLOCK as usize];
     let mut sum = 0u64;
     for _ in 0..n {
-        let Ok(count) = wait_read(&mut on, rt, &mut reader, &mut block)? else {
+        let Ok(count) = wait_read(&mut waits, rt, &mut reader, &mut block)? else {
             break;
         };
         sum = sum.wrapping_add(count as u64);
@@ -41,11 +43,13 @@ where
     R: Wait + RandomSource + AllocGlobal,
 {
     let bytes = text(rt.alloc(), n)?;
-    let (mut on, mut reader) = (BlockOn::new(rt)?, bytes.as_slice());
+    let mut reader = bytes.as_slice();
+    let mut on = BlockOn::new(rt)?;
+    let mut waits = on.waits();
     let mut block = [0u8; BLOCK as usize];
     let mut sum = 0u64;
     for _ in 0..n {
-        let Ok(()) = wait_read_exact(&mut on, rt, &mut reader, &mut block)? else {
+        let Ok(()) = wait_read_exact(&mut waits, rt, &mut reader, &mut block)? else {
             break;
         };
         sum = sum.wrapping_add(block[0] as u64);
@@ -60,12 +64,14 @@ where
     R: Wait + RandomSource + AllocGlobal,
 {
     let bytes = text(rt.alloc(), n)?;
-    let (mut on, mut reader) = (BlockOn::new(rt)?, bytes.as_slice());
+    let mut reader = bytes.as_slice();
+    let mut on = BlockOn::new(rt)?;
+    let mut waits = on.waits();
     let mut line = Vec::new(rt.alloc());
     let mut sum = 0u64;
     for _ in 0..n {
         line.clear();
-        let Ok(count) = wait_read_until(&mut on, rt, &mut reader, b'\n', &mut line)? else {
+        let Ok(count) = wait_read_until(&mut waits, rt, &mut reader, b'\n', &mut line)? else {
             break;
         };
         sum = sum.wrapping_add(count as u64);
@@ -80,12 +86,14 @@ where
     R: Wait + RandomSource + AllocGlobal,
 {
     let bytes = text(rt.alloc(), n)?;
-    let (mut on, mut reader) = (BlockOn::new(rt)?, bytes.as_slice());
+    let mut reader = bytes.as_slice();
+    let mut on = BlockOn::new(rt)?;
+    let mut waits = on.waits();
     let mut line = Vec::new(rt.alloc());
     let mut sum = 0u64;
     for _ in 0..n {
         line.clear();
-        let read = wait_read_until_limited(&mut on, rt, &mut reader, b'\n', LINE as u64, &mut line)?;
+        let read = wait_read_until_limited(&mut waits, rt, &mut reader, b'\n', LINE as u64, &mut line)?;
         let Ok(count) = read else {
             break;
         };
@@ -101,13 +109,14 @@ where
     R: Wait + RandomSource + AllocGlobal,
 {
     let mut on = BlockOn::new(rt)?;
+    let mut waits = on.waits();
     let mut bytes = Vec::with_capacity(rt.alloc(), blocks_len(n)? as usize)?;
     for i in 0..n {
         let block = [(i & 255) as u8; BLOCK as usize];
-        let Ok(()) = wait_write_all(&mut on, rt, &mut bytes, &block)? else {
+        let Ok(()) = wait_write_all(&mut waits, rt, &mut bytes, &block)? else {
             break;
         };
-        let Ok(()) = wait_flush(&mut on, rt, &mut bytes)? else {
+        let Ok(()) = wait_flush(&mut waits, rt, &mut bytes)? else {
             break;
         };
     }
@@ -122,10 +131,11 @@ where
 {
     let bytes = repeated(rt.alloc(), VALUE, n)?;
     let mut on = BlockOn::new(rt)?;
+    let mut waits = on.waits();
     let mut frames = FramedRead::new(rt.alloc(), bytes.as_slice(), LengthDelimited { max: MAX });
     let mut sum = 0u64;
     for _ in 0..n {
-        let Some(Ok(frame)) = wait_frame(&mut on, rt, &mut frames) else {
+        let Some(Ok(frame)) = wait_frame(&mut waits, rt, &mut frames) else {
             break;
         };
         sum = sum.wrapping_add(frame.len() as u64);
@@ -139,12 +149,14 @@ pub(crate) fn sends<R>(rt: &R, n: u64) -> Result<u64, Fault>
 where
     R: Wait + RandomSource + AllocGlobal,
 {
-    let (mut on, mut out) = (BlockOn::new(rt)?, BytesMut::new(rt.alloc()));
+    let mut out = BytesMut::new(rt.alloc());
+    let mut on = BlockOn::new(rt)?;
+    let mut waits = on.waits();
     let mut bytes = Vec::with_capacity(rt.alloc(), (blocks_len(n)? as usize).saturating_mul(2))?;
     let mut encoder = LengthDelimited { max: MAX };
     for i in 0..n {
         let block = [(i & 255) as u8; BLOCK as usize];
-        let sent = wait_send(&mut on, rt, &mut bytes, &mut encoder, block.as_slice(), &mut out);
+        let sent = wait_send(&mut waits, rt, &mut bytes, &mut encoder, block.as_slice(), &mut out);
         if sent.is_err() {
             break;
         }

@@ -47,8 +47,8 @@ abbrev pub one_more_if : Bool → ℕ → ℕ
 one_more_if true n = 1 + n
 one_more_if false n = n
 
--- `few` holds if the error says that too few tasks finished.
-abbrev pub WhereTooFew : RunError → Type 0 → Type 0
-WhereTooFew (Queue e) few = ⊤
-WhereTooFew Memory few = ⊤
-WhereTooFew TooFew few = few
+-- What an error leaves: `few` holds if it says that too few tasks have their values, and `same` if no task was polled.
+abbrev pub StopsWhere : RunError → Type 0 → Type 0 → Type 0
+StopsWhere (Queue e) few same = same
+StopsWhere Memory few same = same
+StopsWhere TooFew few same = few

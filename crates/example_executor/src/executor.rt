@@ -1,7 +1,7 @@
 //! A small executor, on this thread.
 ghost use Rattle.std.specs.List.{AllByRecursion};
 ghost use Rattle.std.specs.Prelude.{◌≡◌, ◌+◌, ◌<◌, IfErr, OnOk};
-ghost use Rattle.example_executor.specs.Tasks.{EachRan, MayRun, TaskRan, WhereTooFew};
+ghost use Rattle.example_executor.specs.Tasks.{EachRan, MayRun, StopsWhere, TaskRan};
 ghost use Rattle.example_executor.specs.Tasks.{finished, one_if_some, one_more_if};
 
 use crate::fault::RunError;
@@ -22,7 +22,7 @@ where
     requires { AllByRecursion (MayRun F.can_poll) tasks.old }
     ensures ran { EachRan F.run tasks.old tasks.new }
     ensures came { OnOk result (finished tasks.new ≡ wanted + finished tasks.old) }
-    ensures few { IfErr result (λ e. WhereTooFew e (finished tasks.new < wanted + finished tasks.old)) }
+    ensures stopped { IfErr result (λ e. StopsWhere e (finished tasks.new < wanted + finished tasks.old) (tasks.new ≡ tasks.old)) }
 {
     let queue = match Queue::new(rt, Doorbell::parking()) {
         Ok(queue) => queue,

@@ -1,8 +1,8 @@
 //! What becomes of each task of a list.
 ghost use Rattle.std.specs.List.{AllByRecursion, filter_map};
-ghost use Rattle.std.specs.Prelude.{◌≡◌, ◌+◌, ◌<◌, ◌≤◌, ◌++◌, IfErr, IfOk, length, map, vec_capacity, vec_len};
+ghost use Rattle.std.specs.Prelude.{◌≡◌, ◌+◌, ◌<◌, ◌≤◌, ◌++◌, IfErr, IfOk, length, map, vec_capacity, vec_len, ⊤};
 ghost use Rattle.example_executor.specs.Outcomes.{EachOutcome, task_within};
-ghost use Rattle.example_executor.specs.Tasks.{WhereTooFew};
+ghost use Rattle.example_executor.specs.Tasks.{StopsWhere};
 
 use crate::executor::run;
 use crate::fault::RunError;
@@ -30,7 +30,7 @@ where
     F: Future<Output: Drop> + Drop,
     requires { AllByRecursion F.can_poll futures.items }
     ensures each { IfOk result (λ outcomes. EachOutcome F.run polls futures.items outcomes.items) }
-    ensures few { IfErr result (λ e. WhereTooFew e (0 < length futures.items)) }
+    ensures stopped { IfErr result (λ e. StopsWhere e (0 < length futures.items) ⊤) }
 {
     let wanted = futures.len();
     // Asked for now, since the outcomes would be lost without it.

@@ -13,7 +13,7 @@ use std::sync::Wait;
 /// Then the values are the same, unless memory was refused.
 ///
 /// The call may wait for ever. `AllocError` means that what the thread sleeps on could not be allocated. Then
-/// the second future was not polled, and the first either not at all or up to its value.
+/// neither future was polled.
 ///
 /// # Examples
 ///

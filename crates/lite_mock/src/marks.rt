@@ -20,12 +20,15 @@ use std::marker::Model;
 /// ever. A contract sees it as the list of the marks that are left.
 ///
 /// A read takes from the chunk at the front as much as it has room for, or takes one other mark; a pending asks for another
-/// poll. Without room it answers `Ok(0)` at a chunk or an end, and takes nothing. The original has no such type.
+/// poll, unless the reader is [`quiet`](Marks::quiet). Without room it answers `Ok(0)` at a chunk or an end, and takes
+/// nothing. The original has no such type.
 #[derive(Drop)]
 pub struct Marks {
     answers: Vec<Answer>,
     // How many were taken.
     next: usize,
+    // Whether a pending wakes no task.
+    is_quiet: bool,
 }
 
 #[derive(Clone, Copy)]
@@ -57,6 +60,18 @@ impl Marks {
         Marks {
             answers: Vec::new(alloc),
             next: 0,
+            is_quiet: false,
+        }
+    }
+
+    /// Returns the same reader, whose pendings wake no task.
+    pub fn quiet(self) -> Marks
+        ensures { result ≡ self }
+    {
+        Marks {
+            answers: self.answers,
+            next: self.next,
+            is_quiet: true,
         }
     }
 
@@ -107,6 +122,7 @@ impl Clone for Marks {
         Ok(Marks {
             answers,
             next: self.next,
+            is_quiet: self.is_quiet,
         })
     }
 }
@@ -135,7 +151,11 @@ impl AsyncRead for Marks {
             }
             Some(Answer::Pending) => {
                 self.next += 1;
-                cx.yield_now()
+                if self.is_quiet {
+                    Poll::Pending
+                } else {
+                    cx.yield_now()
+                }
             }
             Some(Answer::Fault(kind)) => {
                 let error = io::Error::from(*kind);

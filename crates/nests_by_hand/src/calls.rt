@@ -1,5 +1,5 @@
 //! Functions that take items from any stream by several calls.
-ghost use Rattle.std.specs.Prelude.{◌≡◌, ◌<◌, ◌++◌, ◌∷◌, [], IfOk, IsOk, List, MatchOption, OnOk, length, slice_get, take};
+ghost use Rattle.std.specs.Prelude.{◌≡◌, ◌<◌, ◌++◌, ◌∷◌, [], IfOk, IsOk, List, MatchOption, OnOk, drop, length, slice_get, take};
 ghost use Rattle.futures_lite.specs.Lists.{Lists, RestIs};
 
 use futures_lite::future::BlockOn;
@@ -8,7 +8,7 @@ use std::alloc::{AllocError, AllocGlobal};
 use std::random::RandomSource;
 use std::sync::Wait;
 
-/// Returns the next two items, if the stream has two. `Err` if memory is refused.
+/// Returns the next two items, if the stream has two. The others stay in the stream. `Err` if memory is refused.
 pub fn next_two<R, S>(rt: &R, stream: &mut S) -> Result<Option<(S::Item, S::Item)>, AllocError>
 where
     R: Wait + RandomSource + AllocGlobal,
@@ -16,7 +16,8 @@ where
     requires { S.can_poll stream.old }
     ensures again { S.can_poll stream.new }
     ensures items { (xs : List S.Item) → Lists S.run stream.old xs
-        → IfOk result (λ v. MatchOption v (length xs < 2) (λ p. take 2 xs ≡ p.0 ∷ p.1 ∷ [])) }
+        → IfOk result (λ v. MatchOption v (length xs < 2) (λ p. (take 2 xs ≡ p.0 ∷ p.1 ∷ [])
+        × RestIs S.run stream.new (drop 1 xs))) }
 {
     let mut on = BlockOn::new(rt)?;
     let Some(first) = wait_next(&mut on, rt, stream)? else {

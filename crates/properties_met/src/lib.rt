@@ -6,7 +6,9 @@
 
 pub mod conditions;
 pub mod consuming;
+pub mod firm;
 pub mod future_properties;
+pub mod holding;
 pub mod merges;
 pub mod readers;
 pub mod reading;

@@ -1,4 +1,5 @@
 mod exchanges;
+mod executor;
 mod http;
 mod lines;
 mod pipeline;

@@ -1,7 +1,8 @@
 use Rattle.std.proofs.Common.{◌≡◌, ◌∙◌, ◌<◌, ◌+◌, ◌++◌, IfErr, IsErrAnd, Result, Ok, Err, arith, drop, length, take}
+use Rattle.std.specs.Prelude.{⊤}
 use Rattle.std.proofs.lemmas.Grind.{common_steps}
 use Rattle.example_executor.proofs.PollLimits.{each_outcome, may_run, none_finished}
-use Rattle.example_executor.specs.Tasks.{WhereTooFew, finished}
+use Rattle.example_executor.specs.Tasks.{StopsWhere, finished}
 use Rattle.example_executor.specs.declared.fault.RunError.{RunError}
 use Rattle.example_executor.specs.declared.fault.RunError.TheVariants.{Memory, Queue, TooFew}
 use Rattle.example_executor.proofs.outcomes.run_each.Goals as goal
@@ -24,18 +25,18 @@ returns-clause-each g c =
     rw (c.append_values.ensures, c.in_ok-outcomes.ensures.items, whole)
     (each_outcome g.F.Future.run c.args.polls c.args.futures.items c.run.new.tasks ran all)
 
-follows : (e : RunError) (P Q : Type 0) → (P → Q) → WhereTooFew e P → WhereTooFew e Q
-follows (Queue e) P Q f h = tt
-follows Memory P Q f h = tt
-follows TooFew P Q f h = f h
+follows : (e : RunError) (P Q same : Type 0) → (P → Q) → StopsWhere e P same → StopsWhere e Q ⊤
+follows (Queue e) P Q same f h = tt
+follows Memory P Q same f h = tt
+follows TooFew P Q same f h = f h
 
-handed_on : {V : Type 0} (r : Result V RunError) (e : RunError) (P : Type 0) → IsErrAnd r (λ x. x ≡ e) → WhereTooFew e P
-    → IfErr r (λ x. WhereTooFew x P)
+handed_on : {V : Type 0} (r : Result V RunError) (e : RunError) (P : Type 0) → IsErrAnd r (λ x. x ≡ e) → StopsWhere e P ⊤
+    → IfErr r (λ x. StopsWhere x P ⊤)
 handed_on (Ok v) e P is h = tt
 handed_on (Err x) e P is h = rw is h
 
-pub returns-in_err-run-clause-few : goal.returns-in_err-run-clause-few
-returns-in_err-run-clause-few g c =
+pub returns-in_err-run-clause-stopped : goal.returns-in_err-run-clause-stopped
+returns-in_err-run-clause-stopped g c =
     let first = c.deref_mut.ensures.value ∙ c.in_ok-tasks.ensures in
     let none : finished c.deref_mut.result.now ≡ 0 =
     rw first (none_finished g.F.Future.run c.args.polls c.args.futures.items) in
@@ -43,4 +44,4 @@ returns-in_err-run-clause-few g c =
     → 0 < length c.args.futures.items =
     λ less. omega (arith, less, none, c.len-wanted.ensures) in
     handed_on c.from_residual-in_err-run.result c.in_err-run.field-0.0 _ c.from_residual-in_err-run.ensures.1
-    (follows c.in_err-run.field-0.0 _ _ some c.in_err-run.ensures.few)
+    (follows c.in_err-run.field-0.0 _ _ _ some c.in_err-run.ensures.stopped)
