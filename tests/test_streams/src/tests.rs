@@ -2,4 +2,4 @@ mod consuming;
 mod futures;
 mod marks;
 mod merging;
-mod streams;
+pub(crate) mod streams;

@@ -2,5 +2,6 @@
 //! collections of a caller's own, and the blocking stream.
 mod block;
 mod consume;
+mod drops;
 mod examples;
 mod gather;

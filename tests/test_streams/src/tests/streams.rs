@@ -2,7 +2,7 @@
 mod adapters;
 mod cycles;
 mod examples;
-mod guards;
+pub(crate) mod guards;
 mod scarce;
 mod sources;
 mod text;

@@ -1,5 +1,5 @@
 //! What a wait costs the processor, after many calls that did not wait.
-ghost use Rattle.futures_lite.specs.Own.{Anything, anything_reads};
+ghost use Rattle.futures_lite.specs.Own.{AnyValue, Anything, anything_future, anything_reads};
 
 use super::bell::Bell;
 use futures_lite::future::{self, BlockOn, Future};
@@ -43,6 +43,54 @@ fn a_sleeper_of_futures_sleeps(rt: HostRuntime) -> Result<(), Fail> {
         || ring_later(&rt, &bell),
     );
     assert!(rt; cost? < Duration::from_millis(MOST));
+    Ok(())
+}
+
+/// Counts the polls of a future.
+#[derive(Drop)]
+struct Polled<F> {
+    future: F,
+    polls: u32,
+}
+
+impl<F: Future> Future for Polled<F> {
+    type Output = F::Output;
+
+    ghost run = { AnyValue };
+
+    ghost laws = { anything_future };
+
+    fn poll(&mut self, cx: &mut Context<'_>) -> Poll<F::Output> {
+        self.polls += 1;
+        self.future.poll(cx)
+    }
+}
+
+#[test]
+fn each_wake_leads_to_one_poll(rt: HostRuntime) -> Result<(), Fail> {
+    let mut on = BlockOn::new(&rt)?;
+    for way in 0..3u8 {
+        let bell = Bell::new(rt.alloc())?;
+        let mut future = Polled {
+            future: bell.other()?,
+            polls: 0,
+        };
+        let (waited, ()) = thread::join(
+            &rt,
+            || -> io::Result<()> {
+                let _rung = match way {
+                    0 => on.block_on(&rt, &mut future)?,
+                    1 => on.wait_for(&rt, &mut future)?,
+                    _ => on.waits().wait_for(&rt, &mut future),
+                };
+                Ok(())
+            },
+            || ring_later(&rt, &bell),
+        );
+        waited?;
+        // The first poll, and one for the wake.
+        assert_eq!(rt; future.polls, 2);
+    }
     Ok(())
 }
 

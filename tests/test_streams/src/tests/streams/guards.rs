@@ -9,8 +9,8 @@ use std::random::RandomSource;
 use test_support::answers;
 
 /// Counts its drop.
-pub(super) struct Guard<'a> {
-    pub(super) drops: &'a Cell<u8>,
+pub(crate) struct Guard<'a> {
+    pub(crate) drops: &'a Cell<u8>,
 }
 
 impl Drop for Guard<'_> {
@@ -20,7 +20,7 @@ impl Drop for Guard<'_> {
     }
 }
 
-pub(super) fn guards(
+pub(crate) fn guards(
     alloc: Global,
     drops: &Cell<u8>,
     count: usize,
@@ -34,7 +34,7 @@ pub(super) fn guards(
 
 /// A future that is pending so often, then has its value, and counts its drop.
 #[derive(Drop)]
-pub(super) struct Guarded<'a, T: Copy> {
+pub(crate) struct Guarded<'a, T: Copy> {
     pendings: u8,
     value: T,
     _guard: Guard<'a>,
@@ -56,7 +56,7 @@ impl<T: Copy> Future for Guarded<'_, T> {
     }
 }
 
-pub(super) fn make_guarded<T: Copy>(drops: &Cell<u8>, pendings: u8, value: T) -> Guarded<'_, T> {
+pub(crate) fn make_guarded<T: Copy>(drops: &Cell<u8>, pendings: u8, value: T) -> Guarded<'_, T> {
     Guarded {
         pendings,
         value,
@@ -65,7 +65,7 @@ pub(super) fn make_guarded<T: Copy>(drops: &Cell<u8>, pendings: u8, value: T) ->
 }
 
 /// The answers of so many polls, each with how many drops there were by then.
-pub(super) fn with_drops<R, S>(
+pub(crate) fn with_drops<R, S>(
     rt: &R,
     drops: &Cell<u8>,
     stream: &mut S,
@@ -85,10 +85,10 @@ where
     Ok(all)
 }
 
-pub(super) const END: Poll<Option<u8>> = Poll::Ready(None);
+pub(crate) const END: Poll<Option<u8>> = Poll::Ready(None);
 
 /// How many items were dropped after two polls of the stream, which is still there.
-pub(super) fn dropped<R, S>(rt: &R, drops: &Cell<u8>, mut stream: S) -> io::Result<u8>
+pub(crate) fn dropped<R, S>(rt: &R, drops: &Cell<u8>, mut stream: S) -> io::Result<u8>
 where
     R: RandomSource + AllocGlobal,
     S: Stream<Item: Drop> + Drop,
