@@ -420,7 +420,10 @@ impl<W: AsyncWrite> BufWriter<W> {
             match self.offer(cx) {
                 Poll::Ready(Ok(0)) => {
                     self.shift();
-                    return Poll::Ready(Err(ErrorKind::WriteZero.into()));
+                    return Poll::Ready(Err(io::Error::new(
+                        ErrorKind::WriteZero,
+                        "Failed to write buffered data",
+                    )));
                 }
                 Poll::Ready(Ok(n)) => {
                     self.written += n;

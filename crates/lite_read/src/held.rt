@@ -166,7 +166,7 @@ pub(crate) fn finish<A: Allocator + Copy>(
         return read;
     }
     match read {
-        Ok(_) => Err(ErrorKind::InvalidData.into()),
+        Ok(_) => Err(io::Error::new(ErrorKind::InvalidData, "stream did not contain valid UTF-8")),
         Err(e) => Err(e),
     }
 }

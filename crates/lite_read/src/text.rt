@@ -96,7 +96,10 @@ fn text_of(bytes: Vec<u8>, ascii: bool) -> io::Result<String>
 {
     if !ascii {
         if let Err(_) = from_utf8(&bytes) {
-            return Err(io::Error::from(ErrorKind::InvalidData));
+            return Err(io::Error::new(
+                ErrorKind::InvalidData,
+                "stream did not contain valid UTF-8",
+            ));
         }
     }
     Ok(unsafe { String::from_utf8_unchecked(bytes) })

@@ -15,7 +15,7 @@ use lite_io_base::{AsyncRead, AsyncWrite, ReadSpec, WriteSpec};
 use std::alloc::AllocError;
 use std::io;
 
-/// A journal, and the counter_names of its two sides. Each step is one call of the stream together with its entry.
+/// A journal, and the counters of its two sides. Each step is one call of the stream together with its entry.
 ///
 /// The journal is put in after the lock is made. Each book of calls counts one for it, so anyone who has a
 /// tally finds it there.

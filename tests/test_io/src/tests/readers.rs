@@ -6,6 +6,7 @@ mod buffered;
 mod bytes;
 mod closing;
 mod cursors;
+mod error_texts;
 mod fill_buf;
 mod methods;
 mod polls;

@@ -17,9 +17,9 @@ returns-in-Ready-Ok-eq0-clause-ran g c =
     let ran = rw c.in-Ready-Ok-eq0.field-0-is at (rw c.in-Ready-Ok-eq0.is at e.ran) in
     let same = held_same y c.offer.new.self e.buf e.written e.len in
     drain_zero g.W.WriteSpec.writes g.W.WriteSpec.write_laws c.args.self.now
-    y c.shift.new.self c.writes.interruptions c.in-Ready-Ok-eq0.field-0-0 (error_kind c.into.result)
+    y c.shift.new.self c.writes.interruptions c.in-Ready-Ok-eq0.field-0-0 (error_kind c.new.result)
     c.offer.new.self.inner c.writes.invariant.0 c.in-Ready-Ok-eq0.field-0-0-test ran s.inner c.writes-test.true
-    c.into.ensures
+    c.new.ensures.kind
     (s.capacity ∙ ap (λ b. length (boxed_slice_items b)) e.buf) (s.held ∙ same)
 
 pub writes-preserved-in-Ready-Ok : goal.writes-preserved-in-Ready-Ok

@@ -1,5 +1,5 @@
 use Rattle.std.specs.Prelude.{◌≡◌, ◌≤◌, ◌<◌, ◌-◌, [], Ok, length, take}
-use Rattle.lite_buffered.specs.Uses.{rules, arith, sym, ◌∙◌, append-nil, length-take-le, subst, common_steps, Ready, read_marks_room, moved_marks}
+use Rattle.lite_buffered.specs.Uses.{rules, arith, sym, append-nil, length-take-le, subst, common_steps, Ready, moved_marks}
 use Rattle.lite_buffered.specs.Take.{WithinLimit}
 use Rattle.lite_buffered.proofs.Reading.{fits_moved}
 use Rattle.lite_buffered.proofs.take.Take.read_within.Goals as goal

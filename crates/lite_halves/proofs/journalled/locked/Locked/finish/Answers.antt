@@ -17,5 +17,5 @@ invariant_of-self-2 g c =
       reading_is = other_books g.T.ReadSpec.reads g.T.WriteSpec.writes _ _ _ _ there c.in_ok-polled.ensures.added
           belongs _ c.args.self.now.reading_is;
       writing_is = own_books g.T.ReadSpec.reads g.T.WriteSpec.writes _ _ _ _ there c.in_ok-polled.ensures.added
-          belongs 0 _ _ (c.audit.ensures.counter_names ∙ c.args.self.now.writing_is) refl c.count.ensures.counter_names;
+          belongs 0 _ _ (c.audit.ensures.counters ∙ c.args.self.now.writing_is) refl c.count.ensures.counters;
     }

@@ -15,7 +15,7 @@ invariant_of-self-2 g c =
     let belongs = read_belongs c.in_ok-polled.polled c.step_read.new.buf c.in_ok-polled.ensures.bound in
     record {
       reading_is = own_books g.T.ReadSpec.reads g.T.WriteSpec.writes _ _ _ _ there c.in_ok-polled.ensures.added
-          belongs _ _ _ (c.audit.ensures.counter_names ∙ c.args.self.now.reading_is) c.count.ensures c.count-2.ensures.counter_names;
+          belongs _ _ _ (c.audit.ensures.counters ∙ c.args.self.now.reading_is) c.count.ensures c.count-2.ensures.counters;
       writing_is = other_books g.T.ReadSpec.reads g.T.WriteSpec.writes _ _ _ _ there c.in_ok-polled.ensures.added
           belongs _ c.args.self.now.writing_is;
     }
