@@ -133,5 +133,5 @@ impl<S: CalmStream, F: FnMut(S::Item) -> Fut, Fut: CalmFuture + Drop> CalmStream
 
 impl<S: ArmedStream, F: FnMut(S::Item) -> Fut, Fut: ArmedFuture + Drop> ArmedStream
     for Then<S, F, Fut> {
-    ghost armed = { then_arms F.FnMut S.armed Fut.armed };
+    ghost armed = { then_arms Fut.armed F.FnMut S.armed };
 }

@@ -33,11 +33,17 @@ before_held (Some v) = refl
 
 -- `HeldRegisters` holds of the fact that the task is armed, if it does of what was polled last.
 pub held_armed : {S V A : Type 0} {run : Runs (Answer A) S} {registers : S → Lasting → Type 0}
-    {registers' : V → Lasting → Type 0} → Arms run registers → (s t : S) (held : Option V) (i : List (Answer A))
+    (registers' : V → Lasting → Type 0) → Arms run registers → (s t : S) (held : Option V) (i : List (Answer A))
     → run s i t → LastPolled (λ v. registers' v Lasting.armed) held false i
     → HeldRegisters registers registers' t held Lasting.armed
-held_armed a s t None i came e = a.at s t i e came
-held_armed a s t (Some v) i came e = e
+held_armed registers' a s t None i came e = a.at s t i e came
+held_armed registers' a s t (Some v) i came e = e
+
+-- What was polled last stays so with another list of the source that ends alike.
+polled_alike : {V A : Type 0} (armed : V → Type 0) (held : Option V) (b c : Bool) (i j : List (Answer A))
+    → pends_last b i ≡ pends_last c j → LastPolled armed held b i → LastPolled armed held c j
+polled_alike armed None b c i j same e = sym same ∙ e
+polled_alike armed (Some v) b c i j same e = e
 
 -- `armed` holds of a value that is held after a `Pending`, and a value that is done returned no `Pending` last.
 module _ {F A V B : Type 0} (call : Question F A V) (gives : V → List (Answer B) → Option V → Type 0)
@@ -53,8 +59,10 @@ module _ {F A V B : Type 0} (call : Question F A V) (gives : V → List (Answer 
       (λ p v i own rest ran k b c h d.
       let more : pends_last (pends_last false own) rest ≡ true = sym (pends_join false own rest) ∙ (rw h at d) in
       k false c (λ n. cc n) (pends_from (pends_last false own) false rest (λ n. absurd (done v own ran n)) more))
-      (λ p i o k b c h d. k true true (λ n. n) d) (λ p i o k b c h d. k false false (λ n. n) d)
-      (λ p r x v i a o called k b c h d. k false false refl (pends_anew false b a o ∙ d)) s
+      (λ p i o k b c h d. polled_alike armed t.1 true c i (Pending ∷ i) refl (k true true (λ n. n) d))
+      (λ p i o k b c h d. polled_alike armed t.1 false c i (end ∷ i) refl (k false false (λ n. n) d))
+      (λ p r x v i a o called k b c h d.
+      polled_alike armed t.1 false c i (item x ∷ i) refl (k false false refl (pends_anew false b a o ∙ d))) s
 
 module _ {B A : Type 0} {run : Runs (Answer A) B} {armed : B → Type 0}
     (still : (b c : B) (l : List (Answer A)) → EndsPending l → run b l c → armed c) where
@@ -68,18 +76,20 @@ module _ {B A : Type 0} {run : Runs (Answer A) B} {armed : B → Type 0}
       (λ x y i own a rest endless ran k b c h d.
       let more : pends_last (pends_last b own) (a ∷ rest) ≡ true = sym (pends_join b own (a ∷ rest)) ∙ d in
       k false c (λ n. cc n) (pends_anew false (pends_last b own) a rest ∙ more))
-      (λ i l k b c h d. k true true (λ n. n) d) (λ i l k b c h d. k false false (λ n. n) d)
-      (λ x i a l k b c h d. k false false refl (pends_anew false b a l ∙ d)) held
+      (λ i l k b c h d. polled_alike armed last true c i (Pending ∷ i) refl (k true true (λ n. n) d))
+      (λ i l k b c h d. polled_alike armed last false c i (end ∷ i) refl (k false false (λ n. n) d))
+      (λ x i a l k b c h d.
+      polled_alike armed last false c i (item x ∷ i) refl (k false false refl (pends_anew false b a l ∙ d))) held
 
 -- An adapter that flattens is armed if its source and the inner streams are.
 pub flattening_arms : {M S B A : Type 0} (p : AdapterParts M S (Option B)) {outer : Runs (Answer B) S}
     {run : Runs (Answer A) B} {registers : S → Lasting → Type 0} {registers' : B → Lasting → Type 0}
     → Arms outer registers → Arms run registers'
     → Arms (Adapts p outer (Flattening run)) (λ m. HeldRegisters registers registers' (p.source m) (p.held m))
-flattening_arms p a b =
+flattening_arms p {registers'} a b =
     record {
       at = λ x y l e h.
-          held_armed a (p.source x) (p.source y) (p.held y) h.ins h.came
+          held_armed registers' a (p.source x) (p.source y) (p.held y) h.ins h.came
           (flattening_pends (λ v w m d ran. b.at v w m d ran) (p.held x) (p.held y) h.ins l h.related false false
           (before_held (p.held x)) e);
     }

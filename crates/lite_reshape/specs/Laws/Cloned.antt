@@ -174,6 +174,13 @@ cloned_ok_counting {E} is_clone is_infallible {run} laws c =
       lowers = λ x y l k h. found.lowers x y l k (unrefused x y (all_ok l) (ok_not_refused E l) h);
     }
 
+-- What was polled last is the source, if no reference that is held can be pending.
+polled_source : {S R : Type 0} {run : Runs (Answer R) S} {registers : S → Lasting → Type 0} → Arms run registers
+    → (s t : S) (held : Option R) (i : List (Answer R)) → run s i t → LastPolled (λ _. ⊥) held false i
+    → registers t Lasting.armed
+polled_source a s t None i came e = a.at s t i e came
+polled_source a s t (Some v) i came e = absurd e
+
 -- A clone and an allocation failure are returned at once, without a `Pending`.
 module _ {T E : Type 0} (is_clone : T → T → Type 0) (is_infallible : T → Type 0) where
   module _ (x : Bor T) where
@@ -193,12 +200,6 @@ module _ {T E : Type 0} (is_clone : T → T → Type 0) (is_infallible : T → T
   not_pending : (x : Bor T) (l : List (Answer (Result T E))) (next : Option (Bor T))
       → Clones is_clone is_infallible x l next → EndsPending l → ⊥
   not_pending x l next h e = cc (no_pends false l (clones_no_pending x l next h) e)
-
-  polled_source : {S : Type 0} {run : Runs (Answer (Bor T)) S} {registers : S → Lasting → Type 0} → Arms run registers
-      → (s t : S) (held : Option (Bor T)) (i : List (Answer (Bor T))) → run s i t
-      → LastPolled (λ _. ⊥) held false i → registers t Lasting.armed
-  polled_source a s t None i came e = a.at s t i e came
-  polled_source a s t (Some v) i came e = absurd e
 
   -- A `cloned` is armed if its source is.
   pub cloned_arms : {S : Type 0} {run : Runs (Answer (Bor T)) S} {registers : S → Lasting → Type 0} → Arms run registers

@@ -190,7 +190,7 @@ module _ {V B : Type 0} {gives : Runs (Poll B) V} {registers' : V → Lasting �
   then_arms g a =
       record {
         at = λ x y l e h.
-            held_armed a x.stream y.stream y.future h.ins h.came
+            held_armed registers' a x.stream y.stream y.future h.ins h.came
             (expanding_pends (Calls g) (HandsOut gives) _ hands_still hands_done (x.f, x.future) (y.f, y.future) h.ins l
             h.related false false (before_held x.future) e);
       }
