@@ -45,8 +45,8 @@ NO_FAMILY = {
 }
 # Calls without a row: what waits for others, what has no value, and what stands in the row of another call, as `iter_vec` in that of `iter`.
 NO_ROW = {
-    NESTS: {"block_on", "StreamExt::for_each", "race_with_seed"},
-    TABLES: {"block_on", "iter_array", "iter_range", "iter_slice", "iter_vec", "race_with_seed"},
+    NESTS: {"block_on", "StreamExt::for_each", "poll_armed_next", "race_with_seed"},
+    TABLES: {"block_on", "iter_array", "iter_range", "iter_slice", "iter_vec", "poll_armed_next", "race_with_seed"},
 }
 
 # Types without a property of their kind. A new type that lacks one is to be named here, so that none is forgotten.
@@ -66,6 +66,12 @@ WITHOUT = {
     "CalmFuture": "Fuse Pending SeekFuture",
     "CalmRead": "Box Budgeted JournalReadHalf ReadHalf",
     "CalmWrite": "Box JournalWriteHalf WriteHalf",
+    # Their `Pending` registers nothing, or what a closure or a reader does, of which no trait says that it registers the task.
+    "ArmedStream": "Bytes Lines Pending PollFn Script Split",
+    "ArmedFuture": (
+        "CloseFuture CopyFuture FillBuf FlushFuture Fuse Pending PollFn ReadExactFuture ReadFuture ReadLineFuture ReadToEndFuture ReadToStringFuture "
+        "ReadUntilFuture ReadVectoredFuture SeekFuture WriteAllFuture WriteFuture WriteVectoredFuture"
+    ),
 }
 
 # An arm of the program replay that knows words.
@@ -100,6 +106,8 @@ NO_CASE = {
     *"size_hint start take_future take_result".split(),
     # They have no value.
     "pending",
+    # They cost what the poll costs that they make.
+    *"poll_armed poll_armed_next".split(),
     # Sources that differ from `iter` in the type of their list alone.
     *"iter_array iter_range iter_slice iter_vec".split(),
     # Members of traits, and parts of a poll, that other calls make.

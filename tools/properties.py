@@ -12,8 +12,8 @@ PAGE = "docs/TABLES.md"
 PROPERTIES = {
     "AsyncRead": ("CountedRead", "SteadyRead", "CalmRead"),
     "AsyncWrite": ("SteadyWrite", "CalmWrite"),
-    "Stream": ("Counted", "OkCounted", "SteadyStream", "CalmStream"),
-    "Future": ("SteadyFuture", "CalmFuture"),
+    "Stream": ("Counted", "OkCounted", "SteadyStream", "CalmStream", "ArmedStream"),
+    "Future": ("SteadyFuture", "CalmFuture", "ArmedFuture"),
 }
 IMPL = re.compile(r"^impl\b([^{]*?)\s(\w+)\s+for\s+([^{]+?)\s*(?:\bwhere\b[^{]*)?\{", re.M)
 DECLARED = re.compile(r"^(pub\b\S* )?(?:struct|enum) (\w+)", re.M)

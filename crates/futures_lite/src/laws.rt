@@ -1,6 +1,6 @@
 //! Functions whose contracts state laws over whole runs, and traits that are laws of a type.
 
-pub use lite_base::{CalmFuture, CalmStream, SteadyFuture, SteadyStream};
+pub use lite_base::{ArmedFuture, ArmedStream, CalmFuture, CalmStream, SteadyFuture, SteadyStream};
 pub use lite_bridge::answers_as_cursor;
 pub use lite_buffered::{counts_after_seek, keeps_order};
 pub use lite_io_base::{CalmRead, CalmWrite, SteadyRead, SteadyWrite};

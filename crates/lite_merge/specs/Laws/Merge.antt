@@ -1,7 +1,7 @@
 -- Laws about two streams that are merged row by row.
 use Rattle.std.specs.Prelude.{false, ◌⊎◌, ◌≡◌, ℕ, ◌+◌, List, [], ◌∷◌, ◌++◌, length, map, Bool, true, Some, None}
 use Rattle.futures.specs.Task.{Lasting}
-use Rattle.lite_base.specs.Armed.{Arms, EndsPending, pends_last}
+use Rattle.lite_base.specs.Armed.{Arms, EndsPending}
 use Rattle.lite_base.specs.Laws.Armed.{EitherPends, no_pends, rows_pend}
 use Rattle.lite_stream.specs.Laws.Arming.{through_arms}
 use Rattle.lite_stream.specs.Fuse.{FusesOn}

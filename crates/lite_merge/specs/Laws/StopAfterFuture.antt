@@ -2,7 +2,7 @@
 use Rattle.std.specs.Prelude.{false, IfSome, ◌≡◌, ℕ, List, [], ◌∷◌, ◌++◌, length, Option, Some, None}
 use Rattle.std.proofs.Common.{◌≤◌, subst}
 use Rattle.futures.specs.Task.{Lasting}
-use Rattle.lite_base.specs.Armed.{Arms, EndsPending, pends_last}
+use Rattle.lite_base.specs.Armed.{Arms, EndsPending}
 use Rattle.lite_base.specs.Laws.Armed.{no_pends}
 use Rattle.lite_merge.specs.Uses.{inl, ◌∙◌, length-append, refl, ap, sym, arith, append_assoc, Poll, Pending, Answer}
 use Rattle.lite_merge.specs.Uses.{before_end, end, items, same_hint, PollsOn, StreamLaws, endless_join, Hints, Runs}

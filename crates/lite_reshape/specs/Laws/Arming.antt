@@ -1,7 +1,7 @@
 -- Adapters with a value that they hold or a second stream: which part has registered the task.
-use Rattle.std.specs.Prelude.{◌≡◌, List, [], ◌∷◌, ◌++◌, Option, Some, None, Bool, true, false}
+use Rattle.std.specs.Prelude.{◌≡◌, List, ◌∷◌, Option, Some, None, Bool, true, false}
 use Rattle.futures.specs.Task.{Lasting}
-use Rattle.lite_reshape.specs.Uses.{◌∙◌, inl, inr, refl, sym, Ready, Pending, Answer, Endless, end, item, Question, Runs, AdapterParts, Adapts}
+use Rattle.lite_reshape.specs.Uses.{◌∙◌, inl, inr, refl, sym, Ready, Pending, Answer, end, item, Question, Runs, AdapterParts, Adapts}
 use Rattle.lite_base.specs.Armed.{Arms, EndsPending, pends_last}
 use Rattle.lite_base.specs.Laws.Armed.{pends_anew, pends_from, pends_join}
 use Rattle.lite_stream.specs.Laws.Cutting.{cuts_arming, cuts_steps}

@@ -1,5 +1,5 @@
 -- Adapters over one source that return `Pending` only when the source does.
-use Rattle.std.specs.Prelude.{◌≡◌, List, Bool, true, false}
+use Rattle.std.specs.Prelude.{◌≡◌, Bool, true, false}
 use Rattle.futures.specs.Task.{Lasting}
 use Rattle.lite_stream.specs.Uses.{Answer, Runs}
 use Rattle.lite_base.specs.Armed.{Arms, pends_last}
