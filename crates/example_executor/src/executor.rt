@@ -51,10 +51,7 @@ where
 }
 
 /// Polls the task of this context, and says whether it has its value now.
-fn poll_at<F: ArmedFuture<Output: Drop>>(
-    tasks: &mut [Task<F, F::Output>],
-    cx: Context<'_>,
-) -> bool
+fn poll_at<F: ArmedFuture<Output: Drop>>(tasks: &mut [Task<F, F::Output>], cx: Context<'_>) -> bool
     requires { AllByRecursion (MayRun F.can_poll) tasks.old }
     ensures ran { EachRan F.run tasks.old tasks.new }
     ensures came { finished tasks.new ≡ one_more_if result (finished tasks.old) }

@@ -15,8 +15,8 @@ ghost use Rattle.properties_met.specs.Registering.{TellsAll, TellsEach};
 ghost use Rattle.properties_met.specs.Unrefused.{AmpleWhere};
 
 use lite_base::{
-    ArmedStream, CalmFuture, CalmStream, Context, Counted, Future, Poll, SteadyFuture, SteadyStream, Stream,
-    poll_armed_next,
+    ArmedStream, CalmFuture, CalmStream, Context, Counted, Future, Poll, SteadyFuture,
+    SteadyStream, Stream, poll_armed_next,
 };
 use lite_merge::{Budgeted, Cycle, Drain, Or, Race, StopAfterFuture, Zip};
 use lite_reshape::{Chain, Cloned, Filter, FlatMap, Flatten, Then};
