@@ -66,12 +66,11 @@ WITHOUT = {
     "CalmFuture": "Fuse Pending SeekFuture",
     "CalmRead": "Box Budgeted JournalReadHalf ReadHalf",
     "CalmWrite": "Box JournalWriteHalf WriteHalf",
-    # Their `Pending` registers nothing, or what a closure or a reader does, of which no trait says that it registers the task.
-    "ArmedStream": "Bytes Lines Pending PollFn Script Split",
-    "ArmedFuture": (
-        "CloseFuture CopyFuture FillBuf FlushFuture Fuse Pending PollFn ReadExactFuture ReadFuture ReadLineFuture ReadToEndFuture ReadToStringFuture "
-        "ReadUntilFuture ReadVectoredFuture SeekFuture WriteAllFuture WriteFuture WriteVectoredFuture"
-    ),
+    # Their `Pending` registers nothing, or nothing that a bound says, or their run does not tell which part was pending last.
+    "ArmedStream": "Pending PollFn Script",
+    "ArmedFuture": "CopyFuture Fuse Pending PollFn SeekFuture",
+    "ArmedRead": "Box Budgeted Chain Journal JournalReadHalf ReadHalf",
+    "ArmedWrite": "Box Budgeted Journal JournalWriteHalf WriteHalf",
 }
 
 # An arm of the program replay that knows words.

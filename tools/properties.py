@@ -10,8 +10,8 @@ from vocabulary import wrapped
 PAGE = "docs/TABLES.md"
 # The trait that makes a type one of a kind, and the properties of that kind.
 PROPERTIES = {
-    "AsyncRead": ("CountedRead", "SteadyRead", "CalmRead"),
-    "AsyncWrite": ("SteadyWrite", "CalmWrite"),
+    "AsyncRead": ("CountedRead", "SteadyRead", "CalmRead", "ArmedRead"),
+    "AsyncWrite": ("SteadyWrite", "CalmWrite", "ArmedWrite"),
     "Stream": ("Counted", "OkCounted", "SteadyStream", "CalmStream", "ArmedStream"),
     "Future": ("SteadyFuture", "CalmFuture", "ArmedFuture"),
 }
