@@ -1,6 +1,6 @@
 -- Laws of lists of marks that end in a `Pending`, and of what is polled over a reader or a writer.
 use Rattle.std.specs.Prelude.{◌≡◌, List, [], ◌∷◌, ◌++◌, map, refl, Bool, true, false, ⊤}
-use Rattle.std.proofs.Common.{◌∙◌, sym}
+use Rattle.std.proofs.Common.{◌∙◌}
 use Rattle.lite_io_base.specs.Uses.{Lasting, Lent, MutBor, Poll, Ready, Pending, Runs}
 use Rattle.lite_base.specs.Armed.{EndsPending, pends_last}
 use Rattle.lite_base.specs.FutureLaws.{PolledByCalls}

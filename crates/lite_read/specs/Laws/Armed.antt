@@ -2,7 +2,7 @@
 use Rattle.std.specs.Prelude.{◌≡◌, ◌⊎◌, ℕ, List, [], ◌∷◌, IfSome, Result, refl, Bool, true, false}
 use Rattle.std.proofs.Common.{inl, inr}
 use Rattle.futures.specs.Task.{Lasting}
-use Rattle.lite_read.specs.Uses.{Answer, Error, Poll, Ready, Pending, ReadMark, Runs, PolledByCalls, MutBor}
+use Rattle.lite_read.specs.Uses.{Answer, Error, Poll, Ready, Pending, ReadMark, Runs, PolledByCalls}
 use Rattle.lite_base.specs.Armed.{Arms, EndsPending, pends_last}
 use Rattle.lite_io_base.specs.Armed.{ArmsRead, is_read_pending, last_is}
 use Rattle.lite_io_base.specs.Laws.Armed.{polled_armed, segments_end}

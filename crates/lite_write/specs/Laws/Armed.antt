@@ -1,5 +1,5 @@
 -- The futures of writing are armed over an armed writer.
-use Rattle.std.specs.Prelude.{◌≡◌, ℕ, List, [], ◌∷◌, refl, Bool, true, false}
+use Rattle.std.specs.Prelude.{◌≡◌, ℕ, List, [], ◌∷◌, refl, true, false}
 use Rattle.futures.specs.Task.{Lasting}
 use Rattle.lite_write.specs.Uses.{Pending, PolledByCalls, Runs, WriteMark}
 use Rattle.lite_base.specs.Armed.{Arms}
