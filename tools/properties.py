@@ -10,10 +10,10 @@ from vocabulary import wrapped
 PAGE = "docs/TABLES.md"
 # The trait that makes a type one of a kind, and the properties of that kind.
 PROPERTIES = {
-    "AsyncRead": ("CountedRead", "SteadyRead", "CalmRead"),
-    "AsyncWrite": ("SteadyWrite", "CalmWrite"),
-    "Stream": ("Counted", "OkCounted", "SteadyStream", "CalmStream"),
-    "Future": ("SteadyFuture", "CalmFuture"),
+    "AsyncRead": ("CountedRead", "SteadyRead", "CalmRead", "ArmedRead"),
+    "AsyncWrite": ("SteadyWrite", "CalmWrite", "ArmedWrite"),
+    "Stream": ("Counted", "OkCounted", "SteadyStream", "CalmStream", "ArmedStream"),
+    "Future": ("SteadyFuture", "CalmFuture", "ArmedFuture"),
 }
 IMPL = re.compile(r"^impl\b([^{]*?)\s(\w+)\s+for\s+([^{]+?)\s*(?:\bwhere\b[^{]*)?\{", re.M)
 DECLARED = re.compile(r"^(pub\b\S* )?(?:struct|enum) (\w+)", re.M)

@@ -32,12 +32,14 @@ GROUPS = {
             "lite_base/src/future/block_on.rt",
             "lite_base/src/future/waits.rt",
         ),
+        "Polling once": ("lite_base/src/future/armed.rt",),
         "Making a future": tuple(f"lite_future/src/{it}.rt" for it in ("pending", "poll_fn", "ready", "yield_now")),
         "Combining futures": tuple(
             f"lite_future/src/{it}.rt" for it in ("either", "fuse", "or", "poll_limited", "poll_once", "race", "zip", "try_zip")
         ),
     },
     "stream": {
+        "Polling once": ("lite_base/src/armed.rt",),
         "Sources": ("lite_source",),
         "Adapters": ("lite_stream", "lite_reshape"),
         "Merging and stopping": ("lite_merge",),

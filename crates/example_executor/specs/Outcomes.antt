@@ -19,4 +19,4 @@ EachOutcome run polls = AllZip (OutcomeWithin run polls)
 
 -- The task of a future with a poll limit, before it is polled.
 abbrev pub task_within : {F A : Type 0} → ℕ → F → Task (PollLimited F) (Result A Exhausted)
-task_within polls x = record { future = record { inner = x; left = polls }; value = None; slot = None }
+task_within polls x = record { future = record { inner = x; left = polls }; value = None }

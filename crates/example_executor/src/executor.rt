@@ -6,8 +6,9 @@ ghost use Rattle.example_executor.specs.Tasks.{finished, one_if_some, one_more_i
 
 use crate::fault::RunError;
 use crate::task::Task;
-use futures::task::{Doorbell, Queue, Source};
-use futures_lite::{Context, Future, Poll};
+use futures::task::{Doorbell, Queue};
+use futures_lite::laws::ArmedFuture;
+use futures_lite::{Context, Poll, future};
 use std::alloc::AllocGlobal;
 use std::random::RandomSource;
 use std::sync::Wait;
@@ -18,7 +19,7 @@ use std::sync::Wait;
 pub fn run<R, F>(rt: &R, tasks: &mut [Task<F, F::Output>], wanted: usize) -> Result<(), RunError>
 where
     R: Wait + RandomSource + AllocGlobal,
-    F: Future<Output: Drop>,
+    F: ArmedFuture<Output: Drop>,
     requires { AllByRecursion (MayRun F.can_poll) tasks.old }
     ensures ran { EachRan F.run tasks.old tasks.new }
     ensures came { OnOk result (finished tasks.new ≡ wanted + finished tasks.old) }
@@ -28,7 +29,6 @@ where
         Ok(queue) => queue,
         Err(e) => return Err(RunError::Queue(e)),
     };
-    let source = Source::new();
     for _ in 0..tasks.len() {
         let Ok(place) = queue.add() else {
             return Err(RunError::Memory);
@@ -43,7 +43,7 @@ where
         let Some(cx) = queue.next(rt) else {
             return Err(RunError::TooFew);
         };
-        if poll_at(tasks, &source, cx) {
+        if poll_at(tasks, cx) {
             left -= 1;
         }
     }
@@ -51,11 +51,7 @@ where
 }
 
 /// Polls the task of this context, and says whether it has its value now.
-fn poll_at<F: Future<Output: Drop>>(
-    tasks: &mut [Task<F, F::Output>],
-    source: &Source,
-    cx: Context<'_>,
-) -> bool
+fn poll_at<F: ArmedFuture<Output: Drop>>(tasks: &mut [Task<F, F::Output>], cx: Context<'_>) -> bool
     requires { AllByRecursion (MayRun F.can_poll) tasks.old }
     ensures ran { EachRan F.run tasks.old tasks.new }
     ensures came { finished tasks.new ≡ one_more_if result (finished tasks.old) }
@@ -63,16 +59,15 @@ fn poll_at<F: Future<Output: Drop>>(
 {
     let at = cx.task();
     if at < tasks.len() {
-        return poll_one(&mut tasks[at], source, cx);
+        return poll_one(&mut tasks[at], cx);
     }
     cx.cancel();
     false
 }
 
 /// Polls a task that has no value yet, and ends or parks it; says whether it has its value now.
-fn poll_one<F: Future<Output: Drop>>(
+fn poll_one<F: ArmedFuture<Output: Drop>>(
     task: &mut Task<F, F::Output>,
-    source: &Source,
     mut cx: Context<'_>,
 ) -> bool
     requires { MayRun F.can_poll task.old }
@@ -84,14 +79,13 @@ fn poll_one<F: Future<Output: Drop>>(
         cx.cancel();
         return false;
     }
-    match task.future.poll(&mut cx) {
+    match future::poll_armed(&mut task.future, &mut cx) {
         Poll::Ready(value) => {
             task.value = Some(value);
             cx.cancel();
             true
         }
         Poll::Pending => {
-            let _: Poll<()> = cx.register(source, &mut task.slot);
             cx.park();
             false
         }

@@ -36,8 +36,10 @@ where
     let sum = numbers
         .with_budget(1)
         .fold(0u8, |sum: u8, x: u8| sum.wrapping_add(x));
-    // It is pending at each poll, and wakes its own task.
-    let endless = future::poll_fn(|cx| cx.yield_now::<u8>());
+    // So is this one, and it never ends.
+    let endless = stream::repeat_with(|| 1u8)
+        .with_budget(1)
+        .fold(0u8, |sum: u8, x: u8| sum.wrapping_add(x));
     let futures = vec![in rt.alloc();
         Either::Right(Either::Right(endless)),
         Either::Right(Either::Left(sum)),

@@ -8,6 +8,7 @@ use crate::executor::run;
 use crate::fault::RunError;
 use crate::task::Task;
 use futures_lite::future::{Exhausted, PollLimited};
+use futures_lite::laws::ArmedFuture;
 use futures_lite::{Future, FutureExt};
 use std::alloc::{AllocError, AllocGlobal, Global};
 use std::random::RandomSource;
@@ -27,7 +28,7 @@ pub fn run_each<R, F>(
 ) -> Result<Vec<Result<F::Output, Exhausted>>, RunError>
 where
     R: Wait + RandomSource + AllocGlobal,
-    F: Future<Output: Drop> + Drop,
+    F: ArmedFuture<Output: Drop> + Drop,
     requires { AllByRecursion F.can_poll futures.items }
     ensures each { IfOk result (λ outcomes. EachOutcome F.run polls futures.items outcomes.items) }
     ensures stopped { IfErr result (λ e. StopsWhere e (0 < length futures.items) ⊤) }

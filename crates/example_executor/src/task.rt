@@ -1,7 +1,6 @@
 //! A future in an executor.
 ghost use Rattle.std.specs.Prelude.{◌≡◌, None};
 
-use futures::task::Waker;
 use futures_lite::Future;
 
 /// A future, and its value once it has one.
@@ -9,19 +8,16 @@ use futures_lite::Future;
 pub struct Task<F, A> {
     pub(crate) future: F,
     pub(crate) value: Option<A>,
-    // Where the executor leaves the task's waker, so that it may be parked after any pending poll.
-    pub(crate) slot: Option<Waker>,
 }
 
 impl<F: Future> Task<F, F::Output> {
     /// A task that has not been polled.
     pub fn new(future: F) -> Task<F, F::Output>
-        ensures { result ≡ record { future = future; value = None; slot = None } }
+        ensures { result ≡ record { future = future; value = None } }
     {
         Task {
             future,
             value: None,
-            slot: None,
         }
     }
 }

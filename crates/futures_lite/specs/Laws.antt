@@ -1,6 +1,7 @@
 -- Laws with their proofs: of lists of answers, of the families, and of nests ("EachItem" and "Front" of Answers).
 pub use Rattle.lite_base.specs.Laws.Answers
 pub use Rattle.lite_base.specs.Laws.Alike
+pub use Rattle.lite_base.specs.Laws.Armed
 pub use Rattle.lite_base.specs.Laws.Calling
 pub use Rattle.lite_base.specs.Laws.Calm
 pub use Rattle.lite_stream.specs.Laws.Cutting

@@ -1,6 +1,7 @@
 -- Readers: what runs of calls may do, what is lent, and what each reader of the library does, by its own file.
 pub use Rattle.lite_io_base.specs.Runs.{Afterwards, Fills, Idle, LendsFront, OnlyOkLends, ReadsInto, Shows, StandsFirst, room_in, Steps, SeekKeeps}
 pub use Rattle.lite_io_base.specs.Known.{ReadsScript, Known, Knows, ReadsKnown, unknown}
+pub use Rattle.lite_io_base.specs.Armed.{ArmsMarks, ArmsRead, is_read_pending, last_is}
 pub use Rattle.lite_io_base.specs.Steady.{CalmReadLaws, NoPendingRead, OneListOfMarks, SteadyReadLaws, strip_marks}
 pub use Rattle.lite_buffered.specs.BufReader
 pub use Rattle.lite_buffered.specs.Budgeted

@@ -3,6 +3,7 @@ pub use Rattle.lite_base.specs.StreamLaws.{PollsOn, RunLaws, StreamLaws}
 pub use Rattle.lite_base.specs.Laws.StreamLaws.{laws_of, runs_of}
 pub use Rattle.lite_base.specs.Alike.{Alike, AlikeBy, Either, MadeOf, OptionBy, Optional, Pairwise, SameAnswer, SameErr}
 pub use Rattle.lite_base.specs.Alike.{SameHeld, SameItem, SameList, SameOk, Sameness}
+pub use Rattle.lite_base.specs.Armed.{Arms}
 pub use Rattle.lite_base.specs.Calm.{CalmLaws}
 pub use Rattle.lite_base.specs.Steady.{Steadiness, SteadinessBy, SteadyLaws, SteadyLawsBy, TakesNone}
 pub use Rattle.lite_base.specs.Runs.{Lent}

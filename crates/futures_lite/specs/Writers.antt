@@ -1,5 +1,6 @@
 -- Writers: what their runs meet, and what each writer of the library does, by its own file.
 pub use Rattle.lite_io_base.specs.Stored.{Grows, Arrives, Stored, Stores, unstored}
+pub use Rattle.lite_io_base.specs.Armed.{ArmsWrite, is_write_pending}
 pub use Rattle.lite_io_base.specs.Steady.{CalmWriteLaws, EndsFlushed, NoError, NoPendingWrite, SteadyWriteLaws}
 pub use Rattle.lite_buffered.specs.BufWriter
 pub use Rattle.lite_io_base.specs.WriteMarks.{TakesFront}

@@ -10,8 +10,8 @@ ghost use Rattle.lite_future.specs.declared.side.Side.TheVariants.{Asked};
 ghost use Rattle.lite_views.specs.Answering.{HasOk, HasValueAs, PickedValue, ReturnedBy, LeftSeen};
 
 pub use lite_base::Future;
-pub use lite_base::future::{Waiter, Waits};
 pub use lite_base::future::block_on::BlockOn;
+pub use lite_base::future::{Waiter, Waits, poll_armed};
 use lite_base::{Context, Poll};
 use lite_future::make;
 pub use lite_future::make::{fuse, poll_once, yield_now};

@@ -38,7 +38,7 @@ ghost use Rattle.std.specs.Option.{option_transpose};
 ghost use denote.Ref.{Bor};
 
 use lite_base::{Context, Future, Poll};
-pub use lite_base::{Counted, OkCounted, Stream};
+pub use lite_base::{Counted, OkCounted, Stream, poll_armed_next};
 pub use lite_consume::make::block_on;
 pub use lite_consume::{
     AllFuture, AnyFuture, BlockOn, Consume, CountFuture, FindFuture, FindMapFuture, FoldFuture,

@@ -1,5 +1,6 @@
 pub mod Alike
 pub mod Answers
+pub mod Armed
 pub mod Calling
 pub mod Calm
 pub mod Chain

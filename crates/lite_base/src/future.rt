@@ -7,12 +7,14 @@ ghost use Rattle.lite_base.specs.Registered.{Registered};
 
 use futures::task::{Context, Poll};
 
+mod armed;
 pub mod block_on;
 mod calm;
 mod steady;
 mod waiter;
 mod waits;
 
+pub use armed::{ArmedFuture, poll_armed};
 pub use calm::CalmFuture;
 pub use steady::SteadyFuture;
 pub use waiter::Waiter;

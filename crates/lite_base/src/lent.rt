@@ -1,3 +1,4 @@
+ghost use Rattle.lite_base.specs.Laws.Armed.{lent_arms};
 ghost use Rattle.lite_base.specs.Laws.Calm.{lent_calm};
 ghost use Rattle.lite_base.specs.Runs.{Lent};
 ghost use Rattle.lite_base.specs.Laws.Lent.{lent_counting, lent_future_laws, lent_laws};
@@ -5,9 +6,10 @@ ghost use Rattle.lite_base.specs.Laws.Ranks.{lent_ok_counting};
 ghost use Rattle.lite_base.specs.Ranks.{ranks_of};
 ghost use Rattle.lite_base.specs.Laws.Steady.{lent_future_steady, lent_steady};
 
+use crate::armed::ArmedStream;
 use crate::calm::CalmStream;
 use crate::counted::Counted;
-use crate::future::{CalmFuture, Future, SteadyFuture};
+use crate::future::{ArmedFuture, CalmFuture, Future, SteadyFuture};
 use crate::ok_counted::OkCounted;
 use crate::steady::SteadyStream;
 use crate::stream::Stream;
@@ -85,6 +87,10 @@ impl<S: CalmStream> CalmStream for &mut S {
     ghost calm = { lent_calm S.calm };
 }
 
+impl<S: ArmedStream> ArmedStream for &mut S {
+    ghost armed = { lent_arms S.armed };
+}
+
 impl<F: SteadyFuture> SteadyFuture for &mut F {
     ghost ample = { Lent F.ample };
 
@@ -101,4 +107,8 @@ impl<F: CalmFuture> CalmFuture for &mut F {
     ghost is_calm = { λ f. F.is_calm f.now };
 
     ghost calm = { lent_calm F.calm };
+}
+
+impl<F: ArmedFuture> ArmedFuture for &mut F {
+    ghost armed = { lent_arms F.armed };
 }

@@ -2,6 +2,7 @@
 //! of all polls.
 #![tactic(auto)]
 
+mod armed;
 mod calm;
 mod counted;
 pub mod future;
@@ -11,9 +12,10 @@ mod poll_steps;
 mod steady;
 mod stream;
 
+pub use armed::{ArmedStream, poll_armed_next};
 pub use calm::CalmStream;
 pub use counted::Counted;
-pub use future::{CalmFuture, Future, SteadyFuture};
+pub use future::{ArmedFuture, CalmFuture, Future, SteadyFuture};
 pub use futures::ready;
 pub use futures::task::{Context, Poll};
 pub use ok_counted::OkCounted;

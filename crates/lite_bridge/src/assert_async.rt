@@ -5,12 +5,13 @@ ghost use Rattle.lite_io_base.specs.Runs.{Idle};
 ghost use Rattle.lite_bridge.specs.Known.{GainsKnown, MovesKnown, SameKnown, SpendsKnown, SpendsWell, known_bytes};
 ghost use Rattle.lite_bridge.specs.Laws.StdKnown.{gains_calm, gains_laws, gains_steady, spends_calm, spends_laws};
 ghost use Rattle.lite_bridge.specs.Laws.StdKnown.{spends_steady};
+ghost use Rattle.lite_io_base.specs.Laws.Armed.{arms_marks_always};
 
 use crate::interrupted::{MOST_INTERRUPTIONS, insist};
 use lite_base::{Context, Poll};
 use lite_io_base::{
-    AsyncRead, AsyncSeek, AsyncWrite, CalmRead, CalmWrite, ReadSpec, SteadyRead, SteadyWrite,
-    WriteSpec,
+    ArmedRead, ArmedWrite, AsyncRead, AsyncSeek, AsyncWrite, CalmRead, CalmWrite, ReadSpec,
+    SteadyRead, SteadyWrite, WriteSpec,
 };
 use std::io;
 use std::io::{ErrorKind, IoSlice, Read, Seek, SeekFrom, Write};
@@ -213,6 +214,10 @@ impl<T: Read> CalmRead for AssertAsync<T> {
     ghost calm = { spends_calm (λ x. T.remaining (handle_of x)) };
 }
 
+impl<T: Read> ArmedRead for AssertAsync<T> {
+    ghost armed = { arms_marks_always };
+}
+
 impl<T: Write> WriteSpec for AssertAsync<T> {
     ghost use Rattle.lite_bridge.specs.AssertAsync.{handle_of};
 
@@ -266,6 +271,10 @@ impl<T: Write> CalmWrite for AssertAsync<T> {
     ghost is_calm = { λ _. ⊤ };
 
     ghost calm = { gains_calm (λ x. T.contents (handle_of x)) };
+}
+
+impl<T: Write> ArmedWrite for AssertAsync<T> {
+    ghost armed = { arms_marks_always };
 }
 
 #[tactic(auto, using(crate::specs::Laws::StdKnown::seek_moves))]

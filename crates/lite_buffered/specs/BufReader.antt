@@ -1,5 +1,6 @@
 -- How bytes pass through the buffer of a `BufReader`.
 use Rattle.std.specs.Prelude.{◌≡◌, ℕ, zero, suc, ◌+◌, List, [], ◌∷◌, ◌++◌, ◌≤◌, ◌<◌, ◌⊎◌, length, slice_range, Result, ⊤, pos, ◌-ℤ◌, Ok, Err, FitsSigned}
+use Rattle.futures.specs.Task.{Lasting}
 use Rattle.lite_buffered.specs.Uses.{Error, Poll, ReadMark, bytes, read_marks, WriteMark, Ranks, Runs, Part, ErrorKind, SeekFrom, Current, Ready, Pending}
 use Rattle.lite_buffered.specs.declared.buf_reader.BufReader.{BufReader}
 use Rattle.lite_io_base.specs.Parts.{PartsInOrder, reading_of}
@@ -13,6 +14,11 @@ bytes_ahead r = slice_range r.buf.items r.pos r.end
 -- The inner reader, from which the buffer is filled.
 abbrev pub reader_inner : {R : Type 0} → BufReader R → R
 reader_inner r = r.inner
+
+-- What a `Pending` has registered, from what a `Pending` of the inner reader has. After a `Pending` no byte is ahead, so
+-- that nothing is said of values with bytes ahead.
+abbrev pub AheadRegisters : {R : Type 0} → (R → Lasting → Type 0) → BufReader R → Lasting → Type 0
+AheadRegisters registers r fact = bytes_ahead r ≡ [] → registers (reader_inner r) fact
 
 -- The capacity of the buffer.
 abbrev pub reader_capacity : {R : Type 0} → BufReader R → ℕ

@@ -12,7 +12,7 @@ pub use Rattle.lite_io_base.specs.Counting.{ReadCounting, Falls}
 pub use Rattle.lite_io_base.specs.Marks.{by_kind, AllGiven, ReadMark, bytes, fill_marks, filled_marks, given_count, moved_marks, read_marks}
 pub use Rattle.lite_io_base.specs.Known.{Known, ReadsKnown}
 pub use Rattle.lite_io_base.specs.Laws.Marks.{given_count-append, given_parts}
-pub use Rattle.lite_io_base.specs.Laws.Runs.{CountsWithin, idle_laws, read_marks_room, reads_front}
+pub use Rattle.lite_io_base.specs.Laws.Runs.{CountsWithin, idle_laws, reads_front}
 pub use Rattle.lite_io_base.specs.Laws.Steady.{comparable_behind, comparable_none, no_wait_both, strip_marks-append, steady_write_part}
 pub use Rattle.lite_io_base.specs.Parts.{Part}
 pub use Rattle.lite_io_base.specs.Runs.{Idle, MarkLaws, OnlyOkLends, ReadsInto, Shows, room_in, SeekKeeps}

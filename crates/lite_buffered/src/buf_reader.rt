@@ -1,10 +1,11 @@
 ghost use Rattle.std.specs.Prelude.{◌≡◌, ◌<◌, ◌≤◌, [], Ok, length, max, min, take, drop, pos, true, false, IfOk, IfErr};
+ghost use Rattle.futures.specs.Poll.{OnPending};
 ghost use Rattle.lite_buffered.specs.Uses.{Lends, sem, IfReady, Keeps, fill_marks, read_marks, OnlyOkLends, ReadsInto, room_in, Registered};
 
 use lite_base::{Context, Poll, ready};
 use lite_io_base::{
-    AsyncBufRead, AsyncRead, AsyncSeek, AsyncWrite, CalmRead, CalmWrite, CountedRead, ReadSpec,
-    SteadyRead, SteadyWrite, WriteSpec, fill_slice, fill_slices, total_room,
+    ArmedRead, ArmedWrite, AsyncBufRead, AsyncRead, AsyncSeek, AsyncWrite, CalmRead, CalmWrite,
+    CountedRead, ReadSpec, SteadyRead, SteadyWrite, WriteSpec, fill_slice, fill_slices, total_room,
 };
 use std::alloc::Global;
 use std::io::{IoSliceMut, SeekFrom};
@@ -446,6 +447,7 @@ impl<R: AsyncRead> BufReader<R> {
         ensures bound { IfReady result (λ r. IfOk r (λ n. n ≤ length buf.new)) }
         ensures ran { ThroughBuffer R.reads self.old (read_marks result buf.new) self.new }
         ensures asks { AsksWhereEmpty R.reads (reader_capacity self.old) self.old self.new }
+        ensures waits { OnPending result (bytes_ahead self.new ≡ []) }
         ensures registered { Registered result (R.registers (reader_inner self.new)) cx.new }
         ensures context { Keeps cx.old cx.new }
     {
@@ -466,6 +468,7 @@ impl<R: AsyncRead> BufReader<R> {
         ensures bound { IfReady result (λ r. IfOk r (λ n. n ≤ room_in bufs.old)) }
         ensures ran { ReadsInto (ThroughBuffer R.reads) self.old result bufs.old self.new }
         ensures asks { AsksWhereEmpty R.reads (reader_capacity self.old) self.old self.new }
+        ensures waits { OnPending result (bytes_ahead self.new ≡ []) }
         ensures registered { Registered result (R.registers (reader_inner self.new)) cx.new }
         ensures context { Keeps cx.old cx.new }
     {
@@ -477,10 +480,10 @@ impl<R: AsyncRead> BufReader<R> {
 }
 
 impl<R: AsyncRead> AsyncRead for BufReader<R> {
-    ghost use Rattle.lite_buffered.specs.BufReader.{AsksWhereEmpty, PollsOnce, ReadsPast, ThroughBuffer, bytes_ahead};
+    ghost use Rattle.lite_buffered.specs.BufReader.{AheadRegisters, AsksWhereEmpty, PollsOnce, ReadsPast, ThroughBuffer, bytes_ahead};
     ghost use Rattle.lite_buffered.specs.BufReader.{reader_capacity, reader_inner};
 
-    ghost registers = { λ r. R.registers (reader_inner r) };
+    ghost registers = { AheadRegisters R.registers };
 
     // Inline, because a call would return its large result through memory.
     #[inline(always)]
@@ -488,7 +491,7 @@ impl<R: AsyncRead> AsyncRead for BufReader<R> {
     fn poll_read(&mut self, cx: &mut Context<'_>, buf: &mut [u8]) -> Poll<io::Result<usize>>
         ensures bound { IfReady result (λ r. IfOk r (λ n. n ≤ length buf.new)) }
         ensures ran { ThroughBuffer R.reads self.old (read_marks result buf.new) self.new }
-        ensures registered { Registered result (R.registers (reader_inner self.new)) cx.new }
+        ensures registered { Registered result (AheadRegisters R.registers self.new) cx.new }
         ensures context { Keeps cx.old cx.new }
 
         // The inner reader is polled at most once.
@@ -529,7 +532,7 @@ impl<R: AsyncRead> AsyncRead for BufReader<R> {
     ) -> Poll<io::Result<usize>>
         ensures bound { IfReady result (λ r. IfOk r (λ n. n ≤ room_in bufs.old)) }
         ensures ran { ReadsInto (ThroughBuffer R.reads) self.old result bufs.old self.new }
-        ensures registered { Registered result (R.registers (reader_inner self.new)) cx.new }
+        ensures registered { Registered result (AheadRegisters R.registers self.new) cx.new }
         ensures context { Keeps cx.old cx.new }
 
         // The inner reader is polled at most once.
@@ -564,7 +567,7 @@ impl<R: AsyncRead> AsyncRead for BufReader<R> {
 }
 
 impl<R: AsyncRead> AsyncBufRead for BufReader<R> {
-    ghost use Rattle.lite_buffered.specs.BufReader.{AsksWhereEmpty, ThroughBuffer, bytes_ahead, reader_capacity, reader_inner};
+    ghost use Rattle.lite_buffered.specs.BufReader.{AheadRegisters, AsksWhereEmpty, ThroughBuffer, bytes_ahead, reader_capacity, reader_inner};
     ghost use Rattle.lite_buffered.specs.Laws.BufReader.{through_shows};
     ghost use Rattle.lite_buffered.specs.contracts.buf_reader.BufReader.{the_row};
     ghost use Rattle.lite_io_base.specs.Runs.{Afterwards, Fills};
@@ -576,7 +579,7 @@ impl<R: AsyncRead> AsyncBufRead for BufReader<R> {
     fn poll_fill_buf(&mut self, cx: &mut Context<'_>) -> Poll<io::Result<&[u8]>>
         ensures* after_borrow { sem 𝓛 (Afterwards (the_row R.row) self.entry
             (λ new. Fills (ThroughBuffer R.reads) bytes_ahead self.old result new
-            × Registered result (R.registers (reader_inner new)) cx.new
+            × Registered result (AheadRegisters R.registers new) cx.new
             × AsksWhereEmpty R.reads (reader_capacity self.old) self.old new)) }
         ensures context { Keeps cx.old cx.new }
     {
@@ -735,6 +738,12 @@ impl<R: CalmRead> CalmRead for BufReader<R> {
     ghost calm = { buf_reader_calm R.calm };
 }
 
+impl<R: ArmedRead> ArmedRead for BufReader<R> {
+    ghost use Rattle.lite_buffered.specs.Laws.BufReader.{buf_reader_arms};
+
+    ghost armed = { buf_reader_arms R.armed };
+}
+
 // Past what is ahead.
 impl<R: CalmWrite> CalmWrite for BufReader<R> {
     ghost use Rattle.lite_buffered.specs.Laws.SteadyWrite.{past_calm};
@@ -742,4 +751,10 @@ impl<R: CalmWrite> CalmWrite for BufReader<R> {
     ghost is_calm = { λ x. R.is_calm x.inner };
 
     ghost calm = { past_calm R.calm };
+}
+
+impl<R: ArmedWrite> ArmedWrite for BufReader<R> {
+    ghost use Rattle.lite_buffered.specs.Laws.SteadyWrite.{past_arms};
+
+    ghost armed = { past_arms R.armed };
 }

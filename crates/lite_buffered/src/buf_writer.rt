@@ -4,7 +4,9 @@ ghost use Rattle.lite_buffered.specs.Uses.{Registered};
 ghost use Rattle.lite_io_base.specs.WriteMarks.WriteMark.{closed, flushed};
 
 use lite_base::{Context, Poll, ready};
-use lite_io_base::{AsyncSeek, AsyncWrite, CalmWrite, ReadSpec, SteadyWrite, WriteSpec};
+use lite_io_base::{
+    ArmedWrite, AsyncSeek, AsyncWrite, CalmWrite, ReadSpec, SteadyWrite, WriteSpec,
+};
 use std::alloc::Global;
 use std::boxed::BoxedSlice;
 use std::io::{ErrorKind, SeekFrom};
@@ -585,4 +587,10 @@ impl<W: CalmWrite> CalmWrite for BufWriter<W> {
     ghost is_calm = { λ x. W.is_calm x.inner };
 
     ghost calm = { buf_writer_calm W.calm };
+}
+
+impl<W: ArmedWrite> ArmedWrite for BufWriter<W> {
+    ghost use Rattle.lite_buffered.specs.Laws.SteadyWrite.{buf_writer_arms};
+
+    ghost armed = { buf_writer_arms W.armed };
 }

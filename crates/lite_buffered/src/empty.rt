@@ -5,10 +5,11 @@ ghost use Rattle.lite_io_base.specs.Laws.Counting.{number_counting};
 ghost use Rattle.lite_io_base.specs.Laws.Known.{told_known, told_falls, told_laws};
 ghost use Rattle.lite_io_base.specs.Laws.Steady.{told_calm, told_steady};
 ghost use Rattle.lite_io_base.specs.Known.{ReadsScript};
+ghost use Rattle.lite_io_base.specs.Laws.Armed.{arms_marks_always};
 
 use lite_base::{Context, Poll};
 use lite_io_base::{
-    AsyncBufRead, AsyncRead, CalmRead, CountedRead, ReadSpec, SteadyRead, WriteSpec,
+    ArmedRead, AsyncBufRead, AsyncRead, CalmRead, CountedRead, ReadSpec, SteadyRead, WriteSpec,
 };
 use std::{fmt, io};
 
@@ -89,4 +90,8 @@ impl CalmRead for Empty {
     ghost is_calm = { λ _. ⊤ };
 
     ghost calm = { told_calm (λ x. []) };
+}
+
+impl ArmedRead for Empty {
+    ghost armed = { arms_marks_always };
 }

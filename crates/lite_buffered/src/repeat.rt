@@ -2,9 +2,10 @@ ghost use Rattle.std.specs.Prelude.{◌≡◌, ◌≤◌, ⊤, Ok, length, IfOk}
 ghost use Rattle.lite_buffered.specs.Uses.{IfReady, Keeps, read_marks, Idle, idle_laws, Registered};
 ghost use Rattle.lite_buffered.specs.Repeat.{RepeatsByte, byte_of};
 ghost use Rattle.lite_buffered.specs.Laws.Repeat.{repeats_laws, repeat_calm, repeat_steady};
+ghost use Rattle.lite_io_base.specs.Laws.Armed.{arms_marks_always};
 
 use lite_base::{Context, Poll};
-use lite_io_base::{AsyncRead, CalmRead, ReadSpec, SteadyRead, WriteSpec};
+use lite_io_base::{ArmedRead, AsyncRead, CalmRead, ReadSpec, SteadyRead, WriteSpec};
 use std::io;
 
 /// A reader that gives one byte for ever: each read fills its whole buffer.
@@ -65,4 +66,8 @@ impl CalmRead for Repeat {
     ghost is_calm = { λ _. ⊤ };
 
     ghost calm = { repeat_calm };
+}
+
+impl ArmedRead for Repeat {
+    ghost armed = { arms_marks_always };
 }

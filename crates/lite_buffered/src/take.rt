@@ -3,8 +3,8 @@ ghost use Rattle.lite_buffered.specs.Uses.{Lends, sem, IfReady, Keeps, read_mark
 
 use lite_base::{Context, Poll, ready};
 use lite_io_base::{
-    AsyncBufRead, AsyncRead, CalmRead, CountedRead, ReadSpec, SteadyRead, WriteSpec, fill,
-    first_room,
+    ArmedRead, AsyncBufRead, AsyncRead, CalmRead, CountedRead, ReadSpec, SteadyRead, WriteSpec,
+    fill, first_room,
 };
 use std::io;
 use std::io::IoSliceMut;
@@ -360,4 +360,10 @@ impl<R: CalmRead> CalmRead for Take<R> {
     ghost is_calm = { λ x. R.is_calm x.inner };
 
     ghost calm = { take_calm R.calm };
+}
+
+impl<R: ArmedRead> ArmedRead for Take<R> {
+    ghost use Rattle.lite_buffered.specs.Laws.Take.{take_arms};
+
+    ghost armed = { take_arms R.armed };
 }

@@ -1,12 +1,12 @@
 ghost use Rattle.lite_consume.specs.Uses.{Terminates-map};
 ghost use Rattle.lite_consume.specs.Consume.{CanFold, ConsumePollStep, Folds};
 ghost use Rattle.lite_consume.specs.Laws.Agreeing.{consumed_steady};
-ghost use Rattle.lite_consume.specs.Laws.Consuming.{consumed_calm, consumed_laws};
+ghost use Rattle.lite_consume.specs.Laws.Consuming.{consumed_calm, consumed_laws, consumed_arms};
 
 use crate::folder::{Folder, SteadyFolder};
 use lite_base::{
-    CalmFuture, CalmStream, Context, Future, Poll, PollSteps, SteadyFuture, SteadyStream, Stream,
-    drive,
+    ArmedFuture, ArmedStream, CalmFuture, CalmStream, Context, Future, Poll, PollSteps,
+    SteadyFuture, SteadyStream, Stream, drive,
 };
 
 /// A future that resolves to what a [`Folder`] makes of the items of a stream.
@@ -88,4 +88,8 @@ impl<S: CalmStream, F: Folder<S>> CalmFuture for Consume<S, F> {
     ghost is_calm = { λ m. S.is_calm m.stream };
 
     ghost calm = { consumed_calm F.fold S.calm };
+}
+
+impl<S: ArmedStream, F: Folder<S>> ArmedFuture for Consume<S, F> {
+    ghost armed = { consumed_arms F.fold S.armed };
 }

@@ -4,9 +4,9 @@ ghost use Rattle.lite_future.specs.Uses.{Lasting};
 ghost use Rattle.lite_base.specs.Alike.{Either as SameEither};
 ghost use Rattle.lite_future.specs.Either.{BothEither, EitherRegisters, EitherRuns, OfEither};
 ghost use Rattle.lite_future.specs.declared.either.Either.TheVariants.{Left, Right};
-ghost use Rattle.lite_future.specs.Laws.Either.{either_calm, either_laws, either_steady};
+ghost use Rattle.lite_future.specs.Laws.Either.{either_calm, either_laws, either_steady, either_arms};
 
-use lite_base::{CalmFuture, Context, Future, Poll, SteadyFuture};
+use lite_base::{ArmedFuture, CalmFuture, Context, Future, Poll, SteadyFuture};
 
 /// A future of one of two types that have one output, so that both can stand in a list.
 ///
@@ -68,6 +68,10 @@ impl<A: CalmFuture, B: CalmFuture<Output = A::Output>> CalmFuture for Either<A, 
     ghost is_calm = { OfEither A.is_calm B.is_calm };
 
     ghost calm = { either_calm A.calm B.calm };
+}
+
+impl<A: ArmedFuture, B: ArmedFuture<Output = A::Output>> ArmedFuture for Either<A, B> {
+    ghost armed = { either_arms A.armed B.armed };
 }
 
 /// States what an `Either` has registered.

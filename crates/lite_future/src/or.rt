@@ -1,9 +1,9 @@
 ghost use Rattle.std.specs.Prelude.{◌⊎◌};
 ghost use Rattle.lite_future.specs.Or.{FutureOrs};
-ghost use Rattle.lite_future.specs.Laws.Or.{ors_calm, ors_laws};
+ghost use Rattle.lite_future.specs.Laws.Or.{ors_calm, ors_laws, ors_arms};
 
 use crate::picks::poll_in_order;
-use lite_base::{CalmFuture, Context, Future, Poll};
+use lite_base::{ArmedFuture, CalmFuture, Context, Future, Poll};
 
 /// A future that resolves to the value of whichever of two futures is ready first. It prefers the first if
 /// both are.
@@ -38,4 +38,8 @@ impl<F1: CalmFuture, F2: CalmFuture<Output = F1::Output>> CalmFuture for Or<F1, 
     ghost is_calm = { λ x. F1.is_calm x.future1 ⊎ F2.is_calm x.future2 };
 
     ghost calm = { ors_calm F1.calm F2.calm };
+}
+
+impl<F1: ArmedFuture, F2: ArmedFuture<Output = F1::Output>> ArmedFuture for Or<F1, F2> {
+    ghost armed = { ors_arms F1.armed F2.armed };
 }

@@ -2,9 +2,9 @@
 ghost use Rattle.std.specs.Prelude.{◌<◌, ⊤};
 ghost use Rattle.lite_future.specs.Uses.{Lasting};
 ghost use Rattle.lite_future.specs.PollLimited.{LimitsPolls};
-ghost use Rattle.lite_future.specs.Laws.PollLimited.{limits_calm, limits_laws};
+ghost use Rattle.lite_future.specs.Laws.PollLimited.{limits_calm, limits_laws, limits_arms};
 
-use lite_base::{CalmFuture, Context, Future, Poll};
+use lite_base::{ArmedFuture, CalmFuture, Context, Future, Poll};
 
 /// A future was polled as often as its limit allows, and has no value.
 ///
@@ -62,6 +62,10 @@ impl<F: CalmFuture> CalmFuture for PollLimited<F> {
     ghost is_calm = { λ x. F.is_calm x.inner };
 
     ghost calm = { limits_calm F.calm };
+}
+
+impl<F: ArmedFuture> ArmedFuture for PollLimited<F> {
+    ghost armed = { limits_arms F.armed };
 }
 
 /// States what a future with a limit of polls has registered.

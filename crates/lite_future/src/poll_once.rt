@@ -1,8 +1,9 @@
 ghost use Rattle.std.specs.Prelude.{⊤};
 ghost use Rattle.lite_future.specs.PollOnce.{GivesFirst};
 ghost use Rattle.lite_future.specs.Laws.PollOnce.{tells_calm, tells_laws};
+ghost use Rattle.lite_base.specs.Laws.Armed.{arms_always};
 
-use lite_base::{CalmFuture, Context, Future, Poll};
+use lite_base::{ArmedFuture, CalmFuture, Context, Future, Poll};
 use std::fmt;
 
 /// A future that polls another once, and is ready with the result.
@@ -44,4 +45,8 @@ impl<F: Future> CalmFuture for PollOnce<F> {
     ghost is_calm = { λ _. ⊤ };
 
     ghost calm = { tells_calm F.run };
+}
+
+impl<F: Future> ArmedFuture for PollOnce<F> {
+    ghost armed = { arms_always };
 }

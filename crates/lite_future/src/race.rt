@@ -1,9 +1,9 @@
 ghost use Rattle.std.specs.Prelude.{◌⊎◌};
 ghost use Rattle.lite_future.specs.Race.{FutureRacesOn};
-ghost use Rattle.lite_future.specs.Laws.Race.{races_calm, races_laws};
+ghost use Rattle.lite_future.specs.Laws.Race.{races_calm, races_laws, races_arms};
 
 use crate::picks::poll_in_order;
-use lite_base::{CalmFuture, Context, Future, Poll};
+use lite_base::{ArmedFuture, CalmFuture, Context, Future, Poll};
 use rand_core::Rng;
 
 /// A future that resolves to the value of whichever of two futures is ready first, with no preference if both
@@ -55,4 +55,13 @@ where
     ghost is_calm = { λ x. F1.is_calm x.future1 ⊎ F2.is_calm x.future2 };
 
     ghost calm = { races_calm G.stream F1.calm F2.calm };
+}
+
+impl<F1, F2, G> ArmedFuture for Race<F1, F2, G>
+where
+    F1: ArmedFuture,
+    F2: ArmedFuture<Output = F1::Output>,
+    G: Rng,
+{
+    ghost armed = { races_arms G.stream F1.armed F2.armed };
 }

@@ -1,8 +1,9 @@
 ghost use Rattle.std.specs.Prelude.{◌≡◌, ⊤, IsSome};
 ghost use Rattle.lite_future.specs.Ready.{GivesHeld};
 ghost use Rattle.lite_future.specs.Laws.Ready.{held_calm, held_laws, held_steady};
+ghost use Rattle.lite_base.specs.Laws.Armed.{arms_always};
 
-use lite_base::{CalmFuture, Context, Future, Poll, SteadyFuture};
+use lite_base::{ArmedFuture, CalmFuture, Context, Future, Poll, SteadyFuture};
 
 /// A future that is ready at the first poll.
 ///
@@ -41,4 +42,8 @@ impl<T> CalmFuture for Ready<T> {
     ghost is_calm = { λ _. ⊤ };
 
     ghost calm = { held_calm };
+}
+
+impl<T> ArmedFuture for Ready<T> {
+    ghost armed = { arms_always };
 }

@@ -1,10 +1,10 @@
 ghost use Rattle.std.specs.Prelude.{◌⊎◌};
 ghost use Rattle.lite_future.specs.Side.{CanAsk, IfAsked, IsAskedAnd};
 ghost use Rattle.lite_future.specs.TryZip.{TryZips};
-ghost use Rattle.lite_future.specs.Laws.TryZip.{try_zips_calm, try_zips_laws};
+ghost use Rattle.lite_future.specs.Laws.TryZip.{try_zips_calm, try_zips_laws, try_zips_arms};
 
 use crate::side::{Side, take_both, try_ask};
-use lite_base::{CalmFuture, Context, Future, Poll};
+use lite_base::{ArmedFuture, CalmFuture, Context, Future, Poll};
 
 /// A future that resolves to the values of two futures, or to the first error.
 ///
@@ -58,4 +58,14 @@ where
     ghost is_calm = { λ x. IfAsked x.first F1.is_calm × IfAsked x.second F2.is_calm };
 
     ghost calm = { try_zips_calm F1.calm F2.calm };
+}
+
+impl<T1, T2, E, F1, F2> ArmedFuture for TryZip<F1, T1, F2, T2>
+where
+    F1: ArmedFuture<Output = Result<T1, E>> + Drop,
+    F2: ArmedFuture<Output = Result<T2, E>> + Drop,
+    T1: Drop,
+    T2: Drop,
+{
+    ghost armed = { try_zips_arms F1.armed F2.armed };
 }

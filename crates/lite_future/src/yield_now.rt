@@ -1,9 +1,9 @@
 ghost use Rattle.std.specs.Prelude.{⊤, ◌≡◌, true};
 ghost use Rattle.lite_future.specs.YieldNow.{YieldsOnce};
-ghost use Rattle.lite_future.specs.Laws.YieldNow.{yields_calm, yields_laws, yields_steady};
+ghost use Rattle.lite_future.specs.Laws.YieldNow.{yields_calm, yields_laws, yields_steady, yields_arms};
 ghost use Rattle.lite_base.specs.Registered.{HoldsWoken};
 
-use lite_base::{CalmFuture, Context, Future, Poll, SteadyFuture};
+use lite_base::{ArmedFuture, CalmFuture, Context, Future, Poll, SteadyFuture};
 
 /// A future that wakes its context and returns `Pending` once, and then is ready.
 ///
@@ -44,4 +44,8 @@ impl CalmFuture for YieldNow {
     ghost is_calm = { λ x. x.yielded ≡ true };
 
     ghost calm = { yields_calm };
+}
+
+impl ArmedFuture for YieldNow {
+    ghost armed = { yields_arms };
 }

@@ -2,10 +2,10 @@ ghost use Rattle.std.specs.Prelude.{◌⊎◌};
 ghost use Rattle.lite_future.specs.Uses.{Pairwise};
 ghost use Rattle.lite_future.specs.Side.{CanAsk, SidesBy, IfAsked, IsAskedAnd};
 ghost use Rattle.lite_future.specs.Zip.{FutureZips};
-ghost use Rattle.lite_future.specs.Laws.Zip.{zips_calm, zips_laws, zips_steady};
+ghost use Rattle.lite_future.specs.Laws.Zip.{zips_calm, zips_laws, zips_steady, zips_arms};
 
 use crate::side::{Side, ask, take_both};
-use lite_base::{CalmFuture, Context, Future, Poll, SteadyFuture};
+use lite_base::{ArmedFuture, CalmFuture, Context, Future, Poll, SteadyFuture};
 
 /// A future that resolves to the values of two futures, once both are ready.
 ///
@@ -64,4 +64,12 @@ where
     ghost is_calm = { λ x. IfAsked x.first F1.is_calm × IfAsked x.second F2.is_calm };
 
     ghost calm = { zips_calm F1.calm F2.calm };
+}
+
+impl<F1, F2> ArmedFuture for Zip<F1, F2>
+where
+    F1: ArmedFuture<Output: Drop> + Drop,
+    F2: ArmedFuture<Output: Drop> + Drop,
+{
+    ghost armed = { zips_arms F1.armed F2.armed };
 }

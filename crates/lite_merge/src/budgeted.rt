@@ -1,9 +1,9 @@
 ghost use Rattle.lite_merge.specs.Uses.{ok_counting, through_on};
 ghost use Rattle.lite_stream.specs.Laws.Through.{laws_hinted};
 ghost use Rattle.lite_merge.specs.Budgeted.{Budgets, PacedRegisters, budget_parts, budget_ranks};
-ghost use Rattle.lite_merge.specs.Laws.Budgeted.{budget_counting, budget_steady, paces_relating};
+ghost use Rattle.lite_merge.specs.Laws.Budgeted.{budget_counting, budget_steady, paces_relating, budget_arms};
 
-use lite_base::{Context, Counted, OkCounted, Poll, SteadyStream, Stream};
+use lite_base::{ArmedStream, Context, Counted, OkCounted, Poll, SteadyStream, Stream};
 
 /// A stream that returns `Pending` once after a number of items in a row, so that another task can run.
 ///
@@ -84,4 +84,8 @@ impl<S: SteadyStream> SteadyStream for Budgeted<S> {
     ghost alike = { λ x y. S.alike x.stream y.stream };
 
     ghost steady = { budget_steady S.same S.steady };
+}
+
+impl<S: ArmedStream> ArmedStream for Budgeted<S> {
+    ghost armed = { budget_arms S.armed };
 }

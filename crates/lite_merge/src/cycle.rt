@@ -2,9 +2,9 @@ ghost use Rattle.std.specs.Prelude.{◌≡◌, [], ◌∷◌, IfSome, None, Resu
 ghost use Rattle.lite_merge.specs.Uses.{Keeps, Registered, NoHint};
 ghost use Rattle.std.specs.declared.alloc.AllocError.{AllocError};
 ghost use Rattle.lite_merge.specs.Cycle.{AllCopies, Cycles, Renews};
-ghost use Rattle.lite_merge.specs.Laws.Cycle.{cycle_calm, cycle_laws};
+ghost use Rattle.lite_merge.specs.Laws.Cycle.{cycle_calm, cycle_laws, cycle_arms};
 
-use lite_base::{CalmStream, Context, Poll, Stream, ready};
+use lite_base::{ArmedStream, CalmStream, Context, Poll, Stream, ready};
 use std::alloc::AllocError;
 
 /// A stream that yields the items of another stream over and over.
@@ -83,4 +83,8 @@ impl<S: CalmStream + Clone> CalmStream for Cycle<S> {
     ghost is_calm = { AllCopies S.is_calm S.is_clone };
 
     ghost calm = { cycle_calm S.is_clone S.is_infallible S.calm };
+}
+
+impl<S: ArmedStream + Clone> ArmedStream for Cycle<S> {
+    ghost armed = { cycle_arms S.is_clone S.is_infallible S.laws S.armed };
 }

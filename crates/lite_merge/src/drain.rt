@@ -4,8 +4,9 @@ ghost use Rattle.lite_base.specs.Laws.Lent.{lent_counting, lent_laws};
 ghost use Rattle.std.specs.Borrow.{Lends, sem};
 ghost use Rattle.lite_merge.specs.Drain.{Drains, drain_parts};
 ghost use Rattle.lite_merge.specs.Laws.Drain.{drain_calm, drained_relating};
+ghost use Rattle.lite_base.specs.Laws.Armed.{arms_always};
 
-use lite_base::{CalmStream, Context, Counted, OkCounted, Poll, Stream};
+use lite_base::{ArmedStream, CalmStream, Context, Counted, OkCounted, Poll, Stream};
 
 /// A stream that borrows another stream, and ends whenever that is pending.
 ///
@@ -147,4 +148,8 @@ impl<'a, S: Stream> CalmStream for Drain<'a, S> {
     ghost is_calm = { λ _. ⊤ };
 
     ghost calm = { drain_calm S.run };
+}
+
+impl<'a, S: Stream> ArmedStream for Drain<'a, S> {
+    ghost armed = { arms_always };
 }

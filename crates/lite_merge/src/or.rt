@@ -1,11 +1,11 @@
 ghost use Rattle.std.specs.Prelude.{None};
 ghost use Rattle.lite_merge.specs.Uses.{NoHint, ok_counting};
-ghost use Rattle.lite_merge.specs.Laws.Or.{or_calm, or_counting, or_laws};
+ghost use Rattle.lite_merge.specs.Laws.Or.{or_calm, or_counting, or_laws, or_arms};
 ghost use Rattle.lite_merge.specs.Merge.{MergeRegisters};
 ghost use Rattle.lite_merge.specs.Or.{Ors, or_ranks};
 
 use crate::picks::poll_in_order;
-use lite_base::{CalmStream, Context, Counted, OkCounted, Poll, Stream};
+use lite_base::{ArmedStream, CalmStream, Context, Counted, OkCounted, Poll, Stream};
 use lite_stream::Fuse;
 
 /// A stream that yields the items of two streams as they come, and prefers the first.
@@ -63,4 +63,8 @@ impl<S1: CalmStream, S2: CalmStream<Item = S1::Item>> CalmStream for Or<S1, S2> 
     ghost is_calm = { λ m. S1.is_calm m.stream1.stream × S2.is_calm m.stream2.stream };
 
     ghost calm = { or_calm S1.calm S2.calm };
+}
+
+impl<S1: ArmedStream, S2: ArmedStream<Item = S1::Item>> ArmedStream for Or<S1, S2> {
+    ghost armed = { or_arms S1.armed S2.armed };
 }

@@ -1,11 +1,11 @@
 ghost use Rattle.std.specs.Prelude.{None};
 ghost use Rattle.lite_merge.specs.Uses.{NoHint, ok_counting};
-ghost use Rattle.lite_merge.specs.Laws.Race.{race_calm, race_counting, race_laws};
+ghost use Rattle.lite_merge.specs.Laws.Race.{race_calm, race_counting, race_laws, race_arms};
 ghost use Rattle.lite_merge.specs.Merge.{MergeRegisters};
 ghost use Rattle.lite_merge.specs.Race.{RacesOn, race_ranks};
 
 use crate::picks::poll_in_order;
-use lite_base::{CalmStream, Context, Counted, OkCounted, Poll, Stream};
+use lite_base::{ArmedStream, CalmStream, Context, Counted, OkCounted, Poll, Stream};
 use lite_stream::Fuse;
 use rand_core::Rng;
 
@@ -71,4 +71,8 @@ impl<S1: CalmStream, S2: CalmStream<Item = S1::Item>, R: Rng> CalmStream for Rac
     ghost is_calm = { λ m. S1.is_calm m.stream1.stream × S2.is_calm m.stream2.stream };
 
     ghost calm = { race_calm R.stream S1.calm S2.calm };
+}
+
+impl<S1: ArmedStream, S2: ArmedStream<Item = S1::Item>, R: Rng> ArmedStream for Race<S1, S2, R> {
+    ghost armed = { race_arms R.stream S1.armed S2.armed };
 }

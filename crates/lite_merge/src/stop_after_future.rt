@@ -1,11 +1,13 @@
 ghost use Rattle.std.specs.Prelude.{◌≡◌, ◌↔◌, IsSome, IsTrue, None, Some};
 ghost use Rattle.lite_merge.specs.Uses.{ok_counting, ranks_of, through_calm, through_counting};
-ghost use Rattle.lite_merge.specs.Laws.StopAfterFuture.{stop_laws, stops_calming, stops_relating};
+ghost use Rattle.lite_merge.specs.Laws.StopAfterFuture.{stop_laws, stops_calming, stops_relating, stop_arms};
 ghost use Rattle.lite_merge.specs.StopAfterFuture.{Stops};
 ghost use Rattle.lite_merge.specs.Stopping.{CanStop, StopHints, StopRegisters, future_of, stop_parts};
 ghost use Rattle.lite_merge.specs.declared.stop_after_future.Stopping.TheVariants.{Stopped};
 
-use lite_base::{CalmStream, Context, Counted, Future, OkCounted, Poll, Stream, ready};
+use lite_base::{
+    ArmedStream, CalmStream, Context, Counted, Future, OkCounted, Poll, Stream, ready,
+};
 use std::mem;
 
 /// What has become of the future.
@@ -184,4 +186,8 @@ impl<S: CalmStream, Fut: Future + Drop> CalmStream for StopAfterFuture<S, Fut> {
     ghost is_calm = { λ m. S.is_calm m.stream };
 
     ghost calm = { through_calm stop_parts S.calm (stops_calming Fut.laws) };
+}
+
+impl<S: ArmedStream, Fut: Future + Drop> ArmedStream for StopAfterFuture<S, Fut> {
+    ghost armed = { stop_arms Fut.run S.armed Fut.registers };
 }

@@ -1,9 +1,9 @@
 ghost use Rattle.std.specs.Prelude.{◌≡◌, List, [], ◌∷◌, None};
 ghost use Rattle.lite_merge.specs.Uses.{Keeps, Answer, Registered, NoHint, Pairwise, SameHeld};
-ghost use Rattle.lite_merge.specs.Laws.Zip.{zip_steady, zip_calm, zip_counting, zip_laws};
+ghost use Rattle.lite_merge.specs.Laws.Zip.{zip_steady, zip_calm, zip_counting, zip_laws, zip_arms};
 ghost use Rattle.lite_merge.specs.Zip.{Pairs, WithHeld, ZipRegisters, Zips, zip_ranks};
 
-use lite_base::{CalmStream, Context, Counted, Poll, SteadyStream, Stream, ready};
+use lite_base::{ArmedStream, CalmStream, Context, Counted, Poll, SteadyStream, Stream, ready};
 
 /// A stream that yields pairs of the items of two streams.
 ///
@@ -91,4 +91,8 @@ impl<A: CalmStream<Item: Drop>, B: CalmStream> CalmStream for Zip<A, B> {
     ghost is_calm = { λ m. A.is_calm m.first × B.is_calm m.second };
 
     ghost calm = { zip_calm A.calm B.calm };
+}
+
+impl<A: ArmedStream<Item: Drop>, B: ArmedStream> ArmedStream for Zip<A, B> {
+    ghost armed = { zip_arms A.armed B.armed };
 }

@@ -1,3 +1,4 @@
+pub mod Armed
 pub mod Bytes
 pub mod Counting
 pub mod Deterministic

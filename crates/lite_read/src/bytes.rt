@@ -3,9 +3,11 @@ ghost use Rattle.lite_io_base.specs.Laws.Runs.{idle_laws};
 ghost use Rattle.lite_io_base.specs.Runs.{Idle};
 ghost use Rattle.lite_read.specs.Bytes.{BytesRegister, GivesBytes};
 ghost use Rattle.lite_read.specs.Laws.Bytes.{bytes_counting, bytes_laws, inner_calm, inner_counting, inner_laws, inner_steady, bytes_steady};
+ghost use Rattle.lite_io_base.specs.Laws.Armed.{arms_marks_part};
+ghost use Rattle.lite_read.specs.Laws.Armed.{bytes_arms};
 
-use lite_base::{Context, Counted, OkCounted, Poll, SteadyStream, Stream};
-use lite_io_base::{AsyncRead, CalmRead, CountedRead, ReadSpec, SteadyRead, WriteSpec};
+use lite_base::{ArmedStream, Context, Counted, OkCounted, Poll, SteadyStream, Stream};
+use lite_io_base::{ArmedRead, AsyncRead, CalmRead, CountedRead, ReadSpec, SteadyRead, WriteSpec};
 use std::io::{ErrorKind, IoSliceMut};
 use std::{fmt, io};
 
@@ -93,6 +95,10 @@ impl<R: SteadyRead> SteadyStream for Bytes<R> {
     ghost steady = { bytes_steady R.steady };
 }
 
+impl<R: ArmedRead> ArmedStream for Bytes<R> {
+    ghost armed = { bytes_arms R.armed };
+}
+
 impl<R: ReadSpec> ReadSpec for Bytes<R> {
     ghost reads = { λ x l y. R.reads x.inner l y.inner };
 
@@ -144,4 +150,8 @@ impl<R: CalmRead> CalmRead for Bytes<R> {
     ghost is_calm = { λ x. R.is_calm x.inner };
 
     ghost calm = { inner_calm R.calm };
+}
+
+impl<R: ArmedRead> ArmedRead for Bytes<R> {
+    ghost armed = { arms_marks_part (λ x. x.inner) (λ x y l h. h) R.armed };
 }

@@ -2,9 +2,10 @@ ghost use Rattle.std.specs.Prelude.{◌≡◌, IsSome, IfSome, refl};
 ghost use Rattle.lite_read.specs.FillBuf.{FillsOnce};
 ghost use Rattle.lite_read.specs.Laws.Polled.{fill_calm};
 ghost use Rattle.lite_read.specs.Uses.{polled_laws, PolledByCalls};
+ghost use Rattle.lite_read.specs.Laws.Armed.{fill_arms};
 
-use lite_base::{CalmFuture, Context, Future, Poll};
-use lite_io_base::{AsyncBufRead, CalmRead, fill};
+use lite_base::{ArmedFuture, CalmFuture, Context, Future, Poll};
+use lite_io_base::{ArmedRead, AsyncBufRead, CalmRead, fill};
 use std::io;
 
 /// A future that returns a slice of the next bytes of a reader.
@@ -52,6 +53,10 @@ impl<R: AsyncBufRead + CalmRead> CalmFuture for FillBuf<'_, R> {
     ghost is_calm = { λ x. IfSome x.reader (λ r. R.is_calm r.now) };
 
     ghost calm = { fill_calm R.calm };
+}
+
+impl<R: AsyncBufRead + ArmedRead> ArmedFuture for FillBuf<'_, R> {
+    ghost armed = { fill_arms R.armed };
 }
 
 // Returns a slice of the buffer that lives as long as the borrow of the reader.

@@ -9,11 +9,14 @@ ghost use Rattle.lite_read.specs.Laws.Segments.{flow_counting_laws};
 ghost use Rattle.lite_read.specs.Texts.{IsText};
 ghost use Rattle.lite_read.specs.Lines.{GivesLines, LineLacksRoom, lines_over, line_fold};
 ghost use Rattle.lite_read.specs.PollSteps.{TakesPieceIn};
+ghost use Rattle.lite_read.specs.Laws.Armed.{flow_arms};
 
 use crate::find::find_line;
 use crate::text::LineBytes;
-use lite_base::{CalmStream, Context, OkCounted, Poll, PollSteps, SteadyStream, Stream, drive};
-use lite_io_base::{AsyncBufRead, CalmRead, CountedRead, SteadyRead};
+use lite_base::{
+    ArmedStream, CalmStream, Context, OkCounted, Poll, PollSteps, SteadyStream, Stream, drive,
+};
+use lite_io_base::{ArmedRead, AsyncBufRead, CalmRead, CountedRead, SteadyRead};
 use std::alloc::Global;
 use std::io;
 
@@ -168,4 +171,8 @@ impl<R: AsyncBufRead + CountedRead + CalmRead> CalmStream for Lines<R> {
     ghost is_calm = { λ x. R.is_calm x.reader };
 
     ghost calm = { flow_calm lines_over (line_fold ⊤) R.calm };
+}
+
+impl<R: AsyncBufRead + CountedRead + ArmedRead> ArmedStream for Lines<R> {
+    ghost armed = { flow_arms lines_over (line_fold ⊤) R.armed };
 }

@@ -1,9 +1,10 @@
 ghost use Rattle.lite_read.specs.Laws.Polled.{read_calm};
 ghost use Rattle.lite_read.specs.Uses.{polled_laws, PolledByCalls};
 ghost use Rattle.lite_read.specs.Read.{Reads};
+ghost use Rattle.lite_read.specs.Laws.Armed.{read_arms};
 
-use lite_base::{CalmFuture, Context, Future, Poll};
-use lite_io_base::{AsyncRead, CalmRead};
+use lite_base::{ArmedFuture, CalmFuture, Context, Future, Poll};
+use lite_io_base::{ArmedRead, AsyncRead, CalmRead};
 use std::io;
 
 /// A future that reads once into a buffer.
@@ -34,4 +35,8 @@ impl<R: CalmRead> CalmFuture for ReadFuture<'_, R> {
     ghost is_calm = { λ x. R.is_calm x.reader.now };
 
     ghost calm = { read_calm R.calm };
+}
+
+impl<R: ArmedRead> ArmedFuture for ReadFuture<'_, R> {
+    ghost armed = { read_arms R.armed };
 }

@@ -4,9 +4,10 @@ ghost use Rattle.lite_base.specs.Laws.Ranks.{Terminates-count};
 ghost use Rattle.lite_read.specs.PollSteps.{ReadsMore};
 ghost use Rattle.lite_read.specs.ReadExact.{ReadsExactly};
 ghost use Rattle.lite_read.specs.Laws.ReadExact.{exact_laws, room_falls, ExactAlike, exact_calm, exact_steady};
+ghost use Rattle.lite_read.specs.Laws.Armed.{gathers_arms};
 
-use lite_base::{CalmFuture, Context, Future, Poll, PollSteps, SteadyFuture, drive};
-use lite_io_base::{AsyncRead, CalmRead, SteadyRead};
+use lite_base::{ArmedFuture, CalmFuture, Context, Future, Poll, PollSteps, SteadyFuture, drive};
+use lite_io_base::{ArmedRead, AsyncRead, CalmRead, SteadyRead};
 use std::io;
 use std::io::ErrorKind;
 
@@ -83,4 +84,8 @@ impl<R: CalmRead> CalmFuture for ReadExactFuture<'_, R> {
     ghost is_calm = { λ x. R.is_calm x.reader.now };
 
     ghost calm = { exact_calm R.calm };
+}
+
+impl<R: ArmedRead> ArmedFuture for ReadExactFuture<'_, R> {
+    ghost armed = { gathers_arms R.armed };
 }

@@ -8,11 +8,12 @@ ghost use Rattle.lite_read.specs.Laws.Refusals.{room_calm};
 ghost use Rattle.lite_read.specs.Laws.Marks.{until_deterministic};
 ghost use Rattle.lite_read.specs.Laws.ReadFold.{takes_given};
 ghost use Rattle.lite_read.specs.Laws.Texts.{TextAlike, text_steady, line_room, text_room_laws};
+ghost use Rattle.lite_read.specs.Laws.Armed.{room_arms};
 
 use crate::find::find_line;
 use crate::held::{finish, lends_text, take_in, take_text};
-use lite_base::{CalmFuture, Context, Future, Poll, PollSteps, SteadyFuture, drive};
-use lite_io_base::{AsyncBufRead, CalmRead, CountedRead, SteadyRead};
+use lite_base::{ArmedFuture, CalmFuture, Context, Future, Poll, PollSteps, SteadyFuture, drive};
+use lite_io_base::{ArmedRead, AsyncBufRead, CalmRead, CountedRead, SteadyRead};
 use std::alloc::{Allocator, Global};
 use std::io;
 
@@ -205,4 +206,9 @@ impl<R: CalmRead + AsyncBufRead + CountedRead, A: Allocator + Copy> CalmFuture
     ghost is_calm = { λ x. R.is_calm x.reader.now };
 
     ghost calm = { room_calm R.calm };
+}
+
+impl<R: ArmedRead + AsyncBufRead + CountedRead, A: Allocator + Copy> ArmedFuture
+    for ReadLineFuture<'_, R, A> {
+    ghost armed = { room_arms R.armed };
 }

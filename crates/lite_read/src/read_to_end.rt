@@ -4,10 +4,11 @@ ghost use Rattle.lite_read.specs.ReadToEnd.{CanAppend, read_front, ReadsToEnd, R
 ghost use Rattle.lite_read.specs.PollSteps.{AnswersByRoom, ReadsSome};
 ghost use Rattle.lite_read.specs.Laws.Refusals.{room_calm};
 ghost use Rattle.lite_read.specs.Laws.ReadToEnd.{some_falls, steps_on, to_end_room_laws, ToEndAlike, to_end_steady};
+ghost use Rattle.lite_read.specs.Laws.Armed.{room_arms};
 
 use crate::room::{FIRST_ROOM, add_zeros, next_room};
-use lite_base::{CalmFuture, Context, Future, Poll, PollSteps, SteadyFuture, drive};
-use lite_io_base::{CalmRead, CountedRead, SteadyRead};
+use lite_base::{ArmedFuture, CalmFuture, Context, Future, Poll, PollSteps, SteadyFuture, drive};
+use lite_io_base::{ArmedRead, CalmRead, CountedRead, SteadyRead};
 use std::alloc::{AllocError, Allocator, Global};
 use std::io;
 use std::io::ErrorKind;
@@ -120,4 +121,8 @@ impl<R: CalmRead + CountedRead, A: Allocator> CalmFuture for ReadToEndFuture<'_,
     ghost is_calm = { λ x. R.is_calm x.reader.now };
 
     ghost calm = { room_calm R.calm };
+}
+
+impl<R: ArmedRead + CountedRead, A: Allocator> ArmedFuture for ReadToEndFuture<'_, R, A> {
+    ghost armed = { room_arms R.armed };
 }

@@ -8,11 +8,12 @@ ghost use Rattle.lite_read.specs.Laws.Refusals.{room_calm};
 ghost use Rattle.lite_read.specs.Laws.ReadFold.{takes_given};
 ghost use Rattle.lite_read.specs.Laws.ReadToEnd.{appends_deterministic};
 ghost use Rattle.lite_read.specs.Laws.Texts.{TextAlike, text_steady, string_room, text_room_laws};
+ghost use Rattle.lite_read.specs.Laws.Armed.{room_arms};
 
 use crate::held::{finish, make_room};
 use crate::room::{FIRST_ROOM, next_room};
-use lite_base::{CalmFuture, Context, Future, Poll, PollSteps, SteadyFuture, drive};
-use lite_io_base::{CalmRead, CountedRead, SteadyRead};
+use lite_base::{ArmedFuture, CalmFuture, Context, Future, Poll, PollSteps, SteadyFuture, drive};
+use lite_io_base::{ArmedRead, CalmRead, CountedRead, SteadyRead};
 use std::alloc::{AllocError, Allocator, Global};
 use std::io;
 use std::io::ErrorKind;
@@ -140,4 +141,8 @@ impl<R: CalmRead + CountedRead, A: Allocator + Copy> CalmFuture for ReadToString
     ghost is_calm = { λ x. R.is_calm x.reader.now };
 
     ghost calm = { room_calm R.calm };
+}
+
+impl<R: ArmedRead + CountedRead, A: Allocator + Copy> ArmedFuture for ReadToStringFuture<'_, R, A> {
+    ghost armed = { room_arms R.armed };
 }

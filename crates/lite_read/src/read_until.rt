@@ -6,11 +6,12 @@ ghost use Rattle.lite_read.specs.Laws.Refusals.{room_calm};
 ghost use Rattle.lite_read.specs.Laws.Marks.{UntilAlike, until_steady};
 ghost use Rattle.lite_read.specs.Laws.ReadFold.{takes_given};
 ghost use Rattle.lite_read.specs.Laws.ReadUntil.{stays_within, until_room_laws};
+ghost use Rattle.lite_read.specs.Laws.Armed.{room_arms};
 
 use crate::append::append;
 use crate::find::find_byte;
-use lite_base::{CalmFuture, Context, Future, Poll, PollSteps, SteadyFuture, drive};
-use lite_io_base::{AsyncBufRead, CalmRead, CountedRead, SteadyRead};
+use lite_base::{ArmedFuture, CalmFuture, Context, Future, Poll, PollSteps, SteadyFuture, drive};
+use lite_io_base::{ArmedRead, AsyncBufRead, CalmRead, CountedRead, SteadyRead};
 use std::io;
 
 /// A future that appends the bytes up to and including a delimiter, or up to end of file, to a vector.
@@ -96,4 +97,8 @@ impl<R: AsyncBufRead + CountedRead + CalmRead> CalmFuture for ReadUntilFuture<'_
     ghost is_calm = { λ x. R.is_calm x.reader.now };
 
     ghost calm = { room_calm R.calm };
+}
+
+impl<R: AsyncBufRead + CountedRead + ArmedRead> ArmedFuture for ReadUntilFuture<'_, R> {
+    ghost armed = { room_arms R.armed };
 }

@@ -2,9 +2,10 @@ ghost use Rattle.std.specs.Prelude.{IsSome, refl};
 ghost use Rattle.lite_read.specs.Laws.Polled.{vectored_calm};
 ghost use Rattle.lite_read.specs.Uses.{polled_laws, PolledByCalls};
 ghost use Rattle.lite_read.specs.ReadVectored.{ReadsVectored};
+ghost use Rattle.lite_read.specs.Laws.Armed.{vectored_arms};
 
-use lite_base::{CalmFuture, Context, Future, Poll};
-use lite_io_base::{AsyncRead, CalmRead};
+use lite_base::{ArmedFuture, CalmFuture, Context, Future, Poll};
+use lite_io_base::{ArmedRead, AsyncRead, CalmRead};
 use std::io::IoSliceMut;
 use std::{io, mem};
 
@@ -45,4 +46,8 @@ impl<R: CalmRead> CalmFuture for ReadVectoredFuture<'_, '_, R> {
     ghost is_calm = { λ x. R.is_calm x.reader.now };
 
     ghost calm = { vectored_calm R.calm };
+}
+
+impl<R: ArmedRead> ArmedFuture for ReadVectoredFuture<'_, '_, R> {
+    ghost armed = { vectored_arms R.armed };
 }

@@ -8,10 +8,13 @@ ghost use Rattle.lite_read.specs.Laws.DeterministicPieces.{FlowAlike, flow_calm,
 ghost use Rattle.lite_read.specs.Laws.Marks.{SameVec, vec_one};
 ghost use Rattle.lite_read.specs.Laws.ReadFold.{takes_given};
 ghost use Rattle.lite_read.specs.Laws.Segments.{flow_counting_laws};
+ghost use Rattle.lite_read.specs.Laws.Armed.{flow_arms};
 
 use crate::find::find_byte;
-use lite_base::{CalmStream, Context, OkCounted, Poll, PollSteps, SteadyStream, Stream, drive};
-use lite_io_base::{AsyncBufRead, CalmRead, CountedRead, SteadyRead};
+use lite_base::{
+    ArmedStream, CalmStream, Context, OkCounted, Poll, PollSteps, SteadyStream, Stream, drive,
+};
+use lite_io_base::{ArmedRead, AsyncBufRead, CalmRead, CountedRead, SteadyRead};
 use std::alloc::Global;
 use std::{io, mem};
 
@@ -174,4 +177,8 @@ impl<R: AsyncBufRead + CountedRead + CalmRead> CalmStream for Split<R> {
     ghost is_calm = { λ x. R.is_calm x.reader };
 
     ghost calm = { flow_calm split_over (splitting ⊤) R.calm };
+}
+
+impl<R: AsyncBufRead + CountedRead + ArmedRead> ArmedStream for Split<R> {
+    ghost armed = { flow_arms split_over (splitting ⊤) R.armed };
 }

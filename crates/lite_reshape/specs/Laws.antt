@@ -1,4 +1,5 @@
 pub mod Agreeing
+pub mod Arming
 pub mod Calming
 pub mod Chain
 pub mod Cloned

@@ -5,8 +5,11 @@ ghost use Rattle.lite_reshape.specs.declared.chain.Part.TheVariants.{Second};
 ghost use Rattle.lite_reshape.specs.Laws.Calming.{chain_calm};
 ghost use Rattle.lite_reshape.specs.Laws.Chain.{chain_counting, chain_laws};
 ghost use Rattle.lite_reshape.specs.Laws.SteadyChain.{chain_steady};
+ghost use Rattle.lite_reshape.specs.Laws.Arming.{chain_arms};
 
-use lite_base::{CalmStream, Context, Counted, OkCounted, Poll, SteadyStream, Stream, ready};
+use lite_base::{
+    ArmedStream, CalmStream, Context, Counted, OkCounted, Poll, SteadyStream, Stream, ready,
+};
 
 /// Which stream is polled next.
 #[derive(Clone, Copy, Debug)]
@@ -113,4 +116,8 @@ impl<S: CalmStream, U: CalmStream<Item = S::Item>> CalmStream for Chain<S, U> {
     ghost is_calm = { λ m. S.is_calm m.first × U.is_calm m.second };
 
     ghost calm = { chain_calm S.calm U.calm };
+}
+
+impl<S: ArmedStream, U: ArmedStream<Item = S::Item>> ArmedStream for Chain<S, U> {
+    ghost armed = { chain_arms S.armed U.armed };
 }

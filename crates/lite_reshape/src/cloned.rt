@@ -1,10 +1,12 @@
 ghost use Rattle.std.specs.Prelude.{[], ◌∷◌, None};
 ghost use Rattle.lite_reshape.specs.Uses.{NoHint, through_calm, through_on};
 ghost use Rattle.lite_reshape.specs.Cloned.{AlikeCloned, ClonedFrom, Clones, ClonesAll, ClonesUnrefused, cloned_parts};
-ghost use Rattle.lite_reshape.specs.Laws.Cloned.{cloned_laws, cloned_ok_counting, cloned_steady, clones_calming};
+ghost use Rattle.lite_reshape.specs.Laws.Cloned.{cloned_laws, cloned_ok_counting, cloned_steady, clones_calming, cloned_arms};
 ghost use Rattle.lite_reshape.specs.Laws.Expanding.{held_ranks};
 
-use lite_base::{CalmStream, Context, Counted, OkCounted, Poll, SteadyStream, Stream, ready};
+use lite_base::{
+    ArmedStream, CalmStream, Context, Counted, OkCounted, Poll, SteadyStream, Stream, ready,
+};
 use std::alloc::AllocError;
 
 /// A stream that yields clones of the references that another stream yields.
@@ -93,4 +95,8 @@ impl<'a, T: Clone + 'a, S: CalmStream<Item = &'a T>> CalmStream for Cloned<S> {
     ghost is_calm = { λ m. S.is_calm m.stream };
 
     ghost calm = { through_calm cloned_parts S.calm (clones_calming T.is_clone T.is_infallible) };
+}
+
+impl<'a, T: Clone + 'a, S: ArmedStream<Item = &'a T>> ArmedStream for Cloned<S> {
+    ghost armed = { cloned_arms T.is_clone T.is_infallible S.armed };
 }

@@ -7,10 +7,12 @@ ghost use Rattle.lite_stream.specs.Laws.Through.{laws_capped};
 ghost use Rattle.lite_reshape.specs.Filter.{CanFilter, Filters, filter_parts};
 ghost use Rattle.lite_reshape.specs.Leaving.{Sifts};
 ghost use Rattle.lite_reshape.specs.Laws.Agreeing.{leaves_testing};
-ghost use Rattle.lite_reshape.specs.Laws.Leaving.{leaves_calming, leaves_on, leaves_relating};
+ghost use Rattle.lite_reshape.specs.Laws.Leaving.{leaves_calming, leaves_on, leaves_relating, leaves_arming};
+ghost use Rattle.lite_stream.specs.Laws.Arming.{through_arms};
 
 use lite_base::{
-    CalmStream, Context, Counted, OkCounted, Poll, PollSteps, SteadyStream, Stream, drive,
+    ArmedStream, CalmStream, Context, Counted, OkCounted, Poll, PollSteps, SteadyStream, Stream,
+    drive,
 };
 
 /// A stream that yields the items of another stream for which a predicate returns true.
@@ -113,4 +115,9 @@ impl<S: Counted<Item: Drop> + CalmStream, P: FnMut(&S::Item) -> bool> CalmStream
     ghost is_calm = { λ m. S.is_calm m.stream };
 
     ghost calm = { through_calm filter_parts S.calm (leaves_calming (Accepts (CalledAt P.FnMut))) };
+}
+
+impl<S: Counted<Item: Drop> + ArmedStream, P: FnMut(&S::Item) -> bool> ArmedStream
+    for Filter<S, P> {
+    ghost armed = { through_arms filter_parts S.armed (leaves_arming (Accepts (CalledAt P.FnMut))) };
 }

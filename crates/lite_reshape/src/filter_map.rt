@@ -4,10 +4,12 @@ ghost use Rattle.lite_reshape.specs.Uses.{Keeping, through_calm, through_steady_
 ghost use Rattle.lite_reshape.specs.FilterMap.{CanFilterMap, FilterMaps, filter_map_parts};
 ghost use Rattle.lite_reshape.specs.Leaving.{Sifts};
 ghost use Rattle.lite_reshape.specs.Laws.Agreeing.{leaves_keeping};
-ghost use Rattle.lite_reshape.specs.Laws.Leaving.{leaves_calming, leaves_on, leaves_relating};
+ghost use Rattle.lite_reshape.specs.Laws.Leaving.{leaves_calming, leaves_on, leaves_relating, leaves_arming};
+ghost use Rattle.lite_stream.specs.Laws.Arming.{through_arms};
 
 use lite_base::{
-    CalmStream, Context, Counted, OkCounted, Poll, PollSteps, SteadyStream, Stream, drive,
+    ArmedStream, CalmStream, Context, Counted, OkCounted, Poll, PollSteps, SteadyStream, Stream,
+    drive,
 };
 
 /// A stream that yields the values for which a function, called with the items of another stream, returns
@@ -106,4 +108,8 @@ impl<B, S: Counted + CalmStream, F: FnMut(S::Item) -> Option<B>> CalmStream for 
     ghost is_calm = { λ m. S.is_calm m.stream };
 
     ghost calm = { through_calm filter_map_parts S.calm (leaves_calming (Calls F.FnMut)) };
+}
+
+impl<B, S: Counted + ArmedStream, F: FnMut(S::Item) -> Option<B>> ArmedStream for FilterMap<S, F> {
+    ghost armed = { through_arms filter_map_parts S.armed (leaves_arming (Calls F.FnMut)) };
 }

@@ -4,10 +4,15 @@ ghost use Rattle.lite_reshape.specs.FlatMap.{CanFlatMap, CanStepMap, FlatMapStep
 ghost use Rattle.lite_reshape.specs.Expanding.{HeldRegisters};
 ghost use Rattle.lite_reshape.specs.Laws.FlatMap.{flat_map_calm, flat_map_counting, flat_map_laws, flat_map_steady, made_end};
 ghost use Rattle.lite_reshape.specs.Laws.Flatten.{flat_ends};
+ghost use Rattle.lite_reshape.specs.Laws.Arming.{flattening_arms};
+ghost use Rattle.lite_stream.specs.Laws.Arming.{through_arms};
+ghost use Rattle.lite_stream.specs.Map.{map_parts};
+ghost use Rattle.lite_stream.specs.Laws.Pointwise.{replaces_arming};
 
 use crate::inner::poll_part;
 use lite_base::{
-    CalmStream, Context, Counted, OkCounted, Poll, PollSteps, SteadyStream, Stream, drive,
+    ArmedStream, CalmStream, Context, Counted, OkCounted, Poll, PollSteps, SteadyStream, Stream,
+    drive,
 };
 use lite_stream::Map;
 
@@ -102,4 +107,9 @@ impl<S: Counted + CalmStream, U: CalmStream + Drop, F: FnMut(S::Item) -> U> Calm
     ghost is_calm = { λ m. S.is_calm m.stream.stream × EachMade F.FnMut U.is_calm m.stream.f m.inner_stream };
 
     ghost calm = { flat_map_calm F.FnMut S.laws S.calm U.calm };
+}
+
+impl<S: Counted + ArmedStream, U: ArmedStream + Drop, F: FnMut(S::Item) -> U> ArmedStream
+    for FlatMap<S, U, F> {
+    ghost armed = { flattening_arms flat_map_parts (through_arms map_parts S.armed (replaces_arming (Calls F.FnMut))) U.armed };
 }

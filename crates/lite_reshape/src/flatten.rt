@@ -6,10 +6,12 @@ ghost use Rattle.lite_reshape.specs.Inner.{CanStepFlat, EachInner, FlatSteps, fl
 ghost use Rattle.lite_reshape.specs.Laws.Calming.{flattening_calm};
 ghost use Rattle.lite_reshape.specs.Laws.Flatten.{flat_ends, flattening, flattening_counting, flattening_on};
 ghost use Rattle.lite_reshape.specs.Laws.SteadyFlatten.{flattening_steady};
+ghost use Rattle.lite_reshape.specs.Laws.Arming.{flattening_arms};
 
 use crate::inner::poll_part;
 use lite_base::{
-    CalmStream, Context, Counted, OkCounted, Poll, PollSteps, SteadyStream, Stream, drive,
+    ArmedStream, CalmStream, Context, Counted, OkCounted, Poll, PollSteps, SteadyStream, Stream,
+    drive,
 };
 
 /// A stream that yields the items of the streams that another stream yields, one stream after the other.
@@ -97,4 +99,8 @@ impl<B: CalmStream + Drop, S: Counted<Item = B> + CalmStream> CalmStream for Fla
     ghost is_calm = { λ m. S.is_calm m.stream × EachInner S.run B.is_calm m.stream m.inner_stream };
 
     ghost calm = { flattening_calm B.calm flatten_parts S.laws S.calm };
+}
+
+impl<B: ArmedStream + Drop, S: Counted<Item = B> + ArmedStream> ArmedStream for Flatten<S> {
+    ghost armed = { flattening_arms flatten_parts S.armed B.armed };
 }

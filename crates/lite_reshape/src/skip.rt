@@ -7,10 +7,12 @@ ghost use Rattle.lite_reshape.specs.Uses.{through_calm};
 ghost use Rattle.lite_reshape.specs.Leaving.{Sifts};
 ghost use Rattle.lite_reshape.specs.Skip.{Skips, SkipsFirst, skip_parts};
 ghost use Rattle.lite_reshape.specs.Laws.Agreeing.{leaves_selecting};
-ghost use Rattle.lite_reshape.specs.Laws.Leaving.{leaves_calming, leaves_relating};
+ghost use Rattle.lite_reshape.specs.Laws.Leaving.{leaves_calming, leaves_relating, leaves_arming};
+ghost use Rattle.lite_stream.specs.Laws.Arming.{through_arms};
 
 use lite_base::{
-    CalmStream, Context, Counted, OkCounted, Poll, PollSteps, SteadyStream, Stream, drive,
+    ArmedStream, CalmStream, Context, Counted, OkCounted, Poll, PollSteps, SteadyStream, Stream,
+    drive,
 };
 
 /// A stream that skips the first items of another stream, and yields the others.
@@ -103,4 +105,8 @@ impl<S: CalmStream<Item: Drop>> CalmStream for Skip<S> {
     ghost is_calm = { λ m. S.is_calm m.stream };
 
     ghost calm = { through_calm skip_parts S.calm (leaves_calming Skips) };
+}
+
+impl<S: ArmedStream<Item: Drop>> ArmedStream for Skip<S> {
+    ghost armed = { through_arms skip_parts S.armed (leaves_arming Skips) };
 }

@@ -4,10 +4,12 @@ ghost use Rattle.lite_reshape.specs.Uses.{AgreeFrom, through_calm, through_stead
 ghost use Rattle.lite_reshape.specs.Leaving.{Sifts};
 ghost use Rattle.lite_reshape.specs.SkipWhile.{CanSkip, MayAskUntil, SkipsUntil, SkipsWhile, skip_while_parts};
 ghost use Rattle.lite_reshape.specs.Laws.Agreeing.{leaves_until};
-ghost use Rattle.lite_reshape.specs.Laws.Leaving.{leaves_calming, leaves_on, leaves_relating};
+ghost use Rattle.lite_reshape.specs.Laws.Leaving.{leaves_calming, leaves_on, leaves_relating, leaves_arming};
+ghost use Rattle.lite_stream.specs.Laws.Arming.{through_arms};
 
 use lite_base::{
-    CalmStream, Context, Counted, OkCounted, Poll, PollSteps, SteadyStream, Stream, drive,
+    ArmedStream, CalmStream, Context, Counted, OkCounted, Poll, PollSteps, SteadyStream, Stream,
+    drive,
 };
 
 /// A stream that skips the first items of another stream while a predicate returns true, and yields the
@@ -122,4 +124,9 @@ impl<S: Counted<Item: Drop> + CalmStream, P: FnMut(&S::Item) -> bool + Drop> Cal
     ghost is_calm = { λ m. S.is_calm m.stream };
 
     ghost calm = { through_calm skip_while_parts S.calm (leaves_calming (SkipsUntil (CalledAt P.FnMut))) };
+}
+
+impl<S: Counted<Item: Drop> + ArmedStream, P: FnMut(&S::Item) -> bool + Drop> ArmedStream
+    for SkipWhile<S, P> {
+    ghost armed = { through_arms skip_while_parts S.armed (leaves_arming (SkipsUntil (CalledAt P.FnMut))) };
 }

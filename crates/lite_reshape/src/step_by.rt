@@ -4,10 +4,12 @@ ghost use Rattle.lite_reshape.specs.Uses.{ok_counting, through_steady_over, thro
 ghost use Rattle.lite_base.specs.Laws.Ranks.{one_less};
 ghost use Rattle.lite_reshape.specs.Leaving.{Sifts};
 ghost use Rattle.lite_reshape.specs.StepBy.{CanStep, StepsBy, step_by_parts};
-ghost use Rattle.lite_reshape.specs.Laws.StepBy.{Countdown, steps_agreeing, steps_calming, steps_on, steps_relating};
+ghost use Rattle.lite_reshape.specs.Laws.StepBy.{Countdown, steps_agreeing, steps_calming, steps_on, steps_relating, steps_arming};
+ghost use Rattle.lite_stream.specs.Laws.Arming.{through_arms};
 
 use lite_base::{
-    CalmStream, Context, Counted, OkCounted, Poll, PollSteps, SteadyStream, Stream, drive,
+    ArmedStream, CalmStream, Context, Counted, OkCounted, Poll, PollSteps, SteadyStream, Stream,
+    drive,
 };
 
 /// A stream that yields the first item of another stream, and each item after it whose number is a multiple
@@ -107,4 +109,8 @@ impl<S: CalmStream<Item: Drop>> CalmStream for StepBy<S> {
     ghost is_calm = { λ m. S.is_calm m.stream };
 
     ghost calm = { through_calm step_by_parts S.calm steps_calming };
+}
+
+impl<S: ArmedStream<Item: Drop>> ArmedStream for StepBy<S> {
+    ghost armed = { through_arms step_by_parts S.armed steps_arming };
 }

@@ -3,12 +3,12 @@ ghost use Rattle.lite_reshape.specs.Uses.{Keeps, Registered, Calls, ok_counting,
 ghost use Rattle.lite_reshape.specs.FlatMap.{EachMade};
 ghost use Rattle.lite_reshape.specs.Expanding.{HeldRegisters};
 ghost use Rattle.lite_reshape.specs.Laws.Expanding.{held_counting, held_ranks};
-ghost use Rattle.lite_reshape.specs.Laws.Then.{hands_one, then_calm, then_laws, then_steady};
+ghost use Rattle.lite_reshape.specs.Laws.Then.{hands_one, then_calm, then_laws, then_steady, then_arms};
 ghost use Rattle.lite_reshape.specs.Then.{CanThen, HandsOut, MakesEach, Thens, then_hint, then_parts};
 
 use lite_base::{
-    CalmFuture, CalmStream, Context, Counted, Future, OkCounted, Poll, SteadyFuture, SteadyStream,
-    Stream, ready,
+    ArmedFuture, ArmedStream, CalmFuture, CalmStream, Context, Counted, Future, OkCounted, Poll,
+    SteadyFuture, SteadyStream, Stream, ready,
 };
 
 /// A stream that yields the values of the futures that a function returns for the items of another stream.
@@ -129,4 +129,9 @@ impl<S: CalmStream, F: FnMut(S::Item) -> Fut, Fut: CalmFuture + Drop> CalmStream
     ghost is_calm = { λ m. S.is_calm m.stream × EachMade F.FnMut Fut.is_calm m.f m.future };
 
     ghost calm = { then_calm Fut.calm F.FnMut S.calm };
+}
+
+impl<S: ArmedStream, F: FnMut(S::Item) -> Fut, Fut: ArmedFuture + Drop> ArmedStream
+    for Then<S, F, Fut> {
+    ghost armed = { then_arms Fut.armed F.FnMut S.armed };
 }

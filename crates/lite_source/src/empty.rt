@@ -3,8 +3,9 @@ ghost use Rattle.lite_source.specs.Uses.{ok_counting, steady_always};
 ghost use Rattle.lite_source.specs.Always.{no_ranks};
 ghost use Rattle.lite_source.specs.Empty.{GivesEnds};
 ghost use Rattle.lite_source.specs.Laws.Empty.{empty_calm, empty_counting, empty_laws, empty_steady};
+ghost use Rattle.lite_base.specs.Laws.Armed.{arms_always};
 
-use lite_base::{CalmStream, Context, Counted, OkCounted, Poll, SteadyStream, Stream};
+use lite_base::{ArmedStream, CalmStream, Context, Counted, OkCounted, Poll, SteadyStream, Stream};
 use std::marker::PhantomData;
 
 /// An empty stream: every poll returns `Ready(None)`.
@@ -64,4 +65,8 @@ impl<T> CalmStream for Empty<T> {
     ghost is_calm = { λ _. ⊤ };
 
     ghost calm = { empty_calm };
+}
+
+impl<T> ArmedStream for Empty<T> {
+    ghost armed = { arms_always };
 }

@@ -3,8 +3,9 @@ ghost use Rattle.lite_source.specs.Uses.{Alike, ap, ok_counting};
 ghost use Rattle.lite_source.specs.Iter.{AlwaysNext, IterHints, Iterates, Nexts, iter_ranks};
 ghost use Rattle.lite_source.specs.Laws.Folds.{folds_calm, folds_steady};
 ghost use Rattle.lite_source.specs.Laws.Iter.{iter_counting, iter_laws};
+ghost use Rattle.lite_base.specs.Laws.Armed.{arms_always};
 
-use lite_base::{CalmStream, Context, Counted, OkCounted, Poll, SteadyStream, Stream};
+use lite_base::{ArmedStream, CalmStream, Context, Counted, OkCounted, Poll, SteadyStream, Stream};
 
 /// A stream of the items of an iterator. Each poll calls `next` once.
 ///
@@ -67,4 +68,8 @@ impl<I: Iterator> CalmStream for Iter<I> {
     ghost is_calm = { λ _. ⊤ };
 
     ghost calm = { folds_calm (λ x. x.iter) (Nexts I.can_next I.next_gives I.remaining) (λ i j h. h) };
+}
+
+impl<I: Iterator> ArmedStream for Iter<I> {
+    ghost armed = { arms_always };
 }

@@ -2,8 +2,9 @@ ghost use Rattle.std.specs.Prelude.{◌≡◌, ⊤, Some, length};
 ghost use Rattle.lite_source.specs.Uses.{ok_counting, steady_always};
 ghost use Rattle.lite_source.specs.Laws.Once.{once_calm, once_counting, once_laws, once_steady};
 ghost use Rattle.lite_source.specs.Once.{GivesOnce, once_left, once_ranks};
+ghost use Rattle.lite_base.specs.Laws.Armed.{arms_always};
 
-use lite_base::{CalmStream, Context, Counted, OkCounted, Poll, SteadyStream, Stream};
+use lite_base::{ArmedStream, CalmStream, Context, Counted, OkCounted, Poll, SteadyStream, Stream};
 
 /// A stream that yields one item, and then is at an end for ever.
 ///
@@ -66,4 +67,8 @@ impl<T> CalmStream for Once<T> {
     ghost is_calm = { λ _. ⊤ };
 
     ghost calm = { once_calm };
+}
+
+impl<T> ArmedStream for Once<T> {
+    ghost armed = { arms_always };
 }

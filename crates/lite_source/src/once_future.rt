@@ -1,11 +1,11 @@
 ghost use Rattle.std.specs.Prelude.{◌≡◌, IfSome, None, Some};
 ghost use Rattle.lite_source.specs.Uses.{ok_counting, NoHint, OptionBy};
-ghost use Rattle.lite_source.specs.Laws.OnceFuture.{once_future_calm, once_future_counting, once_future_laws, once_future_steady};
+ghost use Rattle.lite_source.specs.Laws.OnceFuture.{once_future_calm, once_future_counting, once_future_laws, once_future_steady, once_future_arms};
 ghost use Rattle.lite_source.specs.OnceFuture.{GivesFuture, once_future_ranks};
 
 use lite_base::{
-    CalmFuture, CalmStream, Context, Counted, Future, OkCounted, Poll, SteadyFuture, SteadyStream,
-    Stream, ready,
+    ArmedFuture, ArmedStream, CalmFuture, CalmStream, Context, Counted, Future, OkCounted, Poll,
+    SteadyFuture, SteadyStream, Stream, ready,
 };
 
 /// A stream that yields the value of a future, and then is at an end for ever.
@@ -76,4 +76,8 @@ impl<F: CalmFuture + Drop> CalmStream for OnceFuture<F> {
     ghost is_calm = { λ x. IfSome x.future F.is_calm };
 
     ghost calm = { once_future_calm F.calm };
+}
+
+impl<F: ArmedFuture + Drop> ArmedStream for OnceFuture<F> {
+    ghost armed = { once_future_arms F.armed };
 }

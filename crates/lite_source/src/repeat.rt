@@ -1,8 +1,9 @@
 ghost use Rattle.std.specs.Prelude.{◌-◌, ◌^◌, ◌≡◌, ⊤, None};
 ghost use Rattle.lite_source.specs.Laws.Repeat.{repeat_calm, repeat_laws, repeat_steady};
 ghost use Rattle.lite_source.specs.Repeat.{Repeats, SameClones};
+ghost use Rattle.lite_base.specs.Laws.Armed.{arms_always};
 
-use lite_base::{CalmStream, Context, Poll, SteadyStream, Stream};
+use lite_base::{ArmedStream, CalmStream, Context, Poll, SteadyStream, Stream};
 use std::alloc::AllocError;
 
 /// A stream that yields clones of one item, one a poll, and never ends.
@@ -50,4 +51,8 @@ impl<T: Clone> CalmStream for Repeat<T> {
     ghost is_calm = { λ _. ⊤ };
 
     ghost calm = { repeat_calm T.is_clone T.is_infallible };
+}
+
+impl<T: Clone> ArmedStream for Repeat<T> {
+    ghost armed = { arms_always };
 }

@@ -2,8 +2,9 @@ ghost use Rattle.std.specs.Prelude.{◌≡◌, ◌-◌, ◌^◌, ⊤, None};
 ghost use Rattle.lite_source.specs.Uses.{Alike, FoldsTo, ap};
 ghost use Rattle.lite_source.specs.Laws.Folds.{calls_on, folds_calm, folds_laws, folds_steady};
 ghost use Rattle.lite_source.specs.RepeatWith.{Call, RepeatsWith};
+ghost use Rattle.lite_base.specs.Laws.Armed.{arms_always};
 
-use lite_base::{CalmStream, Context, Poll, SteadyStream, Stream};
+use lite_base::{ArmedStream, CalmStream, Context, Poll, SteadyStream, Stream};
 
 /// A stream that yields what a closure returns, one call a poll, and never ends.
 ///
@@ -49,4 +50,8 @@ impl<T, F: FnMut() -> T> CalmStream for RepeatWith<F> {
     ghost is_calm = { λ _. ⊤ };
 
     ghost calm = { folds_calm (λ x. x.f) (Call F.FnMut) (λ p q h. cc h.1) };
+}
+
+impl<T, F: FnMut() -> T> ArmedStream for RepeatWith<F> {
+    ghost armed = { arms_always };
 }

@@ -3,11 +3,12 @@ ghost use Rattle.lite_source.specs.Uses.{Calls, MakesAlways, NoHint};
 ghost use Rattle.lite_source.specs.TryUnfold.{TryUnfoldsBy, try_item_of, try_seed_of};
 ghost use Rattle.lite_source.specs.Unfolding.{IfHeldFuture, PartOf, UnfoldAlike, UnfoldRegisters};
 ghost use Rattle.lite_source.specs.Laws.TryUnfold.{try_unfold_laws, try_unfold_runs};
-ghost use Rattle.lite_source.specs.Laws.Unfolded.{unfolds_calm, unfolds_steady};
+ghost use Rattle.lite_source.specs.Laws.Unfolded.{unfolds_calm, unfolds_steady, unfolds_arms};
 
 use crate::unfolding::Unfolding;
 use lite_base::{
-    CalmFuture, CalmStream, Context, Future, Poll, SteadyFuture, SteadyStream, Stream, ready,
+    ArmedFuture, ArmedStream, CalmFuture, CalmStream, Context, Future, Poll, SteadyFuture,
+    SteadyStream, Stream, ready,
 };
 use std::fmt;
 
@@ -93,4 +94,13 @@ where
     ghost is_calm = { λ x. MakesAlways F.FnMut Fut.is_calm x.f × IfHeldFuture x.state Fut.is_calm };
 
     ghost calm = { unfolds_calm F.FnMut Fut.calm try_seed_of try_item_of (λ x. (x.f, x.state)) };
+}
+
+impl<T, F, Fut, Item, E> ArmedStream for TryUnfold<T, F, Fut>
+where
+    T: Drop,
+    F: FnMut(T) -> Fut,
+    Fut: ArmedFuture<Output = Result<Option<(Item, T)>, E>> + Drop,
+{
+    ghost armed = { unfolds_arms F.FnMut Fut.armed try_seed_of try_item_of (λ x. (x.f, x.state)) };
 }

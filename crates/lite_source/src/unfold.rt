@@ -3,11 +3,12 @@ ghost use Rattle.lite_source.specs.Uses.{Calls, MakesAlways, NoHint};
 ghost use Rattle.lite_source.specs.Unfold.{UnfoldsBy, item_of, seed_of};
 ghost use Rattle.lite_source.specs.Unfolding.{IfHeldFuture, PartOf, UnfoldAlike, UnfoldRegisters};
 ghost use Rattle.lite_source.specs.Laws.Unfold.{unfold_laws, unfold_runs};
-ghost use Rattle.lite_source.specs.Laws.Unfolded.{unfolds_calm, unfolds_steady};
+ghost use Rattle.lite_source.specs.Laws.Unfolded.{unfolds_calm, unfolds_steady, unfolds_arms};
 
 use crate::unfolding::Unfolding;
 use lite_base::{
-    CalmFuture, CalmStream, Context, Future, Poll, SteadyFuture, SteadyStream, Stream, ready,
+    ArmedFuture, ArmedStream, CalmFuture, CalmStream, Context, Future, Poll, SteadyFuture,
+    SteadyStream, Stream, ready,
 };
 use std::fmt;
 
@@ -91,4 +92,13 @@ where
     ghost is_calm = { λ x. MakesAlways F.FnMut Fut.is_calm x.f × IfHeldFuture x.state Fut.is_calm };
 
     ghost calm = { unfolds_calm F.FnMut Fut.calm seed_of item_of (λ x. (x.f, x.state)) };
+}
+
+impl<T, F, Fut, Item> ArmedStream for Unfold<T, F, Fut>
+where
+    T: Drop,
+    F: FnMut(T) -> Fut,
+    Fut: ArmedFuture<Output = Option<(Item, T)>> + Drop,
+{
+    ghost armed = { unfolds_arms F.FnMut Fut.armed seed_of item_of (λ x. (x.f, x.state)) };
 }

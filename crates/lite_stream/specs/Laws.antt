@@ -1,4 +1,5 @@
 pub mod Agreeing
+pub mod Arming
 pub mod Calming
 pub mod Cutting
 pub mod Fuse

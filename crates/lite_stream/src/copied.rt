@@ -3,10 +3,13 @@ ghost use Rattle.lite_stream.specs.Uses.{ranks_of, NoHint, ok_counting};
 ghost use Rattle.lite_stream.specs.Copied.{CopiesAll, CopiesItem, Referred, copied_parts};
 ghost use Rattle.lite_stream.specs.Laws.Agreeing.{through_steady_over, copies_match};
 ghost use Rattle.lite_stream.specs.Laws.Calming.{through_calm};
-ghost use Rattle.lite_stream.specs.Laws.Pointwise.{replaces_agreeing, replaces_calming, replaces_relating};
+ghost use Rattle.lite_stream.specs.Laws.Pointwise.{replaces_agreeing, replaces_calming, replaces_relating, replaces_arming};
 ghost use Rattle.lite_stream.specs.Laws.Through.{laws_unhinted, through_counting, through_on};
+ghost use Rattle.lite_stream.specs.Laws.Arming.{through_arms};
 
-use lite_base::{CalmStream, Context, Counted, OkCounted, Poll, SteadyStream, Stream, ready};
+use lite_base::{
+    ArmedStream, CalmStream, Context, Counted, OkCounted, Poll, SteadyStream, Stream, ready,
+};
 
 /// A stream that yields a copy of the value behind each reference that another stream yields.
 ///
@@ -74,4 +77,8 @@ impl<'a, T: Copy + 'a, S: CalmStream<Item = &'a T>> CalmStream for Copied<S> {
     ghost is_calm = { λ m. S.is_calm m.stream };
 
     ghost calm = { through_calm copied_parts S.calm (replaces_calming CopiesItem) };
+}
+
+impl<'a, T: Copy + 'a, S: ArmedStream<Item = &'a T>> ArmedStream for Copied<S> {
+    ghost armed = { through_arms copied_parts S.armed (replaces_arming CopiesItem) };
 }

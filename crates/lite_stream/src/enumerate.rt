@@ -3,10 +3,11 @@ ghost use Rattle.lite_stream.specs.Uses.{ranks_of, NoHint, Pairwise, Sameness};
 ghost use Rattle.lite_stream.specs.Enumerate.{Enumerates, Numbers, enumerate_parts};
 ghost use Rattle.lite_stream.specs.Laws.Agreeing.{through_steady_over, numbers_match};
 ghost use Rattle.lite_stream.specs.Laws.Calming.{through_calm};
-ghost use Rattle.lite_stream.specs.Laws.Pointwise.{replaces_agreeing, replaces_calming, replaces_relating};
+ghost use Rattle.lite_stream.specs.Laws.Pointwise.{replaces_agreeing, replaces_calming, replaces_relating, replaces_arming};
 ghost use Rattle.lite_stream.specs.Laws.Through.{laws_unhinted, through_counting, through_on};
+ghost use Rattle.lite_stream.specs.Laws.Arming.{through_arms};
 
-use lite_base::{CalmStream, Context, Counted, Poll, SteadyStream, Stream, ready};
+use lite_base::{ArmedStream, CalmStream, Context, Counted, Poll, SteadyStream, Stream, ready};
 
 /// A stream that yields the items of another stream, each paired with its number.
 ///
@@ -72,4 +73,8 @@ impl<S: CalmStream> CalmStream for Enumerate<S> {
     ghost is_calm = { λ m. S.is_calm m.stream };
 
     ghost calm = { through_calm enumerate_parts S.calm (replaces_calming Numbers) };
+}
+
+impl<S: ArmedStream> ArmedStream for Enumerate<S> {
+    ghost armed = { through_arms enumerate_parts S.armed (replaces_arming Numbers) };
 }

@@ -3,10 +3,13 @@ ghost use Rattle.lite_stream.specs.Uses.{ranks_of, NoHint, ok_counting};
 ghost use Rattle.lite_stream.specs.Fuse.{Fuses, fuse_parts};
 ghost use Rattle.lite_stream.specs.Laws.Agreeing.{through_steady_over};
 ghost use Rattle.lite_stream.specs.Laws.Calming.{through_calm};
-ghost use Rattle.lite_stream.specs.Laws.Fuse.{fuses_agreeing, fuses_calming, fuses_relating};
+ghost use Rattle.lite_stream.specs.Laws.Fuse.{fuses_agreeing, fuses_calming, fuses_relating, fuses_arming};
 ghost use Rattle.lite_stream.specs.Laws.Through.{laws_unhinted, through_counting, through_on};
+ghost use Rattle.lite_stream.specs.Laws.Arming.{through_arms};
 
-use lite_base::{CalmStream, Context, Counted, OkCounted, Poll, SteadyStream, Stream, ready};
+use lite_base::{
+    ArmedStream, CalmStream, Context, Counted, OkCounted, Poll, SteadyStream, Stream, ready,
+};
 
 /// A stream that ends for ever once another stream has ended.
 ///
@@ -80,4 +83,8 @@ impl<S: CalmStream> CalmStream for Fuse<S> {
     ghost is_calm = { λ m. S.is_calm m.stream };
 
     ghost calm = { through_calm fuse_parts S.calm fuses_calming };
+}
+
+impl<S: ArmedStream> ArmedStream for Fuse<S> {
+    ghost armed = { through_arms fuse_parts S.armed fuses_arming };
 }

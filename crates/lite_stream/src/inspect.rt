@@ -3,10 +3,13 @@ ghost use Rattle.lite_stream.specs.Uses.{ranks_of, NoHint, CalledAt, ok_counting
 ghost use Rattle.lite_stream.specs.Inspect.{Inspects, ShowsItem, inspect_parts};
 ghost use Rattle.lite_stream.specs.Laws.Agreeing.{through_steady_over, shows_match};
 ghost use Rattle.lite_stream.specs.Laws.Calming.{through_calm};
-ghost use Rattle.lite_stream.specs.Laws.Pointwise.{asks_showing, exchanges_on, replaces_calming, replaces_relating, replaces_showing};
+ghost use Rattle.lite_stream.specs.Laws.Pointwise.{asks_showing, exchanges_on, replaces_calming, replaces_relating, replaces_showing, replaces_arming};
 ghost use Rattle.lite_stream.specs.Laws.Through.{laws_unhinted, through_counting};
+ghost use Rattle.lite_stream.specs.Laws.Arming.{through_arms};
 
-use lite_base::{CalmStream, Context, Counted, OkCounted, Poll, SteadyStream, Stream, ready};
+use lite_base::{
+    ArmedStream, CalmStream, Context, Counted, OkCounted, Poll, SteadyStream, Stream, ready,
+};
 
 /// A stream that calls a function with a reference to each item of another stream, and then yields the item.
 ///
@@ -81,4 +84,8 @@ impl<S: CalmStream, F: FnMut(&S::Item)> CalmStream for Inspect<S, F> {
     ghost is_calm = { λ m. S.is_calm m.stream };
 
     ghost calm = { through_calm inspect_parts S.calm (replaces_calming (ShowsItem (CalledAt F.FnMut))) };
+}
+
+impl<S: ArmedStream, F: FnMut(&S::Item)> ArmedStream for Inspect<S, F> {
+    ghost armed = { through_arms inspect_parts S.armed (replaces_arming (ShowsItem (CalledAt F.FnMut))) };
 }

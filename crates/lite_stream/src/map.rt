@@ -2,10 +2,13 @@ ghost use Rattle.lite_stream.specs.Uses.{ranks_of, Calls, ok_counting, AgreeOver
 ghost use Rattle.lite_stream.specs.Map.{Maps, map_parts};
 ghost use Rattle.lite_stream.specs.Laws.Agreeing.{through_steady_over};
 ghost use Rattle.lite_stream.specs.Laws.Calming.{through_calm};
-ghost use Rattle.lite_stream.specs.Laws.Pointwise.{asks_always, exchanges_on, replaces_answering, replaces_calming, replaces_relating};
+ghost use Rattle.lite_stream.specs.Laws.Pointwise.{asks_always, exchanges_on, replaces_answering, replaces_calming, replaces_relating, replaces_arming};
 ghost use Rattle.lite_stream.specs.Laws.Through.{laws_hinted, through_counting};
+ghost use Rattle.lite_stream.specs.Laws.Arming.{through_arms};
 
-use lite_base::{CalmStream, Context, Counted, OkCounted, Poll, SteadyStream, Stream, ready};
+use lite_base::{
+    ArmedStream, CalmStream, Context, Counted, OkCounted, Poll, SteadyStream, Stream, ready,
+};
 
 /// A stream that yields what a function returns for each item of another stream.
 ///
@@ -77,4 +80,8 @@ impl<U, S: CalmStream, F: FnMut(S::Item) -> U> CalmStream for Map<S, F> {
     ghost is_calm = { λ m. S.is_calm m.stream };
 
     ghost calm = { through_calm map_parts S.calm (replaces_calming (Calls F.FnMut)) };
+}
+
+impl<U, S: ArmedStream, F: FnMut(S::Item) -> U> ArmedStream for Map<S, F> {
+    ghost armed = { through_arms map_parts S.armed (replaces_arming (Calls F.FnMut)) };
 }

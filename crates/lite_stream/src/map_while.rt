@@ -3,10 +3,13 @@ ghost use Rattle.lite_stream.specs.Uses.{ranks_of, Calls, NoHint, ok_counting, A
 ghost use Rattle.lite_stream.specs.MapWhile.{MapsWhile, map_while_parts};
 ghost use Rattle.lite_stream.specs.Laws.Agreeing.{through_steady_over};
 ghost use Rattle.lite_stream.specs.Laws.Calming.{through_calm};
-ghost use Rattle.lite_stream.specs.Laws.Pointwise.{exchanges_calming, exchanges_keeping, exchanges_on, exchanges_relating};
+ghost use Rattle.lite_stream.specs.Laws.Pointwise.{exchanges_calming, exchanges_keeping, exchanges_on, exchanges_relating, exchanges_arming};
 ghost use Rattle.lite_stream.specs.Laws.Through.{laws_unhinted, through_counting};
+ghost use Rattle.lite_stream.specs.Laws.Arming.{through_arms};
 
-use lite_base::{CalmStream, Context, Counted, OkCounted, Poll, SteadyStream, Stream, ready};
+use lite_base::{
+    ArmedStream, CalmStream, Context, Counted, OkCounted, Poll, SteadyStream, Stream, ready,
+};
 
 /// A stream that yields the values that a function returns for the items of another stream, and ends at each
 /// `None`.
@@ -80,4 +83,8 @@ impl<B, S: CalmStream, F: FnMut(S::Item) -> Option<B>> CalmStream for MapWhile<S
     ghost is_calm = { λ m. S.is_calm m.stream };
 
     ghost calm = { through_calm map_while_parts S.calm (exchanges_calming (Calls F.FnMut)) };
+}
+
+impl<B, S: ArmedStream, F: FnMut(S::Item) -> Option<B>> ArmedStream for MapWhile<S, F> {
+    ghost armed = { through_arms map_while_parts S.armed (exchanges_arming (Calls F.FnMut)) };
 }

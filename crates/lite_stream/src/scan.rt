@@ -4,10 +4,13 @@ ghost use Rattle.lite_base.specs.EachItem.{MayCallEachWith};
 ghost use Rattle.lite_stream.specs.Scan.{Scans, scan_parts};
 ghost use Rattle.lite_stream.specs.Laws.Agreeing.{through_steady_over};
 ghost use Rattle.lite_stream.specs.Laws.Calming.{through_calm};
-ghost use Rattle.lite_stream.specs.Laws.Pointwise.{exchanges_calming, exchanges_keeping, exchanges_on, exchanges_relating};
+ghost use Rattle.lite_stream.specs.Laws.Pointwise.{exchanges_calming, exchanges_keeping, exchanges_on, exchanges_relating, exchanges_arming};
 ghost use Rattle.lite_stream.specs.Laws.Through.{laws_unhinted, through_counting};
+ghost use Rattle.lite_stream.specs.Laws.Arming.{through_arms};
 
-use lite_base::{CalmStream, Context, Counted, OkCounted, Poll, SteadyStream, Stream, ready};
+use lite_base::{
+    ArmedStream, CalmStream, Context, Counted, OkCounted, Poll, SteadyStream, Stream, ready,
+};
 
 /// A stream that calls a function with a state and each item of another stream, and ends at each `None`.
 ///
@@ -83,4 +86,9 @@ impl<St, B, S: CalmStream, F: FnMut(&mut St, S::Item) -> Option<B>> CalmStream f
     ghost is_calm = { λ m. S.is_calm m.stream };
 
     ghost calm = { through_calm scan_parts S.calm (exchanges_calming (CallsWith F.FnMut)) };
+}
+
+impl<St, B, S: ArmedStream, F: FnMut(&mut St, S::Item) -> Option<B>> ArmedStream
+    for Scan<S, St, F> {
+    ghost armed = { through_arms scan_parts S.armed (exchanges_arming (CallsWith F.FnMut)) };
 }

@@ -5,11 +5,14 @@ ghost use Rattle.lite_base.specs.Ranks.{number_ranks};
 ghost use Rattle.lite_stream.specs.Take.{Takes, is_none_left, left_after, take_parts};
 ghost use Rattle.lite_stream.specs.Laws.Agreeing.{through_steady_over};
 ghost use Rattle.lite_stream.specs.Laws.Calming.{through_calm};
-ghost use Rattle.lite_stream.specs.Laws.Cutting.{cuts_calming, cuts_relating};
+ghost use Rattle.lite_stream.specs.Laws.Cutting.{cuts_calming, cuts_relating, cuts_arming};
 ghost use Rattle.lite_stream.specs.Laws.Take.{takes_agreeing, takes_lowers};
 ghost use Rattle.lite_stream.specs.Laws.Through.{laws_unhinted, through_on};
+ghost use Rattle.lite_stream.specs.Laws.Arming.{through_arms};
 
-use lite_base::{CalmStream, Context, Counted, OkCounted, Poll, SteadyStream, Stream, ready};
+use lite_base::{
+    ArmedStream, CalmStream, Context, Counted, OkCounted, Poll, SteadyStream, Stream, ready,
+};
 
 /// A stream that yields the items of another stream, up to a given number, and then ends for ever.
 ///
@@ -86,4 +89,8 @@ impl<S: CalmStream> CalmStream for Take<S> {
     ghost is_calm = { λ m. S.is_calm m.stream };
 
     ghost calm = { through_calm take_parts S.calm (cuts_calming is_none_left left_after) };
+}
+
+impl<S: ArmedStream> ArmedStream for Take<S> {
+    ghost armed = { through_arms take_parts S.armed (cuts_arming is_none_left left_after) };
 }

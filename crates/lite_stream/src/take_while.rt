@@ -3,10 +3,13 @@ ghost use Rattle.lite_stream.specs.Uses.{ranks_of, CalledAt, Accepts, NoHint, ok
 ghost use Rattle.lite_stream.specs.TakeWhile.{TakesWhile, take_while_parts};
 ghost use Rattle.lite_stream.specs.Laws.Agreeing.{through_steady_over};
 ghost use Rattle.lite_stream.specs.Laws.Calming.{through_calm};
-ghost use Rattle.lite_stream.specs.Laws.Pointwise.{asks_testing, exchanges_calming, exchanges_on, exchanges_relating, exchanges_testing};
+ghost use Rattle.lite_stream.specs.Laws.Pointwise.{asks_testing, exchanges_calming, exchanges_on, exchanges_relating, exchanges_testing, exchanges_arming};
 ghost use Rattle.lite_stream.specs.Laws.Through.{laws_unhinted, through_counting};
+ghost use Rattle.lite_stream.specs.Laws.Arming.{through_arms};
 
-use lite_base::{CalmStream, Context, Counted, OkCounted, Poll, SteadyStream, Stream, ready};
+use lite_base::{
+    ArmedStream, CalmStream, Context, Counted, OkCounted, Poll, SteadyStream, Stream, ready,
+};
 
 /// A stream that yields the items of another stream, and ends at each item for which a predicate returns
 /// false.
@@ -84,4 +87,8 @@ impl<S: CalmStream<Item: Drop>, P: FnMut(&S::Item) -> bool> CalmStream for TakeW
     ghost is_calm = { λ m. S.is_calm m.stream };
 
     ghost calm = { through_calm take_while_parts S.calm (exchanges_calming (Accepts (CalledAt P.FnMut))) };
+}
+
+impl<S: ArmedStream<Item: Drop>, P: FnMut(&S::Item) -> bool> ArmedStream for TakeWhile<S, P> {
+    ghost armed = { through_arms take_while_parts S.armed (exchanges_arming (Accepts (CalledAt P.FnMut))) };
 }

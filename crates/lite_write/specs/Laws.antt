@@ -1,3 +1,4 @@
+pub mod Armed
 pub mod CalmWrite
 pub mod Copy
 pub mod Sink

@@ -3,9 +3,10 @@ ghost use Rattle.lite_write.specs.Uses.{polled_laws, PolledByCalls};
 ghost use Rattle.lite_write.specs.Close.{Closes};
 ghost use Rattle.lite_write.specs.WriteAll.{NoneFails, WithoutFailure};
 ghost use Rattle.lite_write.specs.Laws.CalmWrite.{close_calm, close_steady};
+ghost use Rattle.lite_write.specs.Laws.Armed.{close_arms};
 
-use lite_base::{CalmFuture, Context, Future, Poll, SteadyFuture};
-use lite_io_base::{AsyncWrite, CalmWrite};
+use lite_base::{ArmedFuture, CalmFuture, Context, Future, Poll, SteadyFuture};
+use lite_io_base::{ArmedWrite, AsyncWrite, CalmWrite};
 use std::io;
 
 /// A future that closes a writer.
@@ -46,4 +47,8 @@ impl<W: CalmWrite> CalmFuture for CloseFuture<'_, W> {
     ghost is_calm = { λ x. W.is_calm x.writer.now };
 
     ghost calm = { close_calm W.calm };
+}
+
+impl<W: ArmedWrite> ArmedFuture for CloseFuture<'_, W> {
+    ghost armed = { close_arms W.armed };
 }

@@ -3,9 +3,10 @@ ghost use Rattle.lite_write.specs.Uses.{polled_laws, PolledByCalls};
 ghost use Rattle.lite_write.specs.Flush.{Flushes};
 ghost use Rattle.lite_write.specs.WriteAll.{NoneFails, WithoutFailure};
 ghost use Rattle.lite_write.specs.Laws.CalmWrite.{flush_calm, flush_steady};
+ghost use Rattle.lite_write.specs.Laws.Armed.{flush_arms};
 
-use lite_base::{CalmFuture, Context, Future, Poll, SteadyFuture};
-use lite_io_base::{AsyncWrite, CalmWrite};
+use lite_base::{ArmedFuture, CalmFuture, Context, Future, Poll, SteadyFuture};
+use lite_io_base::{ArmedWrite, AsyncWrite, CalmWrite};
 use std::io;
 
 /// A future that flushes a writer once.
@@ -46,4 +47,8 @@ impl<W: CalmWrite> CalmFuture for FlushFuture<'_, W> {
     ghost is_calm = { λ x. W.is_calm x.writer.now };
 
     ghost calm = { flush_calm W.calm };
+}
+
+impl<W: ArmedWrite> ArmedFuture for FlushFuture<'_, W> {
+    ghost armed = { flush_arms W.armed };
 }

@@ -4,9 +4,12 @@ ghost use Rattle.lite_io_base.specs.Laws.Runs.{idle_laws};
 ghost use Rattle.lite_io_base.specs.Runs.{Idle};
 ghost use Rattle.lite_write.specs.Laws.Sink.{sinks_calm, sinks_laws, sinks_steady};
 ghost use Rattle.lite_write.specs.Sink.{Sinks};
+ghost use Rattle.lite_io_base.specs.Laws.Armed.{arms_marks_always};
 
 use lite_base::{Context, Poll};
-use lite_io_base::{AsyncWrite, CalmWrite, ReadSpec, SteadyWrite, WriteSpec, first_nonempty};
+use lite_io_base::{
+    ArmedWrite, AsyncWrite, CalmWrite, ReadSpec, SteadyWrite, WriteSpec, first_nonempty,
+};
 use std::io;
 use std::io::IoSlice;
 
@@ -80,4 +83,8 @@ impl CalmWrite for Sink {
     ghost is_calm = { λ _. ⊤ };
 
     ghost calm = { sinks_calm };
+}
+
+impl ArmedWrite for Sink {
+    ghost armed = { arms_marks_always };
 }

@@ -1,9 +1,10 @@
 ghost use Rattle.lite_write.specs.Uses.{polled_laws, PolledByCalls};
 ghost use Rattle.lite_write.specs.Write.{Writes};
 ghost use Rattle.lite_write.specs.Laws.CalmWrite.{write_calm};
+ghost use Rattle.lite_write.specs.Laws.Armed.{write_arms};
 
-use lite_base::{CalmFuture, Context, Future, Poll};
-use lite_io_base::{AsyncWrite, CalmWrite};
+use lite_base::{ArmedFuture, CalmFuture, Context, Future, Poll};
+use lite_io_base::{ArmedWrite, AsyncWrite, CalmWrite};
 use std::io;
 
 /// A future that writes once.
@@ -34,4 +35,8 @@ impl<W: CalmWrite> CalmFuture for WriteFuture<'_, W> {
     ghost is_calm = { λ x. W.is_calm x.writer.now };
 
     ghost calm = { write_calm W.calm };
+}
+
+impl<W: ArmedWrite> ArmedFuture for WriteFuture<'_, W> {
+    ghost armed = { write_arms W.armed };
 }

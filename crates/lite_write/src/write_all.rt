@@ -3,9 +3,10 @@ ghost use Rattle.lite_write.specs.Uses.{OneStep};
 ghost use Rattle.lite_base.specs.Laws.Ranks.{Terminates-count};
 ghost use Rattle.lite_write.specs.Laws.WriteAll.{all_calm, all_steady, all_laws, left_falls};
 ghost use Rattle.lite_write.specs.WriteAll.{WritesSome, NoneFails, WithoutFailure, WritesAll};
+ghost use Rattle.lite_write.specs.Laws.Armed.{all_arms};
 
-use lite_base::{CalmFuture, Context, Future, Poll, PollSteps, SteadyFuture, drive};
-use lite_io_base::{AsyncWrite, CalmWrite};
+use lite_base::{ArmedFuture, CalmFuture, Context, Future, Poll, PollSteps, SteadyFuture, drive};
+use lite_io_base::{ArmedWrite, AsyncWrite, CalmWrite};
 use std::io;
 use std::io::ErrorKind;
 
@@ -79,4 +80,8 @@ impl<W: CalmWrite> CalmFuture for WriteAllFuture<'_, W> {
     ghost is_calm = { λ x. W.is_calm x.writer.now };
 
     ghost calm = { all_calm W.calm };
+}
+
+impl<W: ArmedWrite> ArmedFuture for WriteAllFuture<'_, W> {
+    ghost armed = { all_arms W.armed };
 }

@@ -1,9 +1,10 @@
 ghost use Rattle.lite_write.specs.Uses.{polled_laws, PolledByCalls};
 ghost use Rattle.lite_write.specs.WriteVectored.{WritesVectored};
 ghost use Rattle.lite_write.specs.Laws.CalmWrite.{vectored_calm};
+ghost use Rattle.lite_write.specs.Laws.Armed.{vectored_arms};
 
-use lite_base::{CalmFuture, Context, Future, Poll};
-use lite_io_base::{AsyncWrite, CalmWrite};
+use lite_base::{ArmedFuture, CalmFuture, Context, Future, Poll};
+use lite_io_base::{ArmedWrite, AsyncWrite, CalmWrite};
 use std::io;
 use std::io::IoSlice;
 
@@ -36,4 +37,8 @@ impl<W: CalmWrite> CalmFuture for WriteVectoredFuture<'_, W> {
     ghost is_calm = { λ x. W.is_calm x.writer.now };
 
     ghost calm = { vectored_calm W.calm };
+}
+
+impl<W: ArmedWrite> ArmedFuture for WriteVectoredFuture<'_, W> {
+    ghost armed = { vectored_arms W.armed };
 }

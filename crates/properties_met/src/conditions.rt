@@ -5,7 +5,7 @@ use crate::consuming::{collections_are_alike, consumers_are_alike, tries_are_ali
 use crate::future_properties::{futures_are_alike, futures_are_calm};
 use crate::merges::{
     clones_have_marks, inner_streams_are_alike, inner_streams_are_calm, merges_are_alike,
-    merges_are_calm, poll_mapped, poll_mapped_items,
+    merges_are_calm, poll_armed_nest, poll_mapped, poll_mapped_items,
 };
 use crate::sources::{calls_are_alike, calls_are_calm};
 use crate::streams::{
@@ -15,7 +15,8 @@ use crate::streams::{
 use lite_base::{Context, Poll};
 use lite_future::make::ready;
 use lite_merge::Drain;
-use lite_merge::make::with_budget;
+use lite_merge::make::{with_budget, zip};
+use lite_reshape::make::{chain, filter};
 use lite_source::make::{iter, once};
 use lite_source::{Once, Script};
 use lite_stream::make::map;
@@ -116,4 +117,12 @@ pub fn mapped_budgets_are_polled(cx: &mut Context<'_>) {
     let _ = poll_mapped(&mut single, cx);
     let mut several = map(with_budget(iter(0u8..3), 1), |x: u8| x ^ 1);
     let _ = poll_mapped_items(&mut several, cx);
+}
+
+/// A nest of five adapters over items and a range may be polled as an armed one.
+pub fn armed_nests_are_polled(cx: &mut Context<'_>) {
+    let pairs = zip(chain(once(1u8), iter(0u8..3)), with_budget(iter(0u8..3), 1));
+    let mixed = map(pairs, |pair: (u8, u8)| pair.0 ^ pair.1);
+    let mut nest = filter(mixed, |x: &u8| *x == 1);
+    let _ = poll_armed_nest(&mut nest, cx);
 }

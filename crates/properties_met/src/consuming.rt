@@ -117,7 +117,7 @@ where
     requires alike { S.alike x.now.now y.now.now }
     requires agree { E.agree a.now.now b.now.now }
     requires calm_stream { S.is_calm x.now.now }
-    ensures buffer_of { ⟦<Consume<&'a mut S, &'a mut E> as SteadyFuture>⟧.alike
+    ensures lent { ⟦<Consume<&'a mut S, &'a mut E> as SteadyFuture>⟧.alike
         (record { stream = x.now; folder = a.now }) (record { stream = y.now; folder = b.now }) }
     ensures alike { ⟦<Consume<S, E> as SteadyFuture>⟧.alike
         (record { stream = x.now.now; folder = a.now.now }) (record { stream = y.now.now; folder = b.now.now }) }

@@ -131,13 +131,13 @@ where
 {}
 
 /// A future that is dropped once it is ready, and one that is lent.
-pub fn held_futures<'a, E>(fuse: &Fuse<E>, inner: &E, buffer_of: &&'a mut E)
+pub fn held_futures<'a, E>(fuse: &Fuse<E>, inner: &E, lent: &&'a mut E)
 where
     E: SteadyFuture + Drop,
     ensures fuse { (fuse.now.inner ≡ Some inner.now
         → TellsAll (E.registers inner.now) (⟦<Fuse<E> as Future>⟧.registers fuse.now))
         × (E.needs_none → ⟦<Fuse<E> as SteadyFuture>⟧.needs_none) }
-    ensures buffer_of { TellsAll (E.registers buffer_of.now.now) (⟦<&'a mut E as Future>⟧.registers buffer_of.now)
+    ensures lent { TellsAll (E.registers lent.now.now) (⟦<&'a mut E as Future>⟧.registers lent.now)
         × (E.needs_none → ⟦<&'a mut E as SteadyFuture>⟧.needs_none) }
 {}
 
@@ -159,10 +159,10 @@ pub fn budgeted_future<E: Future>(budgeted: &PollLimited<E>)
 {}
 
 /// A stream that is lent.
-pub fn lent_stream<'a, S>(buffer_of: &&'a mut S)
+pub fn lent_stream<'a, S>(lent: &&'a mut S)
 where
     S: SteadyStream,
-    ensures { TellsAll (S.registers buffer_of.now.now) (⟦<&'a mut S as Stream>⟧.registers buffer_of.now)
+    ensures { TellsAll (S.registers lent.now.now) (⟦<&'a mut S as Stream>⟧.registers lent.now)
         × (S.needs_none → ⟦<&'a mut S as SteadyStream>⟧.needs_none) }
 {}
 

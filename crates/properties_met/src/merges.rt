@@ -1,6 +1,8 @@
 //! Adapters that hold something between polls or have several streams: two that are alike, and a calm one, of each type.
 //! A poll of `Drain` is never pending, so it may be said to have registered every fact.
 ghost use Rattle.std.specs.Prelude.{None, Some, false, true, ◌≡◌, ◌<◌};
+ghost use Rattle.futures.specs.Poll.{OnPending};
+ghost use Rattle.futures.specs.Task.{IsArmed};
 ghost use Rattle.lite_base.specs.Alike.{SameItem};
 ghost use Rattle.lite_base.specs.Calling.{AgreeFrom, Calls, MakesAlways};
 ghost use Rattle.lite_base.specs.Steady.{TakesNone};
@@ -13,10 +15,11 @@ ghost use Rattle.properties_met.specs.Registering.{TellsAll, TellsEach};
 ghost use Rattle.properties_met.specs.Unrefused.{AmpleWhere};
 
 use lite_base::{
-    CalmFuture, CalmStream, Context, Counted, Future, Poll, SteadyFuture, SteadyStream, Stream,
+    ArmedStream, CalmFuture, CalmStream, Context, Counted, Future, Poll, SteadyFuture,
+    SteadyStream, Stream, poll_armed_next,
 };
 use lite_merge::{Budgeted, Cycle, Drain, Or, Race, StopAfterFuture, Zip};
-use lite_reshape::{Chain, Cloned, FlatMap, Flatten, Then};
+use lite_reshape::{Chain, Cloned, Filter, FlatMap, Flatten, Then};
 use lite_source::Iter;
 use lite_stream::Map;
 use rand_core::Rng;
@@ -253,6 +256,25 @@ where
     ensures { Registered result HoldsWoken cx.new }
 {
     nest.poll_next(cx)
+}
+
+/// Polls a nest of five adapters over armed streams. Each of the five is armed because its parts are, so the task may be parked after any
+/// pending of the nest.
+pub fn poll_armed_nest<S, U, V, W, F, P>(
+    nest: &mut Filter<Map<Zip<Chain<S, U>, Budgeted<V>>, F>, P>,
+    cx: &mut Context<'_>,
+) -> Poll<Option<W>>
+where
+    S: Counted<Item: Drop> + ArmedStream,
+    U: Counted<Item = S::Item> + ArmedStream,
+    V: ArmedStream,
+    W: Drop,
+    F: FnMut((S::Item, V::Item)) -> W,
+    P: FnMut(&W) -> bool,
+    requires { ⟦<Filter<Map<Zip<Chain<S, U>, Budgeted<V>>, F>, P> as Stream>⟧.can_poll nest.old }
+    ensures { OnPending result (IsArmed cx.new) }
+{
+    poll_armed_next(nest, cx)
 }
 
 /// What drains a stream is never pending.

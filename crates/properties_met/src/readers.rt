@@ -58,7 +58,7 @@ where
     requires second { S.alike v.now w.now }
     requires first_calm { R.is_calm x.now.now }
     requires second_calm { S.is_calm v.now }
-    ensures buffer_of { ⟦<&'a mut R as SteadyRead>⟧.alike x.now y.now }
+    ensures lent { ⟦<&'a mut R as SteadyRead>⟧.alike x.now y.now }
     ensures take { ⟦<Take<S> as SteadyRead>⟧.alike (record { inner = v.now; limit = limit })
         (record { inner = w.now; limit = limit }) }
     ensures bytes { ⟦<Bytes<S> as SteadyRead>⟧.alike (record { inner = v.now; interrupted = false })
@@ -116,13 +116,13 @@ pub fn readers_alone<'a, T: BytesLike>(
 /// Adapters of one reader, and a reader that is lent. A budget has registered a wake at its own pending, after which it has noted
 /// no rest, and at any other pending what the reader does.
 pub fn adapted<'a, R: SteadyRead>(
-    buffer_of: &&'a mut R,
+    lent: &&'a mut R,
     take: &Take<R>,
     buf_reader: &BufReader<R>,
     budgeted: &Budgeted<R>,
     rest: usize,
 )
-    ensures buffer_of { TellsAll (R.registers buffer_of.now.now) (⟦<&'a mut R as AsyncRead>⟧.registers buffer_of.now)
+    ensures lent { TellsAll (R.registers lent.now.now) (⟦<&'a mut R as AsyncRead>⟧.registers lent.now)
         × (R.needs_none → ⟦<&'a mut R as SteadyRead>⟧.needs_none) }
     ensures take { TellsAll (R.registers (take_inner take.now)) (⟦<Take<R> as AsyncRead>⟧.registers take.now)
         × (R.needs_none → ⟦<Take<R> as SteadyRead>⟧.needs_none) }

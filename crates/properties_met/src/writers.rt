@@ -25,7 +25,7 @@ use lite_write::{
 /// Writers of bytes are alike to themselves, and one that follows orders to one that took the same and has none left.
 pub fn writers_are_alike<'a>(
     bytes: &Vec<u8>,
-    buffer_of: &&'a mut Vec<u8>,
+    lent: &&'a mut Vec<u8>,
     slice: &&'a mut [u8],
     place: u64,
     takes: &Takes,
@@ -36,7 +36,7 @@ pub fn writers_are_alike<'a>(
     ensures cursor { ⟦<Cursor<Vec<u8>> as SteadyWrite>⟧.alike
         (record { inner = bytes.now; position = place }) (record { inner = bytes.now; position = place }) }
     ensures lent_cursor { ⟦<Cursor<&'a mut Vec<u8>> as SteadyWrite>⟧.alike
-        (record { inner = buffer_of.now; position = place }) (record { inner = buffer_of.now; position = place }) }
+        (record { inner = lent.now; position = place }) (record { inner = lent.now; position = place }) }
     ensures slice_cursor { ⟦<Cursor<&'a mut [u8]> as SteadyWrite>⟧.alike
         (record { inner = slice.now; position = place }) (record { inner = slice.now; position = place }) }
     ensures asserted { ⟦<AssertAsync<Vec<u8>> as SteadyWrite>⟧.alike (record { inner = bytes.now }) (record { inner = bytes.now }) }
@@ -45,7 +45,7 @@ pub fn writers_are_alike<'a>(
 /// Writers of bytes are calm, and so is one that has no orders left.
 pub fn writers_are_calm<'a>(
     bytes: &Vec<u8>,
-    buffer_of: &&'a mut Vec<u8>,
+    lent: &&'a mut Vec<u8>,
     slice: &&'a mut [u8],
     place: u64,
     takes: &Takes,
@@ -54,7 +54,7 @@ pub fn writers_are_calm<'a>(
     ensures sink { ⟦<Sink as CalmWrite>⟧.is_calm (record {}) }
     ensures takes { ⟦<Takes as CalmWrite>⟧.is_calm (record takes.now { orders = [] }) }
     ensures cursor { ⟦<Cursor<Vec<u8>> as CalmWrite>⟧.is_calm (record { inner = bytes.now; position = place }) }
-    ensures lent_cursor { ⟦<Cursor<&'a mut Vec<u8>> as CalmWrite>⟧.is_calm (record { inner = buffer_of.now; position = place }) }
+    ensures lent_cursor { ⟦<Cursor<&'a mut Vec<u8>> as CalmWrite>⟧.is_calm (record { inner = lent.now; position = place }) }
     ensures slice_cursor { ⟦<Cursor<&'a mut [u8]> as CalmWrite>⟧.is_calm (record { inner = slice.now; position = place }) }
     ensures asserted { ⟦<AssertAsync<Vec<u8>> as CalmWrite>⟧.is_calm (record { inner = bytes.now }) }
 {}
@@ -70,14 +70,14 @@ pub fn adapters_have_marks<'a, W>(
 )
 where
     W: SteadyWrite + CalmWrite,
-    requires buffer_of { W.alike x.now.now y.now.now }
+    requires lent { W.alike x.now.now y.now.now }
     requires written { W.alike (writer_inner v.now) (writer_inner w.now) }
     requires empty { (buffered v.now ≡ []) × (buffered w.now ≡ []) }
     requires read { W.alike (read_from r.now) (read_from s.now) }
     requires calm_lent { W.is_calm x.now.now }
     requires calm_written { W.is_calm (writer_inner v.now) }
     requires calm_read { W.is_calm (read_from r.now) }
-    ensures buffer_of { ⟦<&'a mut W as SteadyWrite>⟧.alike x.now y.now }
+    ensures lent { ⟦<&'a mut W as SteadyWrite>⟧.alike x.now y.now }
     ensures buf_writer { ⟦<BufWriter<W> as SteadyWrite>⟧.alike v.now w.now }
     ensures buf_reader { ⟦<BufReader<W> as SteadyWrite>⟧.alike r.now s.now }
     ensures lent_calm { ⟦<&'a mut W as CalmWrite>⟧.is_calm x.now }
@@ -145,7 +145,7 @@ pub fn journals_write_with_marks<W: SteadyWrite + CalmWrite + ReadSpec + Clone>(
 
 /// Adapters of one writer, and a writer that is lent.
 pub fn adapted<'a, W>(
-    buffer_of: &&'a mut W,
+    lent: &&'a mut W,
     buf_writer: &BufWriter<W>,
     buf_reader: &BufReader<W>,
     budgeted: &Budgeted<W>,
@@ -153,7 +153,7 @@ pub fn adapted<'a, W>(
 )
 where
     W: AsyncWrite + ReadSpec + Clone,
-    ensures buffer_of { TellsAll (W.write_registers buffer_of.now.now) (⟦<&'a mut W as AsyncWrite>⟧.write_registers buffer_of.now) }
+    ensures lent { TellsAll (W.write_registers lent.now.now) (⟦<&'a mut W as AsyncWrite>⟧.write_registers lent.now) }
     ensures buf_writer { TellsAll (W.write_registers (writer_inner buf_writer.now))
         (⟦<BufWriter<W> as AsyncWrite>⟧.write_registers buf_writer.now) }
     ensures buf_reader { TellsAll (W.write_registers (reader_inner buf_reader.now))
@@ -166,7 +166,7 @@ where
 
 /// Seekers: a buffered writer seeks once nothing is left to be written.
 pub fn sought<'a, S>(
-    buffer_of: &&'a mut S,
+    lent: &&'a mut S,
     buf_writer: &BufWriter<S>,
     buf_reader: &BufReader<S>,
     budgeted: &Budgeted<S>,
@@ -174,7 +174,7 @@ pub fn sought<'a, S>(
 )
 where
     S: AsyncSeek + AsyncWrite,
-    ensures buffer_of { TellsAll (S.seek_registers buffer_of.now.now) (⟦<&'a mut S as AsyncSeek>⟧.seek_registers buffer_of.now) }
+    ensures lent { TellsAll (S.seek_registers lent.now.now) (⟦<&'a mut S as AsyncSeek>⟧.seek_registers lent.now) }
     ensures seeks { unwritten buf_writer.now ≡ [] → TellsAll (S.seek_registers (writer_inner buf_writer.now))
         (⟦<BufWriter<S> as AsyncSeek>⟧.seek_registers buf_writer.now) }
     ensures writes { 0 < length (unwritten buf_writer.now) → TellsAll (S.write_registers (writer_inner buf_writer.now))

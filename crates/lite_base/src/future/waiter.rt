@@ -13,15 +13,16 @@ use std::sync::Wait;
 /// # Examples
 ///
 /// ```
-/// use futures_lite::future::{self, BlockOn};
-/// use futures_lite::io::{wait_flush, wait_write_all};
+/// use futures_lite::future::{self, BlockOn, Waiter};
+/// use std::sync::Wait;
 ///
-/// let mut written = Vec::new(rt.alloc());
+/// fn sum<R: Wait, W: Waiter>(on: &mut W, rt: &R) -> u8 {
+///     on.wait(rt, &mut future::ready(7u8)) + on.wait(rt, &mut future::ready(8u8))
+/// }
+///
 /// let mut on = BlockOn::new(&rt)?;
-/// let mut waits = on.waits();
-/// wait_write_all(&mut waits, &rt, &mut written, b"abc")??;
-/// wait_flush(&mut waits, &rt, &mut written)??;
-/// assert_eq!(rt; written.as_slice(), b"abc".as_slice());
+/// assert_eq!(rt; sum(&mut on, &rt), 15);
+/// assert_eq!(rt; sum(&mut on.waits(), &rt), 15);
 /// ```
 pub trait Waiter {
     /// Blocks this thread until `future` is ready, and returns its value. The future stays with the caller.

@@ -1,5 +1,8 @@
 -- Laws of a `BufReader` as a reader.
-use Rattle.std.specs.Prelude.{◌≡◌, ◌<◌, ℕ, zero, suc, ◌+◌, ◌-◌, List, [], ◌∷◌, ◌++◌, length}
+use Rattle.std.specs.Prelude.{Bool, true, false, ◌≡◌, ◌<◌, ℕ, zero, suc, ◌+◌, ◌-◌, List, [], ◌∷◌, ◌++◌, length}
+use Rattle.futures.specs.Task.{Lasting}
+use Rattle.lite_io_base.specs.Armed.{ArmsRead, is_read_pending, last_is}
+use Rattle.lite_io_base.specs.Laws.Armed.{last_join}
 use Rattle.lite_buffered.specs.Uses.{◌∙◌, refl, sym, ap, arith, append_assoc, append-nil, length-append, Comparable}
 use Rattle.lite_buffered.specs.Uses.{Ranks, Runs, ReadCounting, WriteMark, given_count-append, given_parts, AllGiven}
 use Rattle.lite_buffered.specs.Uses.{ReadMark, bytes, given_count, MarkLaws, Shows, comparable_behind, no_wait_both}
@@ -8,7 +11,7 @@ use Rattle.lite_buffered.specs.Uses.{SeekFrom, Current, inl, inr, SeekKeeps}
 use Rattle.lite_io_base.specs.Laws.Counting.{falls_held}
 use Rattle.lite_io_base.specs.Laws.Marks.{bytes_given, given_count-bytes, given_all, given_both}
 use Rattle.lite_buffered.specs.declared.buf_reader.BufReader.{BufReader}
-use Rattle.lite_buffered.specs.BufReader.{Padded, PassesBuffer, Past, ThroughBuffer, bytes_ahead, ahead_ranks}
+use Rattle.lite_buffered.specs.BufReader.{AheadRegisters, Padded, PassesBuffer, Past, ThroughBuffer, bytes_ahead, ahead_ranks}
 use Rattle.lite_buffered.specs.BufReader.{reader_capacity, KeepsOrder, reader_inner, SeekAnswer, SeeksOnce}
 use Rattle.lite_buffered.specs.BufReader.{SeeksThrough, SeeksTwice}
 use Rattle.lite_io_base.specs.Laws.Steady.{comparable_fronts, no_wait_bytes, no_wait_parts}
@@ -227,3 +230,39 @@ module _ {R : Type 0} (seeks : R → SeekFrom → SeekAnswer → R → Type 0) (
   seeks_keep x y (Current offset) r p (inl h) = once x y _ r p h.1
   seeks_keep x y (Current offset) r p (inr h) = twice x y _ _ r p h.1
   seeks_keep x y a r p h = once x y a r p h
+
+-- What is armed after a `Pending`.
+
+bytes_last : (b : Bool) (xs : List ℕ) → last_is is_read_pending b (bytes xs) ≡ true → b ≡ true
+bytes_last b [] e = e
+bytes_last b (x ∷ xs) e = let none = bytes_last false xs e in cc none
+
+last_from : (b c : Bool) (l : List ReadMark) → (b ≡ true → c ≡ true) → last_is is_read_pending b l ≡ true
+    → last_is is_read_pending c l ≡ true
+last_from b c [] k e = k e
+last_from b c (m ∷ l) k e = e
+
+padded_last : (b : Bool) (l k : List ReadMark) → Padded l k → last_is is_read_pending b k ≡ true
+    → last_is is_read_pending b l ≡ true
+padded_last b l k Padded.none e = e
+padded_last b l k (Padded.same m l' k' h) e = padded_last (is_read_pending m) l' k' h e
+padded_last b l k (Padded.more l' k' h) e = last_from false b l (λ n. cc n) (padded_last false l k' h e)
+
+-- If no byte is ahead and the last mark passed on is a `Pending`, so is the last mark of the inner reader.
+passes_last : (n : ℕ) (before : List ℕ) (came out : List ReadMark) → PassesBuffer n before came out []
+    → last_is is_read_pending false out ≡ true → last_is is_read_pending false came ≡ true
+passes_last zero before came out h e = padded_last false came out h.2 e
+passes_last (suc n) before came out h e =
+    let own = last_is is_read_pending false (bytes before) in
+    let all : last_is is_read_pending false (bytes before ++ came) ≡ true = rw (h, append-nil out) e in
+    last_from own false came (bytes_last false before) (sym (last_join is_read_pending false (bytes before) came) ∙ all)
+
+-- A `BufReader` is armed if its inner reader is.
+pub buf_reader_arms : {R : Type 0} {reads : Runs ReadMark R} {registers : R → Lasting → Type 0}
+    → ArmsRead reads registers → ArmsRead (ThroughBuffer reads) (AheadRegisters registers)
+buf_reader_arms a =
+    record {
+      at = λ x y l e h none.
+          a.at x.inner y.inner h.came
+          (passes_last (reader_capacity x) (bytes_ahead x) h.came l (rw none at h.passes) e) h.ran;
+    }

@@ -1,5 +1,8 @@
 -- A `BufWriter` is steady over a steady writer, and calm over a calm one.
-use Rattle.std.specs.Prelude.{◌≡◌, ℕ, List, [], ◌∷◌, ◌++◌}
+use Rattle.std.specs.Prelude.{Bool, true, false, ◌≡◌, ℕ, List, [], ◌∷◌, ◌++◌}
+use Rattle.futures.specs.Task.{Lasting}
+use Rattle.lite_io_base.specs.Armed.{ArmsWrite, is_write_pending, last_is}
+use Rattle.lite_io_base.specs.Laws.Armed.{arms_marks_part, last_join}
 use Rattle.lite_buffered.specs.Uses.{◌∙◌, inl, inr, refl, sym, subst, append-nil, CalmWriteLaws}
 use Rattle.lite_buffered.specs.Uses.{SteadyWriteLaws, WriteMark, bytes_taken, Runs, calm_part, steady_write_part}
 use Rattle.lite_io_base.specs.Laws.Steady.{never_waits_parts}
@@ -128,3 +131,35 @@ module _ {R : Type 0} {writes : Runs WriteMark R} where
   pub past_calm : {is_calm : R → Type 0} → CalmWriteLaws writes is_calm
       → CalmWriteLaws (Past writes) (λ (x : BufReader R). is_calm x.inner)
   past_calm = calm_part (λ x. x.inner) (λ x y l h. h.0)
+
+  pub past_arms : {registers : R → Lasting → Type 0} → ArmsWrite writes registers
+      → ArmsWrite (Past writes) (λ (x : BufReader R). registers x.inner)
+  past_arms = arms_marks_part (λ x. x.inner) (λ x y l h. h.0)
+
+-- A `BufWriter` is armed if its inner writer is.
+
+pending_last : (before : List ℕ) (taken : List WriteMark) (told : WriteMark) (after : List ℕ)
+    → WriterSegment before taken told after → is_write_pending told ≡ true → (c : Bool)
+    → last_is is_write_pending c taken ≡ true
+pending_last before taken WriteMark.pending after h e c =
+    rw h.cut (last_join is_write_pending c h.drained h.last ∙ (rw h.answers.0 refl))
+pending_last before taken told after h e c = cc e
+
+segments_last : (before : List ℕ) (taken out : List WriteMark) (after : List ℕ) → WriterSegments before taken out after
+    → (b c : Bool) → (b ≡ true → c ≡ true) → last_is is_write_pending b out ≡ true
+    → last_is is_write_pending c taken ≡ true
+segments_last before taken [] after h b c k e = rw h.0 (k e)
+segments_last before taken (m ∷ out) after h b c k e =
+    let first = pending_last before h.0 m h.2 h.4 in
+    let rest = segments_last h.2 h.1 out after h.5 (is_write_pending m) (last_is is_write_pending c h.0)
+    (λ d. first d c) e in
+    rw h.3 (last_join is_write_pending c h.0 h.1 ∙ rest)
+
+pub buf_writer_arms : {W : Type 0} {writes : Runs WriteMark W} {registers : W → Lasting → Type 0}
+    → ArmsWrite writes registers → ArmsWrite (Buffers writes) (λ (x : BufWriter W). registers x.inner)
+buf_writer_arms a =
+    record {
+      at = λ x y l e h.
+          a.at x.inner y.inner h.taken
+          (segments_last (unwritten x) h.taken l (unwritten y) h.segments false false (λ n. n) e) h.ran;
+    }

@@ -1,5 +1,8 @@
 -- Laws of `take`.
-use Rattle.std.specs.Prelude.{◌≡◌, ℕ, zero, suc, List, [], ◌∷◌, ◌++◌, take}
+use Rattle.std.specs.Prelude.{Bool, true, false, ◌≡◌, ℕ, zero, suc, List, [], ◌∷◌, ◌++◌, take}
+use Rattle.futures.specs.Task.{Lasting}
+use Rattle.lite_io_base.specs.Armed.{ArmsRead, is_read_pending, last_is}
+use Rattle.lite_io_base.specs.Laws.Armed.{last_join}
 use Rattle.lite_buffered.specs.Uses.{◌∙◌, refl, sym, ap, subst, arith, append_assoc, append-nil, Comparable, Ranks}
 use Rattle.lite_buffered.specs.Uses.{ranks_of, Runs, ReadCounting, given_count-append, given_parts, comparable_none}
 use Rattle.lite_buffered.specs.Uses.{AllGiven, ReadMark, bytes, given_count, MarkLaws, Shows, no_wait_both}
@@ -184,3 +187,21 @@ module _ {R : Type 0} {reads : Runs ReadMark R} where
             (ends_no_wait y.limit h.ends h.used_up));
         calm_on = λ x y l k h. c.calm_on x.inner y.inner h.front k h.ran;
       }
+
+-- Ends of file are no `Pending`.
+limit_ends_last : (b : Bool) (rest : ℕ) (ms : List ReadMark) → LimitEnds rest ms → last_is is_read_pending b ms ≡ true
+    → b ≡ true
+limit_ends_last b rest [] h e = e
+limit_ends_last b rest (m ∷ ms) h e =
+    let all : last_is is_read_pending (is_read_pending m) ms ≡ true = e in
+    let none = rw h.1 at (limit_ends_last (is_read_pending m) rest ms h.2 all) in cc none
+
+-- A `take` is armed if its reader is.
+pub take_arms : {R : Type 0} {reads : Runs ReadMark R} {registers : R → Lasting → Type 0} → ArmsRead reads registers
+    → ArmsRead (ReadsWithin reads) (λ (x : Take R). registers x.inner)
+take_arms a =
+    record {
+      at = λ x y l e h.
+          let all = sym (last_join is_read_pending false h.front h.ends) ∙ (rw h.cut at e) in
+          a.at x.inner y.inner h.front (limit_ends_last _ y.limit h.ends h.used_up all) h.ran;
+    }

@@ -1,8 +1,11 @@
 -- Laws of futures that consume a stream.
-use Rattle.std.specs.Prelude.{◌≡◌, Option, Some, None, List, [], ◌∷◌, refl}
+use Rattle.std.specs.Prelude.{false, ◌≡◌, Option, Some, None, List, [], ◌∷◌, refl}
 use Rattle.std.proofs.Common.{◌++◌}
 use Rattle.lite_consume.specs.Uses.{Poll, Ready, Pending, Answer, Gives, item, answers_given, answers_taken, Runs}
 use Rattle.lite_consume.specs.Uses.{OneAnswer, Segment, FoldsTo, Hints, StreamLaws, items_in}
+use Rattle.futures.specs.Task.{Lasting}
+use Rattle.lite_base.specs.Armed.{Arms}
+use Rattle.lite_base.specs.Laws.Armed.{segments_pend}
 use Rattle.lite_base.specs.Answers.{UpToValue, Waiting}
 use Rattle.lite_base.specs.Calm.{CalmLaws, NoPending}
 use Rattle.lite_base.specs.FutureLaws.{FutureLaws, FutureRunLaws, WaitsOn}
@@ -111,6 +114,23 @@ module _ {S M A R : Type 0} {run : Runs (Answer A) S} (fold : Fold M A R) where
             (λ p o r d e. tt) x.folder h.ins l (λ e. e) h.consumed (c.no_pending x.stream y.stream h.ins k h.came);
         calm_on = λ x y l k h. c.calm_on x.stream y.stream h.ins k h.came;
       }
+
+-- The future is pending only when the stream is.
+decides_pending : {M A R : Type 0} (fold : Fold M A R) (p q : M) (a : Answer A) → Decides fold p a Pending q
+    → a ≡ Pending
+decides_pending fold p q Pending h = refl
+decides_pending fold p q (Ready o) h = absurd h
+
+-- The future is armed if its stream is.
+pub consumed_arms : {S M A R : Type 0} {run : Runs (Answer A) S} {registers : S → Lasting → Type 0}
+    (fold : Fold M A R) → Arms run registers → Arms (Folds run fold) (λ x. registers x.stream)
+consumed_arms fold a =
+    record {
+      at = λ x y l e h.
+          let pends = segments_pend (TakesIn fold) (Decides fold) (decides_pending fold) x.folder y.folder h.ins l
+          h.consumed.0 false e in
+          a.at x.stream y.stream h.ins pends h.came;
+    }
 
 -- Such a future may be polled again while it has no value.
 module _ {S M A R : Type 0} {run : Runs (Answer A) S} {fold : Fold M A R} {counts : S → Type 0} {is_open : M → Type 0}

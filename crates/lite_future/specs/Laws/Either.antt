@@ -1,10 +1,12 @@
 -- Laws of a future of one of two types.
 use Rattle.std.specs.Prelude.{◌≡◌, ◌≤◌, List, [], ◌++◌, length}
+use Rattle.futures.specs.Task.{Lasting}
+use Rattle.lite_base.specs.Armed.{Arms, EndsPending}
 use Rattle.lite_future.specs.Uses.{ap, inl, inr, Poll, SameItem, Sameness, Waiting, strip, CalmLaws, NoPending, FutureLaws, FutureRunLaws, WaitsOn}
 use Rattle.lite_future.specs.Uses.{future_laws_of, future_runs_of, Runs, FutureSteadyLawsBy}
 use Rattle.lite_base.specs.Alike.{Either as EitherSame}
 use Rattle.lite_base.specs.Answers.{ComparableBy}
-use Rattle.lite_future.specs.Either.{BothEither, EitherRuns, OfEither}
+use Rattle.lite_future.specs.Either.{BothEither, EitherRegisters, EitherRuns, OfEither}
 use Rattle.lite_base.specs.Laws.Alike.{comparable_as}
 use Rattle.lite_future.specs.declared.either.Either.{Either}
 use Rattle.lite_future.specs.declared.either.Either.TheVariants.{Left, Right}
@@ -105,3 +107,15 @@ module _ {A B O : Type 0} {one some : Runs (Poll O) A} {other others : Runs (Pol
   pub either_steady : FutureSteadyLawsBy (EitherSame same also) (EitherRuns one other) (EitherRuns some others)
       (none × needs) (BothEither alike like)
   either_steady = record { laws = either_runs s.laws t.laws; steady = steady; found = found }
+
+-- A future of one of two types is armed if the futures of both types are.
+pub either_arms : {A B O : Type 0} {run_one : Runs (Poll O) A} {run_other : Runs (Poll O) B}
+    {one : A → Lasting → Type 0} {other : B → Lasting → Type 0} → Arms run_one one → Arms run_other other
+    → Arms (EitherRuns run_one run_other) (EitherRegisters one other)
+either_arms {A} {B} {O} {run_one} {run_other} {one} {other} a b = record { at = of_either }
+  where
+    of_either : (x y : Either A B) (l : List (Poll O)) → EndsPending l → EitherRuns run_one run_other x l y
+        → EitherRegisters one other y Lasting.armed
+    of_either (Left x) (Left y) l e h = a.at x y l e h
+    of_either (Right x) (Right y) l e h = b.at x y l e h
+    of_either x y l e h = absurd h

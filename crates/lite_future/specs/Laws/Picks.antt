@@ -1,5 +1,8 @@
 -- Laws of two futures of which each poll polls one first.
-use Rattle.std.specs.Prelude.{◌⊎◌, ◌≡◌, List, [], ◌∷◌, ◌++◌, Bool, refl}
+use Rattle.std.specs.Prelude.{true, false, ◌⊎◌, ◌≡◌, List, [], ◌∷◌, ◌++◌, Bool, refl}
+use Rattle.futures.specs.Task.{Lasting}
+use Rattle.lite_base.specs.Armed.{Arms, EndsPending}
+use Rattle.lite_base.specs.Laws.Armed.{EitherPends, rows_pend}
 use Rattle.lite_future.specs.Uses.{subst, ap, inl, inr, Poll, Ready, Pending, Waiting, CalmLaws, NoPending, FutureRunLaws, WaitsOn, waiting_up_to}
 use Rattle.lite_future.specs.Uses.{no_pending_join, Runs}
 use Rattle.lite_future.specs.Picks.{PickRow, PickRows, Picks}
@@ -105,3 +108,32 @@ module _ {F G A : Type 0} {run_first : Runs (Poll A) F} {run_second : Runs (Poll
       (rows_calm order h.i h.j out h.rows (inl (c.no_pending f f' h.i k h.first)), inl (c.calm_on f f' h.i k h.first))
   picks_calm c d {order} {g} {g'} {out} (inr k) h =
       (rows_calm order h.i h.j out h.rows (inr (d.no_pending g g' h.j k h.second)), inr (d.calm_on g g' h.j k h.second))
+
+module _ {A : Type 0} where
+  row_pends : (i j : List (Poll A)) (c : Poll A) (i' j' l : List (Poll A)) → PickRow i j c i' j' → EitherPends i' j' l
+      → EitherPends i j (c ∷ l)
+  row_pends (Ready x ∷ i) j c i' j' l r k b p q h e =
+      rw (r.1, r.2) at (k false false q (λ d. cc d) (rw r.0 at e))
+  row_pends (Pending ∷ i) (Pending ∷ j) c i' j' l r k b p q h e =
+      rw (r.1, r.2) at (k true true true (λ d. inl refl) (rw r.0 at e))
+  row_pends (Pending ∷ i) (Ready x ∷ j) c i' j' l r k b p q h e =
+      rw (r.1, r.2) at (k false true false (λ d. cc d) (rw r.0 at e))
+  row_pends i j c i' j' l r k b p q h e = absurd r
+
+  rows_end : (order : List Bool) (i j out : List (Poll A)) → PickRows order i j out → EndsPending out
+      → EndsPending i ⊎ EndsPending j
+  rows_end order i j out r e = rows_pend PickRow row_pends order i j out r false false false (λ d. cc d) e
+
+-- One of the two futures has registered the task if both are armed.
+pub picks_arms : {F G A : Type 0} {run_first : Runs (Poll A) F} {run_second : Runs (Poll A) G}
+    {registers : F → Lasting → Type 0} {registers' : G → Lasting → Type 0} → Arms run_first registers
+    → Arms run_second registers'
+    → {order : List Bool} {f f' : F} {g g' : G} {out : List (Poll A)} → EndsPending out
+    → Picks run_first run_second order f g out f' g'
+    → registers f' Lasting.armed ⊎ registers' g' Lasting.armed
+picks_arms {registers} {registers'} a b {order} {f} {f'} {g} {g'} {out} e h =
+    one_of (rows_end order h.i h.j out h.rows e)
+  where
+    one_of : EndsPending h.i ⊎ EndsPending h.j → registers f' Lasting.armed ⊎ registers' g' Lasting.armed
+    one_of (inl d) = inl (a.at f f' h.i d h.first)
+    one_of (inr d) = inr (b.at g g' h.j d h.second)

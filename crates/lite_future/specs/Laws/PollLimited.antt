@@ -1,5 +1,7 @@
 -- Laws of a future that polls its inner future a limited number of times.
-use Rattle.std.specs.Prelude.{◌≡◌, ◌≤◌, ◌<◌, ◌-◌, ℕ, zero, suc, List, [], ◌∷◌, ◌++◌, length, Result, Ok, Err, refl}
+use Rattle.std.specs.Prelude.{Bool, true, false, ◌≡◌, ◌≤◌, ◌<◌, ◌-◌, ℕ, zero, suc, List, [], ◌∷◌, ◌++◌, length, Result, Ok, Err, refl}
+use Rattle.futures.specs.Task.{Lasting}
+use Rattle.lite_base.specs.Armed.{Arms, pends_last}
 use Rattle.lite_future.specs.Uses.{arith, Pending, Poll, Ready, Waiting, strip, CalmLaws, NoPending, FutureLaws, WaitsOn, Runs}
 use Rattle.lite_future.specs.PollLimited.{LimitsPolls, SpendsPolls}
 use Rattle.lite_future.specs.declared.poll_limited.PollLimited.{PollLimited}
@@ -110,3 +112,18 @@ module _ {A : Type 0} where
       let all : n ≡ suc (suc m) = omega (arith, less) in
       rw all (SpendsPolls.waits m (suc m) [] [] (SpendsPolls.nothing (suc m)))
   poll_waits n zero less more = absurd (omega (arith, more))
+
+-- While a limit hands results on, they end in a `Pending` only if the inner future's results do.
+spent_pends : {A : Type 0} {n m : ℕ} {ins : List (Poll A)} {out : List (Poll (Result A Exhausted))} (b : Bool)
+    → SpendsPolls n ins out m → pends_last b out ≡ true → pends_last b ins ≡ true
+spent_pends b (SpendsPolls.nothing n) e = e
+spent_pends b (SpendsPolls.waits n m ins out h) e = spent_pends true h e
+spent_pends b (SpendsPolls.last x) e = cc e
+spent_pends b (SpendsPolls.over x) e = cc e
+spent_pends b (SpendsPolls.value n v) e = cc e
+
+-- Such a future is armed if the inner future is.
+pub limits_arms : {F A : Type 0} {run : Runs (Poll A) F} {registers : F → Lasting → Type 0} → Arms run registers
+    → Arms (LimitsPolls run) (λ x. registers x.inner)
+limits_arms a =
+    record { at = λ x y l e h. a.at x.inner y.inner h.0 (spent_pends false h.2 e) h.1 }

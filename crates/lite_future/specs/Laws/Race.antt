@@ -1,10 +1,12 @@
 -- Laws of `race` of futures.
 use Rattle.std.specs.Prelude.{◌⊎◌, ◌≤◌, List, [], ◌∷◌, ◌++◌, length, refl}
+use Rattle.futures.specs.Task.{Lasting}
+use Rattle.lite_base.specs.Armed.{Arms, EndsPending}
 use Rattle.lite_future.specs.Uses.{subst, sym, arith, map-append, Stream, Poll, Waiting, strip, CalmLaws, NoPending, is_first, FutureLaws}
 use Rattle.lite_future.specs.Uses.{FutureRunLaws, WaitsOn, future_laws_of, future_runs_of, up_to_once, folds_follow, calm_both, Runs}
 use Rattle.std.proofs.Common.{append-nil}
 use Rattle.lite_future.specs.Race.{FutureRacesOn}
-use Rattle.lite_future.specs.Laws.Picks.{picks_calm, picks_follow, picks_on}
+use Rattle.lite_future.specs.Laws.Picks.{picks_arms, picks_calm, picks_follow, picks_on}
 use Rattle.lite_future.specs.declared.race.Race.{Race}
 
 module _ {F G R A : Type 0} {run_first : Runs (Poll A) F} {run_second : Runs (Poll A) G} (stream : R → Stream) where
@@ -56,3 +58,16 @@ module _ {F G R A : Type 0} {run_first : Runs (Poll A) F} {run_second : Runs (Po
     pub races_calm : CalmLaws (FutureRacesOn run_first run_second stream)
         (λ x. calm_first x.future1 ⊎ calm_second x.future2)
     races_calm = calm_both calm_run
+
+  module _ {registers : F → Lasting → Type 0} {registers' : G → Lasting → Type 0} (a : Arms run_first registers)
+      (b : Arms run_second registers') where
+    arms_run : (x y : Race F G R) (l : List (Poll A)) → EndsPending l
+        → FutureRacesOn run_first run_second stream x l y
+        → registers y.future1 Lasting.armed ⊎ registers' y.future2 Lasting.armed
+    arms_run x y [] e h = absurd (cc e)
+    arms_run x y (c ∷ l) e h = picks_arms a b e h.picks
+
+    -- A `race` is armed if both futures are.
+    pub races_arms : Arms (FutureRacesOn run_first run_second stream)
+        (λ x fact. registers x.future1 fact ⊎ registers' x.future2 fact)
+    races_arms = record { at = arms_run }

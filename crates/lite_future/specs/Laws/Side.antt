@@ -1,6 +1,9 @@
 -- Laws of one of the two futures of a `zip`.
-use Rattle.std.specs.Prelude.{◌≡◌, List, [], ◌∷◌, ◌++◌, refl}
-use Rattle.lite_future.specs.Uses.{subst, sym, ap, append_assoc, AllByRecursion, Poll, Ready, Pending, Gives, Waiting, CalmLaws, NoPending}
+use Rattle.std.specs.Prelude.{false, ◌≡◌, List, [], ◌∷◌, ◌++◌, refl}
+use Rattle.futures.specs.Task.{Lasting}
+use Rattle.lite_base.specs.Armed.{Arms, EndsPending}
+use Rattle.lite_base.specs.Laws.Armed.{gives_pends, no_pends, pends_join}
+use Rattle.lite_future.specs.Uses.{◌∙◌, subst, sym, ap, append_assoc, AllByRecursion, Poll, Ready, Pending, Gives, Waiting, CalmLaws, NoPending}
 use Rattle.lite_future.specs.Uses.{FutureRunLaws, WaitsOn, waiting_waiting, no_pending_join, Runs}
 use Rattle.lite_future.specs.Side.{Came, CanAsk, IfAsked, InEachRow, IsAskedAnd, Stands}
 use Rattle.lite_base.specs.Laws.Answers.{all_append, all_split, no_gives}
@@ -148,3 +151,17 @@ module _ {F A R : Type 0} (answer : A → R) (run : Runs (Poll R) F) {is_calm : 
   stands_calm (Asked f) Taken l k h = absurd h
   stands_calm (Gave v) y l k h = rw h.1 (repeats_no_pending answer run v l h.0, tt)
   stands_calm Taken y l k h = rw (h.0, h.1) (tt, tt)
+
+-- What is held after rows of which the last is `Pending`: a future that has no value yet.
+module _ {F A R : Type 0} (answer : A → R) {run : Runs (Poll R) F} {registers : F → Lasting → Type 0}
+    (a : Arms run registers) where
+  pub stands_arms : (x y : Side F A) (l : List (Poll R)) → EndsPending l → Stands answer run x l y
+      → IsAskedAnd y (λ f. registers f Lasting.armed)
+  stands_arms (Asked f) (Asked g) l e h = a.at f g l e h.1
+  stands_arms (Asked f) (Gave v) l e h =
+      let joined = pends_join false h.ins h.later in
+      absurd (gives_pends false h.ins (answer v) h.finishes.gives
+      (no_pends _ h.later (repeats_no_pending answer run v h.later h.repeats) (sym joined ∙ (rw h.joined at e))))
+  stands_arms (Asked f) Taken l e h = absurd h
+  stands_arms (Gave v) y l e h = absurd (cc (no_pends false l (repeats_no_pending answer run v l h.0) e))
+  stands_arms Taken y l e h = absurd (let none = rw h.0 at e in cc none)

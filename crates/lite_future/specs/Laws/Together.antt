@@ -1,10 +1,13 @@
 -- Laws of two futures that are polled in each row.
-use Rattle.std.specs.Prelude.{◌≡◌, ◌≤◌, List, [], ◌∷◌, ◌++◌, length, refl}
-use Rattle.lite_future.specs.Uses.{◌∙◌, subst, sym, ap, arith, Poll, Ready, Pending, UpToValue, Waiting, strip, CalmLaws, NoPending, FutureRunLaws}
+use Rattle.std.specs.Prelude.{Bool, true, false, ◌⊎◌, ◌≡◌, ◌≤◌, List, [], ◌∷◌, ◌++◌, length, refl}
+use Rattle.futures.specs.Task.{Lasting}
+use Rattle.lite_base.specs.Armed.{Arms, EndsPending, pends_last}
+use Rattle.lite_base.specs.Laws.Armed.{EitherPends}
+use Rattle.lite_future.specs.Uses.{inl, inr, ◌∙◌, subst, sym, ap, arith, Poll, Ready, Pending, UpToValue, Waiting, strip, CalmLaws, NoPending, FutureRunLaws}
 use Rattle.lite_future.specs.Uses.{WaitsOn, up_to_once, Runs}
-use Rattle.lite_future.specs.Side.{CanAsk, IfAsked, Stands}
+use Rattle.lite_future.specs.Side.{CanAsk, IfAsked, IsAskedAnd, Stands}
 use Rattle.lite_future.specs.Together.{TakesBoth, PairRows, TakenWithPair, Together, both}
-use Rattle.lite_future.specs.Laws.Side.{AfterRow, stands_calm, stands_follow, stands_last, stands_rest, stands_ask, stands_stay}
+use Rattle.lite_future.specs.Laws.Side.{AfterRow, stands_arms, stands_calm, stands_follow, stands_last, stands_rest, stands_ask, stands_stay}
 use Rattle.lite_future.specs.declared.side.Side.{Side}
 use Rattle.lite_future.specs.declared.side.Side.TheVariants.{Asked, Gave, Taken}
 
@@ -165,3 +168,39 @@ module _ {F G A B R T C : Type 0} (answer_first : A → R) (answer_second : B �
       let e = taken p y q t a b r (stands_last answer_first run_first x p [] a h)
       (stands_last answer_second run_second u q [] b k) takes in
       record { i = a ∷ []; j = b ∷ []; p = p; q = q; first = h; second = k; rows = (e.0, refl); taken = (e.1, e.2) }
+
+-- If the rows of pairs end in a `Pending`, so do the results of one of the two futures.
+pair_pends : {R T C : Type 0} (pair : R → T → C) (i : List (Poll R)) (j : List (Poll T)) (out : List (Poll C))
+    → PairRows pair i j out → EitherPends i j out
+pair_pends pair [] [] out r b p q h e = h (rw r at e)
+pair_pends pair (Pending ∷ i) (Pending ∷ j) (c ∷ out) r b p q h e =
+    pair_pends pair i j out r.1 true true true (λ d. inl refl) (rw r.0 at e)
+pair_pends pair (Pending ∷ i) (Ready w ∷ j) (c ∷ out) r b p q h e =
+    pair_pends pair i j out r.1 true true false (λ d. inl refl) (rw r.0 at e)
+pair_pends pair (Ready v ∷ i) (Pending ∷ j) (c ∷ out) r b p q h e =
+    pair_pends pair i j out r.1 true false true (λ d. inr refl) (rw r.0 at e)
+pair_pends pair (Ready v ∷ i) (Ready w ∷ j) (c ∷ out) r b p q h e =
+    pair_pends pair i j out r.1 false false false (λ d. cc d) (rw r.0 at e)
+pair_pends pair i j out r b p q h e = absurd r
+
+-- Nothing is taken if the last result is `Pending`.
+kept_pends : {F A C : Type 0} (b : Bool) (out : List (Poll C)) (now left : Side F A) → TakenWithPair out now left
+    → pends_last b out ≡ true → left ≡ now
+kept_pends b [] now left h e = h
+kept_pends b (Pending ∷ out) now left h e = kept_pends true out now left h e
+kept_pends b (Ready c ∷ out) now left h e = absurd (let none = rw h.0 at e in cc none)
+
+-- One of the two futures has registered the task if both are armed.
+module _ {F G A B R T C : Type 0} {answer_first : A → R} {answer_second : B → T} {pair : R → T → C}
+    {run_first : Runs (Poll R) F} {run_second : Runs (Poll T) G} {registers : F → Lasting → Type 0}
+    {registers' : G → Lasting → Type 0} (a : Arms run_first registers) (b : Arms run_second registers') where
+  pub together_arms : {x y : Side F A} {u v : Side G B} {out : List (Poll C)} → EndsPending out
+      → Together answer_first answer_second pair run_first run_second x u out y v
+      → IsAskedAnd y (λ f. registers f Lasting.armed) ⊎ IsAskedAnd v (λ g. registers' g Lasting.armed)
+  together_arms {x} {y} {u} {v} {out} e h =
+      one_of (pair_pends pair h.i h.j out h.rows false false false (λ d. cc d) e)
+    where
+      one_of : EndsPending h.i ⊎ EndsPending h.j
+          → IsAskedAnd y (λ f. registers f Lasting.armed) ⊎ IsAskedAnd v (λ g. registers' g Lasting.armed)
+      one_of (inl d) = inl (rw (kept_pends false out h.p y h.taken.0 e) (stands_arms _ a x h.p h.i d h.first))
+      one_of (inr d) = inr (rw (kept_pends false out h.q v h.taken.1 e) (stands_arms _ b u h.q h.j d h.second))

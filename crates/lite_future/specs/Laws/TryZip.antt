@@ -1,14 +1,17 @@
 -- Laws of `try_zip`.
-use Rattle.std.specs.Prelude.{Result, Ok, ◌≡◌, ◌≤◌, ℕ, List, [], ◌∷◌, ◌++◌, length}
+use Rattle.std.specs.Prelude.{false, ◌⊎◌, Result, Ok, ◌≡◌, ◌≤◌, ℕ, List, [], ◌∷◌, ◌++◌, length}
+use Rattle.futures.specs.Task.{Lasting}
+use Rattle.lite_base.specs.Armed.{Arms, EndsPending}
+use Rattle.lite_base.specs.Laws.Armed.{gives_pends}
 use Rattle.lite_future.specs.Uses.{◌∙◌, subst, sym, inl, inr, arith, Poll, Ready, Pending, Gives, Waiting, strip, CalmLaws, NoPending, FutureLaws}
 use Rattle.lite_future.specs.Uses.{FutureRunLaws, WaitsOn, future_laws_of, future_runs_of, calm_both, Runs}
 use Rattle.std.proofs.Common.{length-append}
-use Rattle.lite_future.specs.Side.{CanAsk, IfAsked, Stands}
+use Rattle.lite_future.specs.Side.{CanAsk, IfAsked, IsAskedAnd, Stands}
 use Rattle.lite_future.specs.TryZip.{Fails, TryZips, try_pair}
 use Rattle.lite_future.specs.Together.{TakenWithPair}
 use Rattle.lite_base.specs.Laws.Answers.{gives_once, waiting_gives, waiting_not_gives}
 use Rattle.lite_future.specs.Laws.Side.{stands_asked, stands_calm, stands_follow}
-use Rattle.lite_future.specs.Laws.Together.{taken_waiting, rows_long, together_calm, together_follow}
+use Rattle.lite_future.specs.Laws.Together.{taken_waiting, rows_long, together_arms, together_calm, together_follow}
 use Rattle.lite_future.specs.Laws.Together.{together_on, together_once, together_rest, together_stay}
 use Rattle.lite_future.specs.declared.side.Side.{Side}
 use Rattle.lite_future.specs.declared.try_zip.TryZip.{TryZip}
@@ -141,3 +144,19 @@ module _ {F G A B E : Type 0} {run_first : Runs (Poll (Result A E)) F} {run_seco
       (λ (x : TryZip F A G B) l y. TryZips run_first run_second x.first x.second l y.first y.second)
       (λ x. IfAsked x.first calm_first × IfAsked x.second calm_second)
   try_zips_calm = calm_both (λ x y l. calm_run)
+
+-- A `try_zip` is armed if both futures are.
+module _ {F G A B E : Type 0} {run_first : Runs (Poll (Result A E)) F} {run_second : Runs (Poll (Result B E)) G}
+    {registers : F → Lasting → Type 0} {registers' : G → Lasting → Type 0} (a : Arms run_first registers)
+    (b : Arms run_second registers') where
+  arms_run : {x y : Side F A} {u v : Side G B} {l : List (Poll (Result (A × B) E))} → EndsPending l
+      → TryZips run_first run_second x u l y v
+      → IsAskedAnd y (λ f. registers f Lasting.armed) ⊎ IsAskedAnd v (λ g. registers' g Lasting.armed)
+  arms_run e (inl h) = together_arms a b e h
+  arms_run {l} e (inr (inl h)) = absurd (gives_pends false l _ h.gives e)
+  arms_run {l} e (inr (inr h)) = absurd (gives_pends false l _ h.gives e)
+
+  pub try_zips_arms : Arms
+      (λ (x : TryZip F A G B) l y. TryZips run_first run_second x.first x.second l y.first y.second)
+      (λ x fact. IsAskedAnd x.first (λ f. registers f fact) ⊎ IsAskedAnd x.second (λ g. registers' g fact))
+  try_zips_arms = record { at = λ x y l e h. arms_run e h }

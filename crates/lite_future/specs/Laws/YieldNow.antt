@@ -1,5 +1,7 @@
 -- Laws of `yield_now`.
 use Rattle.std.specs.Prelude.{⊤, ◌≡◌, ◌≤◌, List, [], ◌++◌, length, Bool, true, false, refl}
+use Rattle.lite_base.specs.Armed.{Arms}
+use Rattle.lite_base.specs.Registered.{HoldsWoken}
 use Rattle.lite_future.specs.Uses.{inl, inr, ap, append_assoc, subst, sym, arith, Poll, Waiting, strip, CalmLaws, NoPending, FutureLaws, by_value}
 use Rattle.lite_future.specs.Uses.{calm_both, FutureSteadyLaws, future_steady_always, Runs}
 use Rattle.lite_future.specs.YieldNow.{YieldsOnce, to_come}
@@ -63,3 +65,7 @@ yields_steady =
 
 pub yields_calm : CalmLaws Yields (λ x. x.yielded ≡ true)
 yields_calm = calm_both (λ x y. yields_no_pending x.yielded y.yielded)
+
+-- Its `Pending` has woken the task.
+pub yields_arms : Arms Yields (λ x. HoldsWoken)
+yields_arms = record { at = λ x y l e h. inl refl }

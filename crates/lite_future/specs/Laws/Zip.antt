@@ -1,14 +1,16 @@
 -- Laws of `zip` of futures. Two finished runs return values that are the same, if those of its futures do.
-use Rattle.std.specs.Prelude.{◌≡◌, List, [], ◌∷◌, ◌++◌, refl}
+use Rattle.std.specs.Prelude.{◌⊎◌, ◌≡◌, List, [], ◌∷◌, ◌++◌, refl}
+use Rattle.futures.specs.Task.{Lasting}
+use Rattle.lite_base.specs.Armed.{Arms}
 use Rattle.lite_future.specs.Uses.{Poll, Ready, Pending, Gives, Pairwise, SameItem, Sameness, CalmLaws, FutureLaws, FutureRunLaws}
 use Rattle.lite_future.specs.Uses.{future_laws_of, future_runs_of, alike_agrees, by_value, calm_both, FutureSteadyLawsBy, Runs, ap, subst, sym}
 use Rattle.lite_base.specs.Laws.Alike.{AgreesBy, pairs_same, up_to_gives}
 use Rattle.lite_base.specs.Steady.{SteadinessBy}
-use Rattle.lite_future.specs.Side.{CanAsk, SidesBy, IfAsked, Stands}
+use Rattle.lite_future.specs.Side.{CanAsk, SidesBy, IfAsked, IsAskedAnd, Stands}
 use Rattle.lite_future.specs.Together.{PairRows, both}
 use Rattle.lite_future.specs.Zip.{FutureZips}
 use Rattle.lite_future.specs.Laws.Side.{AfterRow, stands_found, stands_last}
-use Rattle.lite_future.specs.Laws.Together.{taken_up_to, together_calm, together_follow, together_once}
+use Rattle.lite_future.specs.Laws.Together.{taken_up_to, together_arms, together_calm, together_follow, together_once}
 use Rattle.lite_future.specs.Laws.Together.{together_on, together_rest, together_stay}
 use Rattle.lite_future.specs.declared.side.Side.{Side}
 use Rattle.lite_future.specs.declared.side.Side.TheVariants.{Asked, Gave, Taken}
@@ -148,3 +150,11 @@ module _ {F G A B : Type 0} {run_first ample_first : Runs (Poll A) F} {run_secon
               taken = h.taken;
             };
       }
+
+-- A `zip` is armed if both futures are.
+pub zips_arms : {F G A B : Type 0} {run_first : Runs (Poll A) F} {run_second : Runs (Poll B) G}
+    {registers : F → Lasting → Type 0} {registers' : G → Lasting → Type 0} → Arms run_first registers
+    → Arms run_second registers'
+    → Arms (Zipped run_first run_second)
+    (λ x fact. IsAskedAnd x.first (λ f. registers f fact) ⊎ IsAskedAnd x.second (λ g. registers' g fact))
+zips_arms a b = record { at = λ x y l e h. together_arms a b e h }

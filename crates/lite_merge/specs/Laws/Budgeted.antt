@@ -1,10 +1,12 @@
 -- Laws about a stream with a budget.
-use Rattle.std.specs.Prelude.{◌≡◌, ◌==◌, ℕ, Bool, List, [], ◌∷◌, ◌++◌, ⊤}
-use Rattle.lite_merge.specs.Uses.{inl, inr, refl, arith, ap, sym, ◌∙◌, Pending, Sameness, Answer, Paces, left_behind, Counting, Runs, SteadyLawsBy, Relating}
+use Rattle.std.specs.Prelude.{true, false, ◌⊎◌, ◌≡◌, ◌==◌, ℕ, Bool, List, [], ◌∷◌, ◌++◌, ⊤}
+use Rattle.futures.specs.Task.{Lasting}
+use Rattle.lite_base.specs.Armed.{Arms, EndsPending, pends_last}
+use Rattle.lite_merge.specs.Uses.{Ready, inl, inr, refl, arith, ap, sym, ◌∙◌, Pending, Sameness, Answer, Paces, left_behind, Counting, Runs, SteadyLawsBy, Relating}
 use Rattle.lite_base.specs.Laws.Segments.{paced_bounded, paced_items, paced_lowers, paced_strip, paces_follow}
 use Rattle.lite_stream.specs.Laws.Agreeing.{through_alike}
 use Rattle.lite_stream.specs.Laws.Through.{Following, through_runs}
-use Rattle.lite_merge.specs.Budgeted.{Budgets, PacesNoting, budget_parts, budget_ranks, paused_after, paused_by}
+use Rattle.lite_merge.specs.Budgeted.{Budgets, PacedRegisters, PacesNoting, RegistersPaused, budget_parts, budget_ranks, paused_after, paused_by}
 use Rattle.lite_merge.specs.declared.budgeted.Budgeted.{Budgeted}
 
 -- Whether the last `Pending` is the stream's own after two lists of results, of which the first leads to the state `q`.
@@ -63,3 +65,32 @@ budget_steady like s =
         related = h.related;
       };
     }
+
+-- Whose the last `Pending` is: the stream's own, as `paused_after` says, or the source's.
+paces_pend : {A : Type 0} (p q : ℕ × ℕ) (before : Bool) (i o : List (Answer A)) (b c : Bool)
+    → (b ≡ true → (before ≡ true) ⊎ (c ≡ true)) → Paces Pending left_behind p i o q → pends_last b o ≡ true
+    → (paused_after p before o ≡ true) ⊎ (pends_last c i ≡ true)
+paces_pend p q before i [] b c k h e = rw h.0 (k e)
+paces_pend p q before i (a ∷ o) b c k (inl h) e =
+    rw (h.0, h.1) (paces_pend (p.0, p.0) q true i o true c (λ d. inl refl) h.2 (rw h.1 at e))
+paces_pend p q before i (Pending ∷ o) b c k (inr h) e =
+    rw h.2 (paces_pend (p.0, p.0) q (p.1 == 0) h.1 o true true (λ d. inr refl) h.3 e)
+paces_pend p q before i (Ready x ∷ o) b c k (inr h) e =
+    rw h.2 (paces_pend (p.0, left_behind p.0 (Ready x) p.1) q before h.1 o false false (λ d. cc d) h.3 e)
+
+-- A stream with a budget is armed if its source is: its own `Pending`s have woken the task.
+module _ {S A : Type 0} {run : Runs (Answer A) S} {registers : S → Lasting → Type 0} (a : Arms run registers) where
+  paused_armed : (paused : Bool) (s t : S) (i : List (Answer A)) → run s i t → (paused ≡ true) ⊎ EndsPending i
+      → RegistersPaused paused (registers t) Lasting.armed
+  paused_armed true s t i came e = inl refl
+  paused_armed false s t i came (inl e) = cc e
+  paused_armed false s t i came (inr e) = a.at s t i e came
+
+  pub budget_arms : Arms (Budgets run) (PacedRegisters registers)
+  budget_arms =
+      record {
+        at = λ x y l e h.
+            let own = paces_pend (x.budget, x.left) (y.budget, y.left) x.paused h.ins l false false (λ d. cc d)
+            h.related.0 e in
+            paused_armed y.paused x.stream y.stream h.ins h.came (rw h.related.1 own);
+      }

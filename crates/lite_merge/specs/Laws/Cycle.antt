@@ -1,6 +1,9 @@
 -- Laws about `cycle`.
-use Rattle.std.specs.Prelude.{IfSome, Result, Ok, Err, ◌≡◌, List, [], ◌∷◌, ◌++◌, Option, Some, None}
-use Rattle.lite_merge.specs.Uses.{◌∙◌, refl, append_assoc, Ready, Pending, Answer, Endless, end, CalmLaws, NoPending, calm_both, no_pending_join}
+use Rattle.std.specs.Prelude.{Bool, true, false, IfSome, Result, Ok, Err, ◌≡◌, List, [], ◌∷◌, ◌++◌, Option, Some, None}
+use Rattle.futures.specs.Task.{Lasting}
+use Rattle.lite_base.specs.Armed.{Arms, pends_last}
+use Rattle.lite_base.specs.Laws.Armed.{pends_anew, pends_join}
+use Rattle.lite_merge.specs.Uses.{sym, ◌∙◌, refl, append_assoc, Ready, Pending, Answer, Endless, end, CalmLaws, NoPending, calm_both, no_pending_join}
 use Rattle.lite_merge.specs.Uses.{same_hint, all_ok, StreamLaws, endless_join, Hints, NoHint, Runs}
 use Rattle.lite_base.specs.Laws.Calm.{no_pending_front}
 use Rattle.lite_merge.specs.Cycle.{AllCopies, Cycles, Lap, LapOver, Laps, Renews}
@@ -193,3 +196,53 @@ module _ {S A E : Type 0} (is_clone : S → S → Type 0) (is_infallible : S →
       calm_both (λ x y l k h.
       let e = laps_calm x.original k.1 h.0 x.stream y.stream l k.0 h.1 in
       (e.0, (e.1, λ copy made. k.1 copy (rw h.2 at made))))
+
+-- A `cycle` is armed if the stream is.
+module _ {A : Type 0} (E : Type 0) where
+  all_ok_pends : (b : Bool) (i : List (Answer A)) → pends_last b (all_ok {E = E} i) ≡ pends_last b i
+  all_ok_pends b [] = refl
+  all_ok_pends b (Pending ∷ i) = all_ok_pends true i
+  all_ok_pends b (Ready None ∷ i) = all_ok_pends false i
+  all_ok_pends b (Ready (Some x) ∷ i) = all_ok_pends false i
+
+-- The stream that was polled last has registered the task.
+abbrev StreamArmed : {S : Type 0} → (S → Lasting → Type 0) → Option S → Type 0
+StreamArmed {S} registers x = (s : S) × (x ≡ Some s) × registers s Lasting.armed
+
+lap_arms : {S A : Type 0} {run : Runs (Answer A) S} {can_poll : S → Type 0} {hints : Hints S}
+    {registers : S → Lasting → Type 0} → StreamLaws can_poll run hints → Arms run registers → (b : Bool)
+    (x y : Option S) (own : List (Answer A)) → (b ≡ true → StreamArmed registers x) → Lap run x own y
+    → pends_last b own ≡ true → StreamArmed registers y
+lap_arms laws a b None None own k h e = k (rw h at e)
+lap_arms laws a b (Some s) (Some t) [] k h e = rw (laws.stays s t h.0) (k e)
+lap_arms laws a b (Some s) (Some t) (c ∷ own) k h e =
+    (t, refl, a.at s t (c ∷ own) (pends_anew false b c own ∙ e) h.0)
+lap_arms laws a b x y own k h e = absurd h
+
+module _ {S A E : Type 0} (is_clone : S → S → Type 0) (is_infallible : S → Type 0) {run : Runs (Answer A) S}
+    {can_poll : S → Type 0} {hints : Hints S} (laws : StreamLaws can_poll run hints) {registers : S → Lasting → Type 0}
+    (a : Arms run registers) where
+  module _ (original : S) where
+    renews_arms : (b : Bool) (asked : Result S E) (out : List (Answer (Result A E))) (s : Option S)
+        → Renews run is_clone is_infallible original asked out s → pends_last b out ≡ true → StreamArmed registers s
+    renews_arms b (Err f) out s h e = absurd (let none = rw h.1 at e in cc none)
+    renews_arms b (Ok copy) out None h e = absurd h.1
+    renews_arms b (Ok copy) out (Some s) h e =
+        let first = sym (all_ok_pends E b (h.1.0 ∷ [])) ∙ (rw h.1.2 at e) in
+        (s, refl, a.at copy s (h.1.0 ∷ []) (pends_anew false b h.1.0 [] ∙ first) h.1.1)
+
+    laps_arms : (b : Bool) (asked : List (Result S E)) (x y : Option S) (out : List (Answer (Result A E)))
+        → (b ≡ true → StreamArmed registers x) → Laps run is_clone is_infallible original asked x out y
+        → pends_last b out ≡ true → StreamArmed registers y
+    laps_arms b [] x y out k h e = lap_arms laws a b x y h.0 k h.1 (sym (all_ok_pends E b h.0) ∙ (rw h.2 at e))
+    laps_arms b (r ∷ asked) x y out k h e =
+        let before = pends_last b (all_ok {E = E} h.own) in
+        let all : pends_last before (h.anew ++ h.rest) ≡ true =
+        sym (pends_join b (all_ok h.own) (h.anew ++ h.rest)) ∙ (rw h.joined at e) in
+        laps_arms (pends_last before h.anew) asked h.next y h.rest (renews_arms before r h.anew h.next h.renews)
+        h.goes_on (sym (pends_join before h.anew h.rest) ∙ all)
+
+  pub cycle_arms : Arms (Cycles {E = E} run is_clone is_infallible)
+      (λ m fact. (s : S) × (m.stream ≡ Some s) × registers s fact)
+  cycle_arms =
+      record { at = λ x y l e h. laps_arms x.original false h.0 x.stream y.stream l (λ d. cc d) h.1 e }

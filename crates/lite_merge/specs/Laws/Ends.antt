@@ -1,7 +1,9 @@
 -- Laws about results that are all ends of stream.
-use Rattle.std.specs.Prelude.{◌≡◌, ℕ, List, [], ◌∷◌, ◌++◌, Some, None}
+use Rattle.std.specs.Prelude.{true, false, ◌≡◌, ℕ, List, [], ◌∷◌, ◌++◌, Some, None}
 use Rattle.std.proofs.Common.{◌≤◌}
-use Rattle.lite_merge.specs.Uses.{arith, Ready, Pending, Answer, before_end, end, items, waits, AtMost, Lowers, AllEnds}
+use Rattle.lite_base.specs.Armed.{EndsPending, pends_last}
+use Rattle.lite_base.specs.Laws.Armed.{no_pends, pends_join}
+use Rattle.lite_merge.specs.Uses.{sym, ◌∙◌, NoPending, arith, Ready, Pending, Answer, before_end, end, items, waits, AtMost, Lowers, AllEnds}
 
 module _ {A : Type 0} where
   pub ends_before : (l : List (Answer A)) → AllEnds l → before_end l ≤ 0
@@ -39,3 +41,13 @@ module _ {A : Type 0} where
   no_end_among [] j [] e = cc
   no_end_among (a ∷ i) j (x ∷ l) e = no_end_among i j l (cc e)
   no_end_among i j l e = cc
+
+  pub ends_no_pending : (l : List (Answer A)) → AllEnds l → NoPending l
+  ends_no_pending [] h = tt
+  ends_no_pending (a ∷ l) h = rw h.0 (ends_no_pending l h.1)
+
+  -- Results of which the last are ends do not end in a `Pending`.
+  pub ends_last : (own later : List (Answer A)) → AllEnds later → EndsPending (own ++ end ∷ later) → ⊥
+  ends_last own later a e =
+      let rest : pends_last false later ≡ true = sym (pends_join false own (end ∷ later)) ∙ e in
+      cc (no_pends false later (ends_no_pending later a) rest)

@@ -1,6 +1,12 @@
 -- Laws about two streams that are merged row by row.
-use Rattle.std.specs.Prelude.{◌≡◌, ℕ, ◌+◌, List, [], ◌∷◌, ◌++◌, length, map, Bool, true, Some, None}
-use Rattle.lite_merge.specs.Uses.{◌∙◌, inl, refl, ap, sym, arith, length-append, Ready, Pending, Answer, item, items}
+use Rattle.std.specs.Prelude.{false, ◌⊎◌, ◌≡◌, ℕ, ◌+◌, List, [], ◌∷◌, ◌++◌, length, map, Bool, true, Some, None}
+use Rattle.futures.specs.Task.{Lasting}
+use Rattle.lite_base.specs.Armed.{Arms, EndsPending}
+use Rattle.lite_base.specs.Laws.Armed.{EitherPends, no_pends, rows_pend}
+use Rattle.lite_stream.specs.Laws.Arming.{through_arms}
+use Rattle.lite_stream.specs.Fuse.{FusesOn}
+use Rattle.lite_merge.specs.Laws.Ends.{ends_last, ends_no_pending}
+use Rattle.lite_merge.specs.Uses.{inr, ◌∙◌, inl, refl, ap, sym, arith, length-append, Ready, Pending, Answer, item, items}
 use Rattle.lite_merge.specs.Uses.{CalmLaws, NoPending, Lowers-at_most, no_pending_join, AtMost, Lowers, Counting, Ranks}
 use Rattle.lite_merge.specs.Uses.{StreamLaws, Hints, NoHint, Runs, Fuses, through_calm, through_on, through_counting}
 use Rattle.lite_merge.specs.Uses.{Fuse}
@@ -8,9 +14,9 @@ use Rattle.lite_base.specs.Laws.Ranks.{AtMost-both, AtMost-length, Below-after, 
 use Rattle.lite_base.specs.Laws.Segments.{rows_by, rows_follow}
 use Rattle.lite_base.specs.Ranks.{Below}
 use Rattle.lite_stream.specs.Fuse.{fuse_parts}
-use Rattle.lite_stream.specs.Laws.Fuse.{fuses_calming, fuses_relating}
+use Rattle.lite_stream.specs.Laws.Fuse.{fuses_arming, fuses_calming, fuses_relating}
 use Rattle.lite_stream.specs.Laws.Through.{laws_unhinted}
-use Rattle.lite_merge.specs.Merge.{MergeRow, MergeRows, Merges, beside_pending}
+use Rattle.lite_merge.specs.Merge.{MergeRegisters, MergeRow, MergeRows, Merges, OpenRegisters, beside_pending}
 
 module _ {A : Type 0} where
   row_more : (i j : List (Answer A)) (c : Answer A) (i' j' k h : List (Answer A)) → MergeRow i j c i' j'
@@ -163,3 +169,48 @@ merges_keep keeps keeps' {x} {t} {y} {v} k h = (
   keeps x.stream t.stream h.came.ins k.0 h.came.came,
   keeps' y.stream v.stream h.then_came.ins k.1 h.then_came.came,
 )
+
+-- What is armed after a `Pending`.
+module _ {A : Type 0} where
+  row_pends : (i j : List (Answer A)) (c : Answer A) (i' j' l : List (Answer A)) → MergeRow i j c i' j'
+      → EitherPends i' j' l → EitherPends i j (c ∷ l)
+  row_pends (Ready (Some x) ∷ i) j c i' j' l r k b p q h e =
+      rw (r.1, r.2) at (k false false q (λ d. cc d) (rw r.0 at e))
+  row_pends (Ready None ∷ i) (Pending ∷ j) c i' j' l r k b p q h e =
+      rw (r.1, r.2) at (k true false true (λ d. inr refl) (rw r.0 at e))
+  row_pends (Ready None ∷ i) (Ready y ∷ j) c i' j' l r k b p q h e =
+      rw (r.1, r.2) at (k false false false (λ d. cc d) (rw r.0 at e))
+  row_pends (Pending ∷ i) (Pending ∷ j) c i' j' l r k b p q h e =
+      rw (r.1, r.2) at (k true true true (λ d. inl refl) (rw r.0 at e))
+  row_pends (Pending ∷ i) (Ready None ∷ j) c i' j' l r k b p q h e =
+      rw (r.1, r.2) at (k true true false (λ d. inl refl) (rw r.0 at e))
+  row_pends (Pending ∷ i) (Ready (Some y) ∷ j) c i' j' l r k b p q h e =
+      rw (r.1, r.2) at (k false true false (λ d. cc d) (rw r.0 at e))
+  row_pends i j c i' j' l r k b p q h e = absurd r
+
+  rows_end : (o : List Bool) (i j l : List (Answer A)) → MergeRows o i j l → EndsPending l
+      → EndsPending i ⊎ EndsPending j
+  rows_end o i j l r e = rows_pend MergeRow row_pends o i j l r false false false (λ d. cc d) e
+
+  -- What was pending last has not ended.
+  still_open : (f g : Bool) (i l : List (Answer A)) → FusesOn f i l g → EndsPending l → g ≡ false
+  still_open true g i l h e = absurd (cc (no_pends false l (ends_no_pending l h.1) e))
+  still_open false false i l h e = refl
+  still_open false true i l h e = absurd (ends_last h.0 h.1 h.5 (rw h.4 at e))
+
+open_armed : {S A : Type 0} {run : Runs (Answer A) S} {registers : S → Lasting → Type 0} → Arms run registers
+    → (x y : Fuse S) (l : List (Answer A)) → EndsPending l → Fuses run x l y → OpenRegisters registers y Lasting.armed
+open_armed a x y l e h =
+    (still_open x.done y.done h.ins l h.related e, (through_arms fuse_parts a fuses_arming).at x y l e h)
+
+-- One of the two streams has registered the task if both are armed.
+pub merges_arms : {S U A : Type 0} {run : Runs (Answer A) S} {run' : Runs (Answer A) U}
+    {registers : S → Lasting → Type 0} {registers' : U → Lasting → Type 0} → Arms run registers → Arms run' registers'
+    → {o : List Bool} {x t : Fuse S} {y v : Fuse U} {out : List (Answer A)} → EndsPending out
+    → Merges run run' o x y out t v → MergeRegisters registers registers' t v Lasting.armed
+merges_arms {registers} {registers'} a b {o} {x} {t} {y} {v} {out} e h =
+    one_of (rows_end o h.firsts h.seconds out h.rows e)
+  where
+    one_of : EndsPending h.firsts ⊎ EndsPending h.seconds → MergeRegisters registers registers' t v Lasting.armed
+    one_of (inl d) = inl (open_armed a x t h.firsts d h.came)
+    one_of (inr d) = inr (open_armed b y v h.seconds d h.then_came)

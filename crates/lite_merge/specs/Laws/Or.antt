@@ -1,9 +1,11 @@
 -- Laws about `or`.
 use Rattle.std.specs.Prelude.{[], None}
+use Rattle.futures.specs.Task.{Lasting}
+use Rattle.lite_base.specs.Armed.{Arms}
 use Rattle.lite_merge.specs.Uses.{refl, map-append, Answer, CalmLaws, calm_both, same_hint, Counting, Ranks, StreamLaws, Hints, NoHint, Runs}
 use Rattle.lite_base.specs.Laws.Segments.{rows_empty}
-use Rattle.lite_merge.specs.Laws.Merge.{first_falls, fused_laws, merges_calm, merges_follow, merges_keep, merges_lower, merges_sized}
-use Rattle.lite_merge.specs.Merge.{MergeRow}
+use Rattle.lite_merge.specs.Laws.Merge.{merges_arms, first_falls, fused_laws, merges_calm, merges_follow, merges_keep, merges_lower, merges_sized}
+use Rattle.lite_merge.specs.Merge.{MergeRegisters, MergeRow}
 use Rattle.lite_merge.specs.Or.{Ors, or_ranks}
 use Rattle.lite_merge.specs.declared.or.Or.{Or}
 
@@ -45,3 +47,9 @@ module _ {S U A : Type 0} {run : Runs (Answer A) S} {run' : Runs (Answer A) U} w
         falls = λ x y. first_falls c d u;
         lowers = λ x y l. merges_lower c d;
       }
+
+  -- An `or` of two armed streams is armed.
+  pub or_arms : {registers : S → Lasting → Type 0} {registers' : U → Lasting → Type 0} → Arms run registers
+      → Arms run' registers'
+      → Arms (Ors run run') (λ (x : Or S U). MergeRegisters registers registers' x.stream1 x.stream2)
+  or_arms a b = record { at = λ x y l e h. merges_arms a b e h }

@@ -1,11 +1,14 @@
 -- Laws about `race`.
 use Rattle.std.specs.Prelude.{◌≡◌, List, [], ◌∷◌, ◌++◌, None}
+use Rattle.futures.specs.Task.{Lasting}
+use Rattle.lite_base.specs.Armed.{Arms, EndsPending}
 use Rattle.lite_merge.specs.Uses.{refl, inl, map-append, Stream, Answer, items, CalmLaws, NoPending, calm_both}
 use Rattle.lite_merge.specs.Uses.{same_hint, Lowers, Counting, PollsOn, Ranks, StreamLaws, Hints, NoHint, Runs}
 use Rattle.lite_base.specs.Laws.Calling.{folds_follow}
 use Rattle.rand_core.specs.Stream.{next_u32}
 use Rattle.std.proofs.Common.{append-nil}
-use Rattle.lite_merge.specs.Laws.Merge.{merges_calm, merges_follow, merges_keep, merges_lower, merges_sized}
+use Rattle.lite_merge.specs.Laws.Merge.{merges_arms, merges_calm, merges_follow, merges_keep, merges_lower, merges_sized}
+use Rattle.lite_merge.specs.Merge.{MergeRegisters}
 use Rattle.lite_merge.specs.Race.{RacesOn, race_ranks}
 use Rattle.lite_merge.specs.declared.race.Race.{Race}
 
@@ -51,6 +54,18 @@ module _ {S U R A : Type 0} {run : Runs (Answer A) S} {run' : Runs (Answer A) U}
     pub race_calm : CalmLaws (RacesOn run run' stream)
         (λ (x : Race S U R). is_calm x.stream1.stream × is_calm' x.stream2.stream)
     race_calm = calm_both calm_run
+
+  module _ {registers : S → Lasting → Type 0} {registers' : U → Lasting → Type 0} (a : Arms run registers)
+      (b : Arms run' registers') where
+    arms_run : (x y : Race S U R) (l : List (Answer A)) → EndsPending l → RacesOn run run' stream x l y
+        → MergeRegisters registers registers' y.stream1 y.stream2 Lasting.armed
+    arms_run x y [] e h = absurd (cc e)
+    arms_run x y (c ∷ l) e h = merges_arms a b e h.merges
+
+    -- A `race` of two armed streams is armed.
+    pub race_arms : Arms (RacesOn run run' stream)
+        (λ (x : Race S U R). MergeRegisters registers registers' x.stream1 x.stream2)
+    race_arms = record { at = arms_run }
 
   module _ {r : Ranks S} {r' : Ranks U} (c : Counting run r) (d : Counting run' r') where
     firm_run : (x y : Race S U R) (l : List (Answer A)) → r.firm x.stream1.stream × r'.firm x.stream2.stream

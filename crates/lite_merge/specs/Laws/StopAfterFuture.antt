@@ -1,7 +1,10 @@
 -- Laws about `stop_after_future`.
-use Rattle.std.specs.Prelude.{IfSome, ◌≡◌, ℕ, List, [], ◌∷◌, ◌++◌, length, Option, Some, None}
-use Rattle.std.proofs.Common.{◌≤◌}
-use Rattle.lite_merge.specs.Uses.{◌∙◌, length-append, refl, ap, sym, arith, append_assoc, Poll, Pending, Answer}
+use Rattle.std.specs.Prelude.{false, IfSome, ◌≡◌, ℕ, List, [], ◌∷◌, ◌++◌, length, Option, Some, None}
+use Rattle.std.proofs.Common.{◌≤◌, subst}
+use Rattle.futures.specs.Task.{Lasting}
+use Rattle.lite_base.specs.Armed.{Arms, EndsPending}
+use Rattle.lite_base.specs.Laws.Armed.{no_pends}
+use Rattle.lite_merge.specs.Uses.{inl, ◌∙◌, length-append, refl, ap, sym, arith, append_assoc, Poll, Pending, Answer}
 use Rattle.lite_merge.specs.Uses.{before_end, end, items, same_hint, PollsOn, StreamLaws, endless_join, Hints, Runs}
 use Rattle.lite_merge.specs.Uses.{AllEnds, Relating, laws_capped}
 use Rattle.lite_base.specs.FutureLaws.{FutureLaws}
@@ -10,9 +13,9 @@ use Rattle.lite_base.specs.Laws.Spent.{finishes_later}
 use Rattle.lite_base.specs.Laws.FutureLaws.{future_runs_of}
 use Rattle.lite_stream.specs.Laws.Calming.{Calming}
 use Rattle.std.proofs.lemmas.List.{append-nil}
-use Rattle.lite_merge.specs.Laws.Ends.{ends_before, ends_bounded, ends_calm, ends_lower, no_end_among}
+use Rattle.lite_merge.specs.Laws.Ends.{ends_before, ends_bounded, ends_calm, ends_last, ends_no_pending, ends_lower, no_end_among}
 use Rattle.lite_merge.specs.StopAfterFuture.{PendingBeside, Stops, StopsBy, ThenEnds}
-use Rattle.lite_merge.specs.Stopping.{CanStop, HintsBy, StopHints, future_of, stop_parts}
+use Rattle.lite_merge.specs.Stopping.{CanStop, HintsBy, RegistersBy, StopHints, StopRegisters, future_of, stop_parts}
 use Rattle.lite_merge.specs.declared.stop_after_future.StopAfterFuture.{StopAfterFuture}
 use Rattle.lite_merge.specs.declared.stop_after_future.Stopping.TheVariants.{Holding, TakenOut, Stopped}
 use Rattle.lite_merge.specs.declared.stop_after_future.Stopping.{Stopping}
@@ -180,3 +183,23 @@ module _ {S F A R : Type 0} {run : Runs (Answer A) S} {run' : Runs (Poll R) F} {
         bounded = λ x y hint l h k. stop_bounded x y hint l x.future refl h k;
         polls_on = stop_on;
       }
+
+not_pending_after : {A : Type 0} (i l : List (Answer A)) → EndsPending l → ThenEnds (i ++ end ∷ []) l → ⊥
+not_pending_after i l e h = ends_last i h.0 h.1 (rw append_assoc at (rw h.2 at e))
+
+-- A stream that is stopped by a future is armed if it is without the future.
+module _ {S F A R : Type 0} {run : Runs (Answer A) S} (run' : Runs (Poll R) F) {registers : S → Lasting → Type 0}
+    (a : Arms run registers) (registers' : F → Lasting → Type 0) where
+  stopped_armed : (x y : Stopping F R) (s t : S) (i l : List (Answer A)) → run s i t → StopsBy run' x i l y
+      → EndsPending l → RegistersBy (registers t Lasting.armed) (λ f. registers' f Lasting.armed) y
+  stopped_armed TakenOut y s t i l came h e = rw h.1 (a.at s t i (rw h.0 at e) came)
+  stopped_armed (Stopped r) y s t i l came h e = absurd (cc (no_pends false l (ends_no_pending l h.1) e))
+  stopped_armed (Holding f) (Holding g) s t i l came h e = inl (a.at s t i (rw h.2 at e) came)
+  stopped_armed (Holding f) (Stopped (Some value)) s t i l came h e = absurd (not_pending_after i l e h.goes_out)
+  stopped_armed (Holding f) (Stopped None) s t i l came h e =
+      absurd (not_pending_after h.own l e (subst (λ k. ThenEnds k l) h.through_end h.goes_out))
+  stopped_armed (Holding f) TakenOut s t i l came h e = absurd h
+
+  pub stop_arms : Arms (Stops run run') (StopRegisters {R = R} registers registers')
+  stop_arms =
+      record { at = λ x y l e h. stopped_armed x.future y.future x.stream y.stream h.ins l h.came h.related e }

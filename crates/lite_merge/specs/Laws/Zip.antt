@@ -1,7 +1,10 @@
 -- Laws about two streams whose items are paired.
-use Rattle.std.specs.Prelude.{◌≡◌, ℕ, zero, suc, ◌+◌, List, [], ◌∷◌, ◌++◌, Option, Some, None}
+use Rattle.std.specs.Prelude.{Bool, true, false, ◌≡◌, ℕ, zero, suc, ◌+◌, List, [], ◌∷◌, ◌++◌, Option, Some, None}
 use Rattle.std.proofs.Common.{◌≤◌}
-use Rattle.lite_merge.specs.Uses.{◌∙◌, inl, inr, refl, ap, arith, Poll, Ready, Pending, Answer, end, item, items, CalmLaws}
+use Rattle.futures.specs.Task.{Lasting}
+use Rattle.lite_base.specs.Armed.{Arms, EndsPending, pends_last}
+use Rattle.lite_base.specs.Laws.Armed.{pends_anew}
+use Rattle.lite_merge.specs.Uses.{sym, ◌∙◌, inl, inr, refl, ap, arith, Poll, Ready, Pending, Answer, end, item, items, CalmLaws}
 use Rattle.lite_merge.specs.Uses.{waits, Lowers-at_most, same_hint, AtMost, Lowers, Counting, Ranks, held_rank}
 use Rattle.lite_merge.specs.Uses.{StreamLaws, Hints, NoHint, Runs, Pairwise, SameHeld, Sameness, SteadyLawsBy}
 use Rattle.lite_base.specs.Laws.Ranks.{Lowers-below}
@@ -12,7 +15,7 @@ use Rattle.lite_base.specs.StreamLaws.{RunLaws}
 use Rattle.lite_stream.specs.Laws.Calming.{calm_two}
 use Rattle.lite_stream.specs.Laws.Held.{held_falls, held_first, held_less, held_level, held_sized}
 use Rattle.std.specs.List.{AllByRecursion}
-use Rattle.lite_merge.specs.Zip.{Pairing, Pairs, WithHeld, Zips, pair_with, pendings, zip_ranks}
+use Rattle.lite_merge.specs.Zip.{Pairing, Pairs, WithHeld, ZipRegisters, Zips, pair_with, pendings, zip_ranks}
 use Rattle.lite_base.specs.Alike.{SameAnswer, SameItem}
 use Rattle.lite_base.specs.Answers.{ComparableBy, strip}
 use Rattle.lite_base.specs.Laws.Alike.{both_items, comparable_nil, ends_same, held_same, item_same, pairs_same, same_answer}
@@ -333,4 +336,93 @@ module _ {S U A B : Type 0} {run ample : Runs (Answer A) S} {run' ample' : Runs 
               then_came = u.found n.1 x.second y.second h.seconds h.then_came;
               paired = h.paired;
             };
+      }
+
+-- What is armed after a `Pending`.
+
+pendings_alike : (C D : Type 0) (b : Bool) (n : ℕ) → pends_last b (pendings {A = C} n []) ≡ pends_last b (pendings {A = D} n [])
+pendings_alike C D b zero = refl
+pendings_alike C D b (suc n) = pendings_alike C D true n
+
+-- A result ends a row of `Pending`s.
+pendings_ended : {C : Type 0} (b : Bool) (n : ℕ) (x : C) (l : List (Poll C))
+    → pends_last b (pendings n (Ready x ∷ l)) ≡ pends_last false l
+pendings_ended b zero x l = refl
+pendings_ended b (suc n) x l = pendings_ended true n x l
+
+module _ {A B : Type 0} where
+  -- What was polled last and ends in a `Pending`: the second stream while an item is held, and otherwise the first. If
+  -- the first has no results, the answer is `before`.
+  abbrev ZipPends : Option A → Bool → List (Answer A) → List (Answer B) → Type 0
+  ZipPends None before is js = pends_last before is ≡ true
+  ZipPends (Some x) before is js = EndsPending js
+
+  pair_ended : (n : ℕ) (x : A) (b : Option B) (l : List (Answer (A × B)))
+      → pends_last false (pendings n (pair_with x b ∷ l)) ≡ pends_last false l
+  pair_ended n x None l = pendings_ended false n None l
+  pair_ended n x (Some y) l = pendings_ended false n (Some (x, y)) l
+
+  module _ (x : A) (is : List (Answer A))
+      (rest : (js : List (Answer B)) (out : List (Answer (A × B))) (last : Option A) → Pairs is js out last
+      → EndsPending out → ZipPends last false is js) where
+    second_pends : (last : Option A) (js : List (Answer B)) → last ≡ Some x → EndsPending js → ZipPends last false is js
+    second_pends last js is_held e = rw is_held e
+
+    more_pends : (last : Option A) (js more : List (Answer B)) → pends_last false js ≡ pends_last false more
+        → ZipPends last false is more → ZipPends last false is js
+    more_pends None js more same e = e
+    more_pends (Some y) js more same e = same ∙ e
+
+    held_pends : (js : List (Answer B)) (out : List (Answer (A × B))) (last : Option A)
+        → WithHeld x is (Pairs is) js out last → EndsPending out → ZipPends last false is js
+    held_pends js out last (inl h) e =
+        second_pends last js h.4 (rw h.2 (pendings_alike (Option B) (Option (A × B)) false h.0 ∙ (rw h.3 at e)))
+    held_pends js out last (inr h) e =
+        more_pends last js h.2 (rw h.4 (pendings_ended false h.0 h.1 h.2))
+        (rest h.2 h.3 last h.6 (sym (pair_ended h.0 x h.1 h.3) ∙ (rw h.5 at e)))
+
+  pairs_pend : (b c : Bool) → (b ≡ true → c ≡ true) → (is : List (Answer A)) (js : List (Answer B))
+      (out : List (Answer (A × B))) (last : Option A) → Pairs is js out last → pends_last b out ≡ true
+      → ZipPends last c is js
+  pairs_pend b c k [] js out last h e = rw h.2 (k (rw h.1 at e))
+  pairs_pend b c k (Pending ∷ is) js (d ∷ out) last h e =
+      passed last (pairs_pend true true (λ n. n) is js out last h.1 (rw h.0 at e))
+    where
+      passed : (last : Option A) → ZipPends last true is js → ZipPends last c (Pending ∷ is) js
+      passed None e = e
+      passed (Some x) e = e
+  pairs_pend b c k (Ready None ∷ is) js (d ∷ out) last h e =
+      passed last (pairs_pend false false (λ n. n) is js out last h.1 (rw h.0 at e))
+    where
+      passed : (last : Option A) → ZipPends last false is js → ZipPends last c (Ready None ∷ is) js
+      passed None e = e
+      passed (Some x) e = e
+  pairs_pend b c k (Ready (Some x) ∷ is) js (d ∷ out) last h e =
+      passed last
+      (held_pends x is (pairs_pend false false (λ n. n) is) js (d ∷ out) last h (pends_anew false b d out ∙ e))
+    where
+      passed : (last : Option A) → ZipPends last false is js → ZipPends last c (Ready (Some x) ∷ is) js
+      passed None e = e
+      passed (Some y) e = e
+  pairs_pend b c k (a ∷ is) js [] last h e = absurd h
+
+  pairing_pends : (held : Option A) (is : List (Answer A)) (js : List (Answer B)) (out : List (Answer (A × B)))
+      (last : Option A) → Pairing held is js out last → EndsPending out → ZipPends last false is js
+  pairing_pends None is js out last h e = pairs_pend false false (λ n. n) is js out last h e
+  pairing_pends (Some x) is js out last h e = held_pends x is (pairs_pend false false (λ n. n) is) js out last h e
+
+-- A `zip` is armed if both streams are.
+module _ {S U A B : Type 0} {run : Runs (Answer A) S} {run' : Runs (Answer B) U} {registers : S → Lasting → Type 0}
+    {registers' : U → Lasting → Type 0} (a : Arms run registers) (b : Arms run' registers') where
+  polled_armed : (held : Option A) (s s' : S) (u u' : U) (i : List (Answer A)) (j : List (Answer B)) → run s i s'
+      → run' u j u' → ZipPends held false i j → ZipRegisters registers registers' held s' u' Lasting.armed
+  polled_armed None s s' u u' i j came came' e = a.at s s' i e came
+  polled_armed (Some x) s s' u u' i j came came' e = b.at u u' j e came'
+
+  pub zip_arms : Arms (Zips run run') (λ x. ZipRegisters registers registers' x.item_slot x.first x.second)
+  zip_arms =
+      record {
+        at = λ x y l e h.
+            polled_armed y.item_slot x.first y.first x.second y.second h.firsts h.seconds h.came h.then_came
+            (pairing_pends x.item_slot h.firsts h.seconds l y.item_slot h.paired e);
       }

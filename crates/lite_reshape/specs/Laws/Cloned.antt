@@ -1,10 +1,14 @@
 -- Laws about references that are replaced by clones.
-use Rattle.std.specs.Prelude.{⊤, Result, Ok, ◌≡◌, List, [], ◌∷◌, ◌++◌, Option, Some, None}
+use Rattle.std.specs.Prelude.{false, ⊤, Result, Ok, ◌≡◌, List, [], ◌∷◌, ◌++◌, Option, Some, None}
 use Rattle.lite_reshape.specs.Uses.{AllByRecursion, ◌∙◌, refl, ap, sym, append_assoc, Ready, Pending, Bor, OptionBy}
 use Rattle.lite_reshape.specs.Uses.{SameAnswer, Sameness, Answer, Gives, Waiting, item, items, NoPending, all_any}
 use Rattle.lite_reshape.specs.Uses.{all_split, no_pending_join, ok_counting, Counting, Ranks, SteadinessBy}
 use Rattle.lite_reshape.specs.Uses.{SteadyLawsBy, TakesNone, StreamLaws, Hints, NoHint, Runs, through_alike, Calming}
 use Rattle.lite_reshape.specs.Uses.{laws_following, through_on, through_runs}
+use Rattle.futures.specs.Task.{Lasting}
+use Rattle.lite_base.specs.Armed.{Arms, EndsPending}
+use Rattle.lite_base.specs.Laws.Armed.{no_pends}
+use Rattle.lite_reshape.specs.Laws.Arming.{LastPolled, before_held, expanding_pends}
 use Rattle.lite_base.specs.Laws.Answers.{all_append}
 use Rattle.lite_base.specs.Ranks.{OkCounting, all_ok}
 use Rattle.lite_reshape.specs.Cloned.{AlikeCloned, ClonedFrom, Clones, ClonesAll, ClonesUnrefused, EqualClones}
@@ -170,6 +174,13 @@ cloned_ok_counting {E} is_clone is_infallible {run} laws c =
       lowers = λ x y l k h. found.lowers x y l k (unrefused x y (all_ok l) (ok_not_refused E l) h);
     }
 
+-- What was polled last is the source, if no reference that is held can be pending.
+polled_source : {S R : Type 0} {run : Runs (Answer R) S} {registers : S → Lasting → Type 0} → Arms run registers
+    → (s t : S) (held : Option R) (i : List (Answer R)) → run s i t → LastPolled (λ _. ⊥) held false i
+    → registers t Lasting.armed
+polled_source a s t None i came e = a.at s t i e came
+polled_source a s t (Some v) i came e = absurd e
+
 -- A clone and an allocation failure are returned at once, without a `Pending`.
 module _ {T E : Type 0} (is_clone : T → T → Type 0) (is_infallible : T → Type 0) where
   module _ (x : Bor T) where
@@ -185,3 +196,19 @@ module _ {T E : Type 0} (is_clone : T → T → Type 0) (is_infallible : T → T
 
   pub clones_calming : Calming (Expanding Refers (Clones {E = E} is_clone is_infallible))
   clones_calming = expanding_calming Refers _ clones_no_pending
+
+  not_pending : (x : Bor T) (l : List (Answer (Result T E))) (next : Option (Bor T))
+      → Clones is_clone is_infallible x l next → EndsPending l → ⊥
+  not_pending x l next h e = cc (no_pends false l (clones_no_pending x l next h) e)
+
+  -- A `cloned` is armed if its source is.
+  pub cloned_arms : {S : Type 0} {run : Runs (Answer (Bor T)) S} {registers : S → Lasting → Type 0} → Arms run registers
+      → Arms (ClonesAll {E = E} is_clone is_infallible run) (λ m. registers m.stream)
+  cloned_arms a =
+      record {
+        at = λ x y l e h.
+            polled_source a x.stream y.stream y.held h.ins h.came
+            (expanding_pends Refers (Clones is_clone is_infallible) (λ _. ⊥)
+            (λ v w m g d. not_pending v m (Some w) g d) (λ v m g d. not_pending v m None g d) (tt, x.held) (tt, y.held)
+            h.ins l h.related false false (before_held x.held) e);
+      }

@@ -6,10 +6,12 @@ use Rattle.lite_reshape.specs.Uses.{waits, Lowers-below, IsItem, items_each, ans
 use Rattle.lite_reshape.specs.Uses.{Question, Segment, Calming, AlsoBefore, AdapterParts, Adapts, AtEachItem, Counting}
 use Rattle.lite_reshape.specs.Uses.{Entails, FoldsTo, Hints, PollsOn, Ranks, Relating, Runs, StreamLaws, each_along}
 use Rattle.lite_reshape.specs.Uses.{items_in}
+use Rattle.lite_base.specs.Laws.Armed.{segments_pend}
+use Rattle.lite_stream.specs.Laws.Arming.{Arming}
 use Rattle.lite_base.specs.Laws.Answers.{first_item}
 use Rattle.lite_base.specs.Laws.Segments.{answers_by, segments_join}
 use Rattle.lite_stream.specs.Laws.Through.{counted_on}
-use Rattle.lite_reshape.specs.Leaving.{LeavesOut, Passes}
+use Rattle.lite_reshape.specs.Leaving.{LeavesOut, Passes, Rejects}
 
 -- A fact that holds of each result and of each rejected item holds of each result of the source.
 pub leaves_each : {F A B : Type 0} (call : Question F A (Option B)) (P : Answer A → Type 0) (Q : Answer B → Type 0)
@@ -79,6 +81,10 @@ module _ {F A B : Type 0} (call : Question F A (Option B)) where
   leaves_calming f g i o =
       leaves_steps call (λ p i o. waits o ≤ waits i) (λ p m x i b o t h. h) (λ p i o h. omega (arith, h))
       (λ p i o h. h) (λ p m x i y o t h. h) f g i o (omega arith)
+
+-- Only a `Pending` of the source is passed on as one.
+pub leaves_arming : {F A B : Type 0} (call : Question F A (Option B)) → Arming (LeavesOut call)
+leaves_arming call f g i o = segments_pend (Rejects call) (Passes call) (λ p q a h. h.0) f g i o
 
 -- One way of leaving items out implies another, if their states go on to correspond.
 pub leaves_as : {F G A B : Type 0} (call : Question F A (Option B)) (other : Question G A (Option B))

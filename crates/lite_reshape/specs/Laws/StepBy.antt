@@ -5,7 +5,8 @@ use Rattle.lite_reshape.specs.Uses.{◌∙◌, refl, ap, subst, sym, append-nil,
 use Rattle.lite_reshape.specs.Uses.{Runs, AgreeingOver, Calming, Relating, Through, Hints, PollsOn, StreamLaws}
 use Rattle.std.proofs.Math.Nat.{add-mod-mod, mod-add-mod, mod-eq_of_lt, mod_self}
 use Rattle.lite_reshape.specs.Laws.Agreeing.{leaves_selecting}
-use Rattle.lite_reshape.specs.Laws.Leaving.{leaves_as, leaves_calming, leaves_relating}
+use Rattle.lite_stream.specs.Laws.Arming.{Arming}
+use Rattle.lite_reshape.specs.Laws.Leaving.{leaves_arming, leaves_as, leaves_calming, leaves_relating}
 use Rattle.lite_reshape.specs.Leaving.{LeavesOut}
 use Rattle.lite_reshape.specs.StepBy.{CanStep, IsAt, Numbered, StepsBy, StepsOn}
 
@@ -164,6 +165,10 @@ module _ {A : Type 0} where
   pub steps_calming : Calming (StepsOn {A = A})
   steps_calming p q i [] h = omega arith
   steps_calming p q i (b ∷ o) h = leaves_calming (Numbered p.0) h.1 h.2 i (b ∷ o) h.5
+
+  pub steps_arming : Arming (StepsOn {A = A})
+  steps_arming p q i [] h b e = rw h.0 e
+  steps_arming p q i (c ∷ o) h b e = leaves_arming (Numbered p.0) h.1 h.2 i (c ∷ o) h.5 b e
 
 steps_less : {A : Type 0} (p q : ℕ × ℕ) (i o : List (Answer A)) → p.1 < p.0 → StepsOn p i o q → q.1 < q.0
 steps_less p q i [] less h = rw h.1 less

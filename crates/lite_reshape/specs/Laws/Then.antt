@@ -4,7 +4,11 @@ use Rattle.std.proofs.Common.{◌≤◌, map}
 use Rattle.lite_reshape.specs.Uses.{Mut, refl, arith, Poll, Ready, Pending, count_held, OptionBy, SameItem, Sameness}
 use Rattle.lite_reshape.specs.Uses.{Answer, Gives, item, CalmLaws, NoPending, handed, no_pending_join, same_hint}
 use Rattle.lite_reshape.specs.Uses.{SteadyLawsBy, makes_on, AgreeFrom, Calls, agree_from_matches, Hints, Question}
-use Rattle.lite_reshape.specs.Uses.{FoldsTo, PollsOn, Runs, StreamLaws, ap, each_along, items_in, subst}
+use Rattle.lite_reshape.specs.Uses.{◌∙◌, sym, FoldsTo, PollsOn, Runs, StreamLaws, ap, each_along, items_in, subst}
+use Rattle.futures.specs.Task.{Lasting}
+use Rattle.lite_base.specs.Armed.{Arms, EndsPending}
+use Rattle.lite_base.specs.Laws.Armed.{pends_handed, pends_later}
+use Rattle.lite_reshape.specs.Laws.Arming.{before_held, expanding_pends, held_armed}
 use Rattle.lite_base.specs.FutureLaws.{FutureLaws, FutureRunLaws}
 use Rattle.lite_base.specs.Laws.Alike.{alike_agrees}
 use Rattle.lite_base.specs.Laws.Spent.{handed_no_pending, handed_waiting, shown_gives, spends_follow, spends_found, spends_rest, spends_stay}
@@ -15,7 +19,7 @@ use Rattle.lite_stream.specs.Laws.Through.{bounded_by, laws_bounded}
 use Rattle.lite_reshape.specs.FlatMap.{EachMade}
 use Rattle.lite_reshape.specs.Laws.Calming.{expanding_calm, through_calm_by}
 use Rattle.lite_reshape.specs.Laws.Expanding.{FollowLaws, GivingOne, expanding_bounded, expanding_by, expanding_following}
-use Rattle.lite_reshape.specs.Expanding.{Expanding}
+use Rattle.lite_reshape.specs.Expanding.{Expanding, HeldRegisters}
 use Rattle.lite_reshape.specs.Laws.SteadyExpanding.{OneMade, expanding_agreeing, expanding_found}
 use Rattle.lite_reshape.specs.Then.{CanThen, HandsOut, MakesEach, Thens, one_more_at_most, then_hint, then_parts}
 use Rattle.lite_reshape.specs.declared.then.Then.{Then}
@@ -168,3 +172,25 @@ then_laws g laws laws' =
     let fewer = expanding_bounded _ _ hands_one (x.f, x.future) (y.f, y.future) h.ins l h.related in
     same_hint hint (then_hint x.future e.0) l e.2
     (then_bounded x.future e.0 _ _ fewer (laws.bounded x.stream y.stream e.0 h.ins e.1 h.came)))
+
+-- A `then` is armed if its source and the futures that its function makes are.
+module _ {V B : Type 0} {gives : Runs (Poll B) V} {registers' : V → Lasting → Type 0} (b : Arms gives registers') where
+  hands_still : (v w : V) (l : List (Answer B)) → HandsOut gives v l (Some w) → EndsPending l
+      → registers' w Lasting.armed
+  hands_still v w l h e = b.at v w h.0 (sym (pends_handed Some false h.0) ∙ (rw h.3 at e)) h.2
+
+  hands_done : (v : V) (l : List (Answer B)) → HandsOut gives v l None → EndsPending l → ⊥
+  hands_done v l h e =
+      let later = pends_later Some h.ins h.value h.after h.finishes.gives (rw h.joined at e) in
+      let none = rw h.later at later in cc none
+
+  pub then_arms : {S F A : Type 0} (g : Mut F (A × Unit {0}) V) {run : Runs (Answer A) S}
+      {registers : S → Lasting → Type 0} → Arms run registers
+      → Arms (Thens run (Calls g) gives) (λ (m : Then S F V). HeldRegisters registers registers' m.stream m.future)
+  then_arms g a =
+      record {
+        at = λ x y l e h.
+            held_armed registers' a x.stream y.stream y.future h.ins h.came
+            (expanding_pends (Calls g) (HandsOut gives) _ hands_still hands_done (x.f, x.future) (y.f, y.future) h.ins l
+            h.related false false (before_held x.future) e);
+      }

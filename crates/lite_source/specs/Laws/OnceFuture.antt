@@ -6,6 +6,9 @@ use Rattle.lite_source.specs.Uses.{Lowers-below, Spends, FutureLaws, FutureRunLa
 use Rattle.lite_source.specs.Uses.{calm_both, no_pending_join, handed_gives, handed_no_pending, handed_waits, same_hint}
 use Rattle.lite_source.specs.Uses.{Lowers, Counting, number_counting, FutureSteadyLawsBy, SteadinessBy, SteadyLawsBy}
 use Rattle.lite_source.specs.Uses.{StreamLaws, laws_of, handed, NoHint, Runs}
+use Rattle.futures.specs.Task.{Lasting}
+use Rattle.lite_base.specs.Armed.{Arms}
+use Rattle.lite_base.specs.Laws.Armed.{spends_arms}
 use Rattle.lite_base.specs.Laws.Alike.{comparable_nil, ends_same, same_answer}
 use Rattle.lite_base.specs.Laws.Ranks.{waiting_lowers}
 use Rattle.lite_base.specs.Laws.Spent.{handed_waiting, spends_follow, spends_found, spends_on, spends_rest, spends_stay}
@@ -87,3 +90,9 @@ module _ {F A : Type 0} {run : Runs (Poll A) F} {is_calm : F → Type 0} (c : Ca
 
   pub once_future_calm : CalmLaws (GivesFuture run) (λ x. IfSome x.future is_calm)
   once_future_calm = calm_both (λ x y. handing_calm x.future y.future)
+
+-- A `once_future` is armed if its future is.
+pub once_future_arms : {F A : Type 0} {run : Runs (Poll A) F} {registers : F → Lasting → Type 0} → Arms run registers
+    → Arms (GivesFuture run) (λ x fact. (f : F) × (x.future ≡ Some f) × registers f fact)
+once_future_arms a =
+    record { at = λ x y l e h. spends_arms a Some _ (answers_no_pending None) x.future y.future l e h }

@@ -1,18 +1,21 @@
 -- The results of `unfold` and `try_unfold`, `Pending`s aside: the same for futures that are alike.
-use Rattle.std.specs.Prelude.{⊤, ◌≡◌, ◌⊎◌, List, [], ◌∷◌, ◌++◌, map, flat_map, Option, Some, None}
+use Rattle.std.specs.Prelude.{Bool, true, false, ⊤, ◌≡◌, ◌⊎◌, List, [], ◌∷◌, ◌++◌, map, flat_map, Option, Some, None}
 use Rattle.lite_source.specs.Uses.{inl, inr, ◌∙◌, refl, ap, sym, append-nil, Mut, AllByRecursion, FoldsTo, Poll}
 use Rattle.lite_source.specs.Uses.{OptionBy, SameAnswer, SameItem, Sameness, Answer, ComparableBy, Waiting, end, strip}
 use Rattle.lite_source.specs.Uses.{CalmLaws, NoPending, AgreeFrom, Calls, MakesAlways, Finishes, handed, FutureRunLaws}
 use Rattle.lite_source.specs.Uses.{alike_agrees, calm_both, no_pending_join, handed_gives, handed_no_pending}
 use Rattle.lite_source.specs.Uses.{handed_waits, FutureSteadyLawsBy, SteadinessBy, SteadyLawsBy, RunLaws, Question}
 use Rattle.lite_source.specs.Uses.{Runs, makes_on}
+use Rattle.futures.specs.Task.{Lasting}
+use Rattle.lite_base.specs.Armed.{Arms, EndsPending, pends_last}
+use Rattle.lite_base.specs.Laws.Armed.{gives_pends, no_pends, pends_anew, pends_handed, pends_join}
 use Rattle.lite_base.specs.Laws.Alike.{equal_options}
 use Rattle.lite_base.specs.Laws.Answers.{strip_join}
 use Rattle.lite_base.specs.Laws.Calling.{agree_from_matches}
 use Rattle.lite_base.specs.Laws.Spent.{finishes_found, finishes_later}
 use Rattle.lite_base.specs.Steady.{TakesNone}
 use Rattle.lite_source.specs.Laws.Always.{answers_no_pending}
-use Rattle.lite_source.specs.Unfolding.{BothHave, Holding, HoldingsBy, IfHeldFuture, IsCurrent, Leads, PartOf, UnfoldAlike, UnfoldPart, Unfolds, comes}
+use Rattle.lite_source.specs.Unfolding.{BothHave, Holding, HoldingsBy, IfHeldFuture, IsCurrent, Leads, PartOf, UnfoldAlike, UnfoldPart, UnfoldRegisters, Unfolds, comes}
 
 module _ {F S V O B : Type 0} (call : Mut F (S × Unit {0}) V) (gives : Runs (Poll O) V) (after : O → Option S)
     (shown : O → Option B) where
@@ -246,3 +249,34 @@ module _ {F S V O B : Type 0} (call : Mut F (S × Unit {0}) V) {run : Runs (Poll
       → CalmLaws (λ x l y. Unfolds call run after shown (pair x) l (pair y))
       (λ x. MakesAlways call calm (pair x).0 × IfHeldFuture (pair x).1 calm)
   unfolds_calm pair = calm_both (λ x y l k h. rw h.2 (parts_calm (pair x) (pair y) h.0 k h.1))
+
+-- A function that makes armed futures makes an armed source.
+module _ {F S V O B : Type 0} (call : Mut F (S × Unit {0}) V) {run : Runs (Poll O) V}
+    {registers : V → Lasting → Type 0} (a : Arms run registers) (after : O → Option S) (shown : O → Option B) where
+  leads_arms : (v : V) (ins : List (Poll O)) (next : Holding S V) → EndsPending ins
+      → Leads call run after shown v ins next → UnfoldRegisters registers next Lasting.armed
+  leads_arms v ins next e (inl h) = rw h.3 (a.at v h.0 ins e h.2)
+  leads_arms v ins next e (inr h) = absurd (gives_pends false ins h.0 h.1.gives e)
+
+  module _ (p q : F) (x y : Holding S V) (l : List (Answer B)) (e : EndsPending l) where
+    part_arms : UnfoldPart call run after shown p x l q y → UnfoldRegisters registers y Lasting.armed
+    part_arms (inl h) = leads_arms h.0 h.1 y (sym (pends_handed shown false h.1) ∙ (rw h.4 at e)) h.3
+    part_arms (inr h) = absurd (cc (no_pends false l (answers_no_pending None l h.2.0) e))
+
+  parts_arms : (b : Bool) (x y : F × Holding S V) (parts : List (Answer B × List (Answer B)))
+      → (b ≡ true → UnfoldRegisters registers x.1 Lasting.armed)
+      → FoldsTo (λ s part t. UnfoldPart call run after shown s.0 s.1 (part.0 ∷ part.1) t.0 t.1) x parts y
+      → pends_last b (flat_map (λ part. part.0 ∷ part.1) parts) ≡ true
+      → UnfoldRegisters registers y.1 Lasting.armed
+  parts_arms b x y [] k h e = rw h at (k e)
+  parts_arms b x y (part ∷ parts) k h e =
+      let own = part.0 ∷ part.1 in
+      let more = flat_map (λ part. part.0 ∷ part.1) parts in
+      parts_arms (pends_last b own) h.0 y parts
+      (λ d. part_arms x.0 h.0.0 x.1 h.0.1 own (pends_anew false b part.0 part.1 ∙ d) h.1) h.2
+      (sym (pends_join b own more) ∙ e)
+
+  pub unfolds_arms : {X : Type 0} (pair : X → F × Holding S V)
+      → Arms (λ x l y. Unfolds call run after shown (pair x) l (pair y)) (λ x. UnfoldRegisters registers (pair x).1)
+  unfolds_arms pair =
+      record { at = λ x y l e h. parts_arms false (pair x) (pair y) h.0 (λ d. cc d) h.1 (rw h.2 at e) }

@@ -4,8 +4,9 @@ use Rattle.lite_stream.specs.Uses.{◌∙◌, refl, inl, inr, ap, Ready, Pending
 use Rattle.lite_stream.specs.Cutting.{Cuts}
 use Rattle.lite_stream.specs.Fuse.{AllEnds, FusesOn}
 use Rattle.lite_stream.specs.Laws.Agreeing.{AgreeingOver}
+use Rattle.lite_stream.specs.Laws.Arming.{Arming}
 use Rattle.lite_stream.specs.Laws.Calming.{Calming}
-use Rattle.lite_stream.specs.Laws.Cutting.{cuts_agreeing, cuts_calming, cuts_relating}
+use Rattle.lite_stream.specs.Laws.Cutting.{cuts_agreeing, cuts_arming, cuts_calming, cuts_relating}
 use Rattle.lite_stream.specs.Laws.Through.{Relating, relating_by}
 
 -- Whether the result is the end of the stream.
@@ -95,3 +96,6 @@ module _ {A : Type 0} where
 
   pub fuses_calming : Calming (FusesOn {A = A})
   fuses_calming f g i o r = cuts_calming is_over_after ended_after f g i o (to_cuts f g i o r)
+
+  pub fuses_arming : Arming (FusesOn {A = A})
+  fuses_arming f g i o r = cuts_arming is_over_after ended_after f g i o (to_cuts f g i o r)

@@ -1,4 +1,5 @@
 //! Tests of futures, of `block_on` and of wakes, where a case of `cases/futures.txt` cannot say it.
+mod armed;
 mod bell;
 mod bounds;
 mod counting;

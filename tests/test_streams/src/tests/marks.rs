@@ -1,5 +1,7 @@
 //! Each type that carries a mark is asked for it by the bound alone.
-use lite_base::{CalmFuture, CalmStream, Counted, OkCounted, SteadyFuture, SteadyStream};
+use lite_base::{
+    ArmedFuture, ArmedStream, CalmFuture, CalmStream, Counted, OkCounted, SteadyFuture, SteadyStream,
+};
 
 pub(crate) fn steady<S: SteadyStream>(stream: &S) {
     stream.is_steady_stream();
@@ -43,4 +45,12 @@ pub(crate) fn calm_future<F: CalmFuture>(future: &F) {
 pub(crate) fn both_future<F: SteadyFuture + CalmFuture>(future: &F) {
     steady_future(future);
     calm_future(future);
+}
+
+pub(crate) fn armed<S: ArmedStream>(stream: &S) {
+    stream.is_armed_stream();
+}
+
+pub(crate) fn armed_future<F: ArmedFuture>(future: &F) {
+    future.is_armed_future();
 }

@@ -1,9 +1,9 @@
 //! Readers, and the futures over them.
-use lite_base::{CalmFuture, SteadyFuture};
+use lite_base::{ArmedFuture, ArmedStream, CalmFuture, SteadyFuture};
 use lite_bridge::Cursor;
 use lite_buffered::{BufReader, make as io};
 use lite_halves::Journal;
-use lite_io_base::{CalmRead, IoSliceMut, SteadyRead};
+use lite_io_base::{ArmedRead, CalmRead, IoSliceMut, SteadyRead};
 use lite_mock::Marks;
 use lite_read::make::{
     bytes as each_byte, fill_buf, read, read_exact, read_line, read_to_end, read_to_string,
@@ -48,6 +48,26 @@ fn readers_and_their_futures_are_steady_and_calm(rt: HostRuntime) -> Result<(), 
     both_future(&read_line(&mut bytes, &mut String::new(rt.alloc())));
     both_future(&read_to_string(&mut bytes, &mut String::new(rt.alloc())));
     read(&mut bytes, &mut [0]).is_calm_future();
+    Ok(())
+}
+
+#[test]
+fn readers_and_what_is_over_them_are_armed(rt: HostRuntime) -> Result<(), Fail> {
+    let mut bytes: &[u8] = b"ab";
+    io::take(bytes, 1).is_armed_read();
+    Cursor::new(bytes).is_armed_read();
+    let Ok(mut reader) = BufReader::with_capacity(rt.alloc(), 4, bytes) else {
+        return Err(AllocError.into());
+    };
+    reader.is_armed_read();
+    (&mut reader).is_armed_read();
+    fill_buf(&mut reader).is_armed_future();
+    read(&mut reader, &mut [0]).is_armed_future();
+    read_exact(&mut reader, &mut [0]).is_armed_future();
+    read_to_end(&mut reader, &mut Vec::new(rt.alloc())).is_armed_future();
+    read_line(&mut reader, &mut String::new(rt.alloc())).is_armed_future();
+    read_to_string(&mut reader, &mut String::new(rt.alloc())).is_armed_future();
+    each_byte(&mut bytes).is_armed_stream();
     Ok(())
 }
 

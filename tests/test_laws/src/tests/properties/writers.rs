@@ -1,11 +1,11 @@
 //! Writers, and the futures over them.
 ghost use Rattle.std.specs.Prelude.{◌≡◌, [], IfOk};
 
-use lite_base::{CalmFuture, SteadyFuture};
+use lite_base::{ArmedFuture, CalmFuture, SteadyFuture};
 use lite_bridge::Cursor;
 use lite_buffered::{BufReader, BufWriter};
 use lite_halves::Journal;
-use lite_io_base::{CalmWrite, IoSlice, SteadyWrite};
+use lite_io_base::{ArmedWrite, CalmWrite, IoSlice, SteadyWrite};
 use lite_mock::{Marks, Order, Takes};
 use lite_write::make::{close, copy, flush, sink, write, write_all, write_vectored};
 use nests_agree::writes::{copies_agree, writes_agree};
@@ -23,6 +23,21 @@ fn both<W: SteadyWrite + CalmWrite>(writer: &W) {
 fn both_future<F: SteadyFuture + CalmFuture>(future: &F) {
     future.is_steady_future();
     future.is_calm_future();
+}
+
+#[test]
+fn writers_and_their_futures_are_armed(rt: HostRuntime) -> Result<(), Fail> {
+    let bytes: Vec<u8> = Vec::new(rt.alloc());
+    let Ok(mut writer) = BufWriter::with_capacity(rt.alloc(), 4, bytes) else {
+        return Err(AllocError.into());
+    };
+    writer.is_armed_write();
+    sink().is_armed_write();
+    write(&mut writer, b"ab").is_armed_future();
+    write_all(&mut writer, b"ab").is_armed_future();
+    flush(&mut writer).is_armed_future();
+    close(&mut writer).is_armed_future();
+    Ok(())
 }
 
 #[test]

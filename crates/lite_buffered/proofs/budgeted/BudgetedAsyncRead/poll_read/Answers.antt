@@ -1,5 +1,6 @@
 use Rattle.std.specs.Prelude.{◌≡◌, ◌≤◌, ◌<◌, ◌-◌, Ok, length, take, drop}
-use Rattle.lite_buffered.specs.Uses.{rules, arith, length-take-le, subst, common_steps, Ready, read_marks_room, moved_marks}
+use Rattle.lite_buffered.specs.Uses.{rules, arith, length-take-le, subst, common_steps, Ready, moved_marks}
+use Rattle.lite_io_base.specs.Laws.Runs.{read_marks_room}
 use Rattle.lite_buffered.specs.Budgeted.{PacesMarks}
 use Rattle.lite_buffered.proofs.Pacing.{paced_moved}
 use Rattle.lite_buffered.proofs.budgeted.BudgetedAsyncRead.poll_read.Goals.{in-Pending, in-Ready-Err, in-Ready-Ok}
