@@ -4,7 +4,7 @@ ghost use Rattle.futures_lite.specs.Lines.{without_return};
 ghost use Rattle.example_pipeline.specs.Pipeline.{line_text};
 ghost use Rattle.example_pipeline.specs.Runs.{FailsWithin, GivesLine};
 
-use futures_lite::future::BlockOn;
+use futures_lite::future::Waits;
 use futures_lite::io::{AsyncBufRead, CountedRead, wait_read_until};
 use std::io;
 use std::sync::Wait;
@@ -13,7 +13,7 @@ use std::sync::Wait;
 ///
 /// If memory for the line was refused, the error is of the kind `OutOfMemory`.
 pub fn read_line<R, T>(
-    on: &mut BlockOn,
+    waits: &mut Waits<'_>,
     rt: &R,
     reader: &mut T,
     line: &mut Vec<u8>,
@@ -27,7 +27,7 @@ where
     ensures again { T.ranks.counts reader.new }
 {
     line.clear();
-    match wait_read_until(on, rt, reader, b'\n', line) {
+    match wait_read_until(waits, rt, reader, b'\n', line) {
         Ok(Ok(_)) => Ok(line.last() == Some(&b'\n')),
         Ok(Err(e)) => Err(e),
         Err(_) => unreachable!(),

@@ -61,7 +61,7 @@ where
     let Ok(mut writer) = BufWriter::with_capacity(rt.alloc(), BUFFER, output) else {
         return Err(no_memory());
     };
-    run(&mut on, rt, &mut reader, &mut writer)
+    run(&mut on.waits(), rt, &mut reader, &mut writer)
 }
 
 /// Returns that memory was refused before the first line.

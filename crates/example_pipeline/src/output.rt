@@ -4,7 +4,7 @@ ghost use Rattle.example_pipeline.specs.Pipeline.{sum_line};
 ghost use Rattle.example_pipeline.specs.Runs.{FailsFlush, FailsTaking, TakesFlush, TakesWholeText};
 
 use futures_lite::AsyncWrite;
-use futures_lite::future::BlockOn;
+use futures_lite::future::Waits;
 use futures_lite::io::{wait_flush, wait_write_all};
 use itoa::Buffer;
 use std::io;
@@ -12,7 +12,7 @@ use std::sync::Wait;
 
 /// Writes a sum as a line.
 pub fn write_sum<R: Wait, O: AsyncWrite>(
-    on: &mut BlockOn,
+    waits: &mut Waits<'_>,
     rt: &R,
     output: &mut O,
     sum: u64,
@@ -21,15 +21,15 @@ pub fn write_sum<R: Wait, O: AsyncWrite>(
     ensures failed { IfErr result (λ e. FailsTaking O.writes output.old (sum_line sum) e output.new) }
 {
     let mut buffer = Buffer::new();
-    match write(on, rt, output, buffer.format(sum).as_bytes()) {
-        Ok(()) => write(on, rt, output, b"\n"),
+    match write(waits, rt, output, buffer.format(sum).as_bytes()) {
+        Ok(()) => write(waits, rt, output, b"\n"),
         Err(e) => Err(e),
     }
 }
 
 // Writes all of the text.
 fn write<R: Wait, O: AsyncWrite>(
-    on: &mut BlockOn,
+    waits: &mut Waits<'_>,
     rt: &R,
     output: &mut O,
     text: &[u8],
@@ -37,18 +37,22 @@ fn write<R: Wait, O: AsyncWrite>(
     ensures written { IfOk result (λ _. TakesWholeText O.writes output.old text.now output.new) }
     ensures failed { IfErr result (λ e. FailsTaking O.writes output.old text.now e output.new) }
 {
-    match wait_write_all(on, rt, output, text) {
+    match wait_write_all(waits, rt, output, text) {
         Ok(written) => written,
         Err(_) => unreachable!(),
     }
 }
 
 /// Flushes.
-pub fn flush<R: Wait, O: AsyncWrite>(on: &mut BlockOn, rt: &R, output: &mut O) -> io::Result<()>
+pub fn flush<R: Wait, O: AsyncWrite>(
+    waits: &mut Waits<'_>,
+    rt: &R,
+    output: &mut O,
+) -> io::Result<()>
     ensures flushed { IfOk result (λ _. TakesFlush O.writes output.old output.new) }
     ensures failed { IfErr result (λ e. FailsFlush O.writes output.old e output.new) }
 {
-    match wait_flush(on, rt, output) {
+    match wait_flush(waits, rt, output) {
         Ok(flushed) => flushed,
         Err(_) => unreachable!(),
     }

@@ -11,7 +11,7 @@ use crate::number::number;
 use crate::output::{flush, write_sum};
 use crate::sums::Sums;
 use futures_lite::AsyncWrite;
-use futures_lite::future::BlockOn;
+use futures_lite::future::Waits;
 use futures_lite::io::{AsyncBufRead, CountedRead};
 use std::alloc::AllocGlobal;
 use std::io;
@@ -28,7 +28,7 @@ use std::sync::Wait;
 /// text for any input that goes on. Both were flushed. If the output fails, it took a prefix of the text, and that
 /// failure came last.
 pub fn run<R, T, O>(
-    on: &mut BlockOn,
+    waits: &mut Waits<'_>,
     rt: &R,
     reader: &mut T,
     output: &mut O,
@@ -42,9 +42,9 @@ where
     ensures stopped { IfErr result (λ e. RunStops T.reads O.writes reader.old output.old e reader.new output.new) }
 {
     let mut sums = Sums::new();
-    match add_lines(on, rt, reader, output, &mut sums) {
-        Ok(line) => finish(on, rt, output, &sums, line),
-        Err(e) => match close(on, rt, output, &sums, &e) {
+    match add_lines(waits, rt, reader, output, &mut sums) {
+        Ok(line) => finish(waits, rt, output, &sums, line),
+        Err(e) => match close(waits, rt, output, &sums, &e) {
             Ok(()) => Err(e),
             Err(failed) => Err(failed),
         },
@@ -53,7 +53,7 @@ where
 
 // Reads and adds the lines, and writes the sum of each full window. Returns the number of the last line.
 fn add_lines<R, T, O>(
-    on: &mut BlockOn,
+    waits: &mut Waits<'_>,
     rt: &R,
     reader: &mut T,
     output: &mut O,
@@ -72,7 +72,7 @@ where
     let mut line: u64 = 0;
     for _ in rt.forever() {
         let next = line.saturating_add(1);
-        let whole = match read_line(on, rt, reader, &mut text) {
+        let whole = match read_line(waits, rt, reader, &mut text) {
             Ok(whole) => whole,
             Err(e) => return Err(PipelineError {
                 line: next,
@@ -83,7 +83,7 @@ where
             return Ok(line);
         }
         line = next;
-        if let Err(cause) = add_line(on, rt, output, sums, &text) {
+        if let Err(cause) = add_line(waits, rt, output, sums, &text) {
             return Err(PipelineError { line, cause });
         }
         if !whole {
@@ -106,7 +106,7 @@ fn reading(error: io::Error) -> Cause
 
 // Adds a line, and writes the sum of the window if that fills it.
 fn add_line<R: Wait, O: AsyncWrite>(
-    on: &mut BlockOn,
+    waits: &mut Waits<'_>,
     rt: &R,
     output: &mut O,
     sums: &mut Sums,
@@ -117,7 +117,7 @@ fn add_line<R: Wait, O: AsyncWrite>(
 {
     let item = number(without_end(line))?;
     match add_number(sums, item) {
-        Ok(Some(sum)) => match write_sum(on, rt, output, sum) {
+        Ok(Some(sum)) => match write_sum(waits, rt, output, sum) {
             Ok(()) => Ok(()),
             Err(e) => Err(Cause::Output(e)),
         },
@@ -142,7 +142,7 @@ fn add_number(sums: &mut Sums, item: u64) -> Result<Option<u64>, Cause>
 
 // Ends the output at an error: behind all lines before a bad one, and else behind the last full window.
 fn close<R: Wait, O: AsyncWrite>(
-    on: &mut BlockOn,
+    waits: &mut Waits<'_>,
     rt: &R,
     output: &mut O,
     sums: &Sums,
@@ -152,7 +152,7 @@ fn close<R: Wait, O: AsyncWrite>(
     ensures failed { IfErr result (λ e. EndFails O.writes sums.now error.now.cause output.old e.cause output.new) }
 {
     match &error.cause {
-        Cause::NotUtf8 | Cause::NotANumber => finish(on, rt, output, sums, error.line),
+        Cause::NotUtf8 | Cause::NotANumber => finish(waits, rt, output, sums, error.line),
         Cause::Overflow | Cause::Memory | Cause::Input(_) => finish_early(
             on, rt, output, error.line,
         ),
@@ -162,7 +162,7 @@ fn close<R: Wait, O: AsyncWrite>(
 
 // Writes the sum of the last window, if it is not full, and flushes.
 fn finish<R: Wait, O: AsyncWrite>(
-    on: &mut BlockOn,
+    waits: &mut Waits<'_>,
     rt: &R,
     output: &mut O,
     sums: &Sums,
@@ -173,8 +173,8 @@ fn finish<R: Wait, O: AsyncWrite>(
     ensures failed { IfErr result (λ e. (l : List ℕ) → HoldsWindow sums.now l
         → FailsOutput O.writes output.old (text_of_sums (last_sums l)) e.cause output.new) }
 {
-    match write_last(on, rt, output, sums) {
-        Ok(()) => finish_early(on, rt, output, line),
+    match write_last(waits, rt, output, sums) {
+        Ok(()) => finish_early(waits, rt, output, line),
         Err(e) => Err(PipelineError {
             line,
             cause: Cause::Output(e),
@@ -184,7 +184,7 @@ fn finish<R: Wait, O: AsyncWrite>(
 
 // Writes the sum of the last window, if it has a number and is not full.
 fn write_last<R: Wait, O: AsyncWrite>(
-    on: &mut BlockOn,
+    waits: &mut Waits<'_>,
     rt: &R,
     output: &mut O,
     sums: &Sums,
@@ -195,7 +195,7 @@ fn write_last<R: Wait, O: AsyncWrite>(
         → FailsTaking O.writes output.old (text_of_sums (last_sums l)) e output.new) }
 {
     match sums.last() {
-        Some(sum) => write_sum(on, rt, output, sum),
+        Some(sum) => write_sum(waits, rt, output, sum),
         None => Ok(()),
     }
 }
@@ -203,7 +203,7 @@ fn write_last<R: Wait, O: AsyncWrite>(
 // Flushes.
 #[tactic(auto, using(crate::proofs::Taken::flush_unwritten))]
 fn finish_early<R: Wait, O: AsyncWrite>(
-    on: &mut BlockOn,
+    waits: &mut Waits<'_>,
     rt: &R,
     output: &mut O,
     line: u64,
@@ -211,7 +211,7 @@ fn finish_early<R: Wait, O: AsyncWrite>(
     ensures flushed { IfOk result (λ _. TakesFlush O.writes output.old output.new) }
     ensures failed { IfErr result (λ e. FailsOutput O.writes output.old [] e.cause output.new) }
 {
-    match flush(on, rt, output) {
+    match flush(waits, rt, output) {
         Ok(()) => Ok(()),
         Err(e) => Err(PipelineError {
             line,

@@ -19,7 +19,7 @@ fn another() -> Fail {
 #[test]
 fn sums_are_written_as_lines(rt: HostRuntime) -> Result<(), Fail> {
     let (mut on, mut reader, mut output) = (BlockOn::new(&rt)?, NUMBERS, Vec::new(rt.alloc()));
-    match run(&mut on, &rt, &mut reader, &mut output) {
+    match run(&mut on.waits(), &rt, &mut reader, &mut output) {
         Ok(()) => assert_eq!(rt; output.as_slice(), b"12\n30\n14\n".as_slice()),
         Err(_) => return Err(another()),
     }
@@ -31,7 +31,7 @@ fn a_bad_line_is_behind_all_sums(rt: HostRuntime) -> Result<(), Fail> {
     let mut on = BlockOn::new(&rt)?;
     for bad in [b"2\n4\nx\n6\n".as_slice(), b"2\n4\n\xff\n6\n", b"2\n4\n\n"] {
         let (mut reader, mut output) = (bad, Vec::new(rt.alloc()));
-        match run(&mut on, &rt, &mut reader, &mut output) {
+        match run(&mut on.waits(), &rt, &mut reader, &mut output) {
             Err(
                 PipelineError {
                     line: 3,
@@ -54,7 +54,7 @@ fn an_error_of_the_input_is_behind_the_full_windows(rt: HostRuntime) -> Result<(
         return Err(Fail::from("no memory"));
     };
     let (mut on, mut output) = (BlockOn::new(&rt)?, Vec::new(rt.alloc()));
-    match run(&mut on, &rt, &mut reader, &mut output) {
+    match run(&mut on.waits(), &rt, &mut reader, &mut output) {
         Err(
             PipelineError {
                 line: 5,
@@ -76,7 +76,7 @@ fn an_error_of_the_output_names_the_last_line(rt: HostRuntime) -> Result<(), Fai
             return Err(Fail::from("no memory"));
         };
         let (mut on, mut reader) = (BlockOn::new(&rt)?, NUMBERS);
-        match run(&mut on, &rt, &mut reader, &mut writer) {
+        match run(&mut on.waits(), &rt, &mut reader, &mut writer) {
             Err(e) => {
                 assert_eq!(rt; e.line, 7);
                 assert_eq!(rt; e.is_broken_pipe(), kind == ErrorKind::BrokenPipe);
