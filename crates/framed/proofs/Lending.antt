@@ -1,6 +1,6 @@
 -- Steps of a reader of lent frames.
-use Rattle.std.specs.Prelude.{◌≡◌, ◌⊎◌, ◌≤◌, ◌<◌, ◌-◌, ◌+◌, ◌==◌, Bool, true, false, ℕ, List, [], ◌∷◌, ◌++◌, drop, length, take}
-use Rattle.std.specs.Prelude.{Option, Some, None, Result, Ok, Err, IfSome, IsSome}
+use Rattle.std.specs.Prelude.{◌≡◌, ◌≤◌, ◌<◌, ◌-◌, ◌+◌, ℕ, List, [], ◌∷◌, ◌++◌, drop, length, take}
+use Rattle.std.specs.Prelude.{Option, Some, Result, Ok, Err}
 use Rattle.std.specs.IoError.{error_kind}
 use Rattle.std.specs.declared.io.Error.{Error}
 use Rattle.std.proofs.Common.{◌∙◌, ap, append-nil, append_assoc, arith, inl, inr, length-append, length-take-le, refl, subst, sym, take-append-drop}
@@ -8,16 +8,16 @@ use Rattle.std.proofs.Math.Seq.{take-append-add}
 use Rattle.std.proofs.lemmas.Bool.{cases_lt}
 use Rattle.std.proofs.lemmas.List.{drop-take, take-append-le, take-take}
 use Rattle.framed.specs.Uses.{Answer, MarkLaws, Pending, Ready, ReadMark, Runs, bytes}
-use Rattle.framed.specs.Cutting.{BeginsNone, Cuts, IsWithin, OpenUntil, body_at, frame_at}
+use Rattle.framed.specs.Cutting.{BeginsNone, CutFound, IsWithin, OpenUntil, body_at, frame_at}
 use Rattle.framed.specs.Frames.{ended, reading}
-use Rattle.framed.specs.Lending.{Advances, AdvancesInHand, Ends, Finds, FindsInHand, IsOpen, IsOver, IsResting, Lending, Lends, LooksBehind, LooksLoose}
-use Rattle.framed.specs.Lending.{StandsIn, Stops, Took, TookShown, Waits, ahead, kept, lent_body, nowhere, untaken}
+use Rattle.framed.specs.Lending.{Advances, AdvancesInHand, Ends, IsUnfinished, IsOver, IsResting, Lending, LooksBehind}
+use Rattle.framed.specs.Lending.{StopsLending, TookFrom, TookShown, WaitsForMore, ahead, kept, nowhere, untaken}
 use Rattle.framed.specs.LendingLaws.{advances_on, finds_on, in_hand_on, kept_all, took_on, untaken_none}
 use Rattle.framed.specs.Pieces.{Undecided}
-use Rattle.framed.specs.declared.cut.Cut.TheVariants.{More, Refused, Whole}
+use Rattle.framed.specs.declared.cut.Cut.TheVariants.{More, Whole}
 use Rattle.framed.specs.declared.cut.Span.{Span}
 use Rattle.framed.specs.declared.frames_error.FramesError.{FramesError}
-use Rattle.framed.specs.declared.frames_error.FramesError.TheVariants.{NoFrame, OutOfMemory, Reader}
+use Rattle.framed.specs.declared.frames_error.FramesError.TheVariants.{NoFrame, Reader}
 
 -- A body is a part of its frame.
 body_in : (s : Span) (xs : List ℕ) → s.from ≤ s.to → s.to ≤ s.size → body_at s xs ≡ drop s.from (take s.to (frame_at s xs))
@@ -31,7 +31,7 @@ same_body s xs ys low high same =
 
 module _ {C E : Type 0} (piece : C → List ℕ → List ℕ → Type 0) (refuses : C → List ℕ → E → Type 0) (c : C) (whole rest : List ℕ) where
   -- What is found in a front of some bytes is found in them.
-  pub found_front : (s : Span) → Cuts piece refuses c whole (Whole s)
+  pub found_front : (s : Span) → CutFound piece refuses c whole (Whole s)
       → IsWithin s (length (whole ++ rest)) × piece c (body_at s (whole ++ rest)) (frame_at s (whole ++ rest))
   found_front s ((low, high, there), is) =
       let same : frame_at s (whole ++ rest) ≡ frame_at s whole = take-append-le s.size whole rest there in (
@@ -50,7 +50,7 @@ open_now piece refuses c least xs less h =
 
 -- A frame that is found behind bytes in which none is whole is longer than they are.
 pub size_behind : {C E : Type 0} (piece : C → List ℕ → List ℕ → Type 0) (refuses : C → List ℕ → E → Type 0) (c : C) (held more : List ℕ)
-    (s : Span) → Undecided piece refuses c held → Cuts piece refuses c (held ++ more) (Whole s) → length held ≤ s.size
+    (s : Span) → Undecided piece refuses c held → CutFound piece refuses c (held ++ more) (Whole s) → length held ≤ s.size
 size_behind piece refuses c held more s none (_, is) = elim (cases_lt s.size (length held)) [ inr long ↦ long | inl short ↦ absurd (within short) ]
   where
     within : s.size < length held → ⊥
@@ -85,20 +85,20 @@ module _ {T C E : Type 0} (piece : C → List ℕ → List ℕ → Type 0) (refu
 
     -- Why no frame is lent, and no byte was taken.
     pub stopped : (x y : Lending T C) (why : FramesError E) → IsResting x → y.reader ≡ x.reader → y.cutter ≡ x.cutter → y.held ≡ x.held
-        → x.room ≤ y.room → IsOver piece refuses cut_off reads buffer_of y → Stops piece refuses cut_off reads buffer_of x [] why y
+        → x.room ≤ y.room → IsOver piece refuses cut_off reads buffer_of y → StopsLending piece refuses cut_off reads buffer_of x [] why y
         → AdvancesInHand piece refuses cut_off reads buffer_of x (Ready (Some (Err why))) y
     stopped x y why rest reader cutter held room over because =
         inr (rest.0, [], took_none x y rest.1 reader cutter held room, (over, because))
 
     -- A frame was found in the bytes held, or if none are held in those shown.
     pub found_held : (x y : Lending T C) (s : Span) → IsResting x → y ≡ record x { span = s }
-        → Cuts piece refuses x.cutter x.held (Whole s) → AdvancesInHand piece refuses cut_off reads buffer_of x (Ready (Some (Ok tt))) y
+        → CutFound piece refuses x.cutter x.held (Whole s) → AdvancesInHand piece refuses cut_off reads buffer_of x (Ready (Some (Ok tt))) y
     found_held x y s rest is cut =
         let f = found_front piece refuses x.cutter x.held (buffer_of x.reader) s cut in
         rw is (inr (rest.0, [], took_none x (record x { span = s }) rest.1 refl refl refl (omega arith), (refl, (rest.0, (f.0, inr cut.0.2), f.1))))
 
     pub found_shown : (x y : Lending T C) (s : Span) → IsResting x → x.held ≡ [] → y ≡ record x { span = s }
-        → Cuts piece refuses x.cutter (buffer_of x.reader) (Whole s)
+        → CutFound piece refuses x.cutter (buffer_of x.reader) (Whole s)
         → AdvancesInHand piece refuses cut_off reads buffer_of x (Ready (Some (Ok tt))) y
     found_shown x y s rest none is cut =
         let all : ahead buffer_of x ≡ buffer_of x.reader = ap (λ l. l ++ buffer_of x.reader) none in
@@ -124,7 +124,7 @@ module _ {T C E : Type 0} (piece : C → List ℕ → List ℕ → Type 0) (refu
       )
 
   -- A look at the bytes held and then at the first `n` of those shown.
-  module _ (x y : Lending T C) (n : ℕ) (fits : n ≤ length (buffer_of x.reader)) (waits : IsOpen piece refuses cut_off reads buffer_of x) where
+  module _ (x y : Lending T C) (n : ℕ) (fits : n ≤ length (buffer_of x.reader)) (waits : IsUnfinished piece refuses cut_off reads buffer_of x) where
     abbrev shown : List ℕ
     shown = buffer_of x.reader
 
@@ -136,7 +136,7 @@ module _ {T C E : Type 0} (piece : C → List ℕ → List ℕ → Type 0) (refu
 
     pub waits_behind : (least : ℕ) → 0 < n → reads x.reader (bytes (take n shown)) y.reader → buffer_of y.reader ≡ drop n shown
         → y.cutter ≡ x.cutter → y.held ≡ whole → x.room ≤ y.room → y.phase ≡ reading → y.span ≡ nowhere
-        → Cuts piece refuses x.cutter whole (More least) → LooksBehind piece refuses cut_off reads buffer_of x Pending y
+        → CutFound piece refuses x.cutter whole (More least) → LooksBehind piece refuses cut_off reads buffer_of x Pending y
     waits_behind least some came left cutter held room goes lent (less, still) = (
       take n shown,
       omega (arith, some, length-take-le n shown fits),
@@ -147,7 +147,7 @@ module _ {T C E : Type 0} (piece : C → List ℕ → List ℕ → Type 0) (refu
     pub refused_behind : (e : E) → BeginsNone piece refuses x.cutter whole e → BeginsNone piece refuses x.cutter (ahead buffer_of x) e
     refused_behind e bad = rw all_ahead (refused_front piece refuses x.cutter whole (drop n shown) e bad)
 
-    module _ (s : Span) (cut : Cuts piece refuses x.cutter whole (Whole s)) where
+    module _ (s : Span) (cut : CutFound piece refuses x.cutter whole (Whole s)) where
       long : length x.held ≤ s.size
       long = size_behind piece refuses x.cutter x.held (take n shown) s waits.2 cut
 
@@ -188,13 +188,13 @@ module _ {T C E : Type 0} (piece : C → List ℕ → List ℕ → Type 0) (refu
           held_long = omega (arith, ap length held, length-take-le s.size whole cut.0.2)
 
   -- The input ended.
-  pub ended_within : (x y : Lending T C) (e : E) → IsOpen piece refuses cut_off reads buffer_of x → y ≡ record x { phase = ended } → 0 < length x.held
+  pub ended_within : (x y : Lending T C) (e : E) → IsUnfinished piece refuses cut_off reads buffer_of x → y ≡ record x { phase = ended } → 0 < length x.held
       → cut_off x.cutter x.held e → Ends piece refuses cut_off reads buffer_of x (Some (Err (NoFrame e))) y
   ended_within x y e waits is some cut = rw is (((refl, waits.1), inr (refl, some, waits.2, cut)), refl, refl, refl, refl)
 
   -- The reader left the marks `last`.
   took_mark : (m y : Lending T C) (last : List ReadMark) → m.span ≡ nowhere → reads m.reader last y.reader → y.cutter ≡ m.cutter
-      → y.held ≡ m.held → m.room ≤ y.room → Took piece refuses cut_off reads buffer_of m [] last y
+      → y.held ≡ m.held → m.room ≤ y.room → TookFrom piece refuses cut_off reads buffer_of m [] last y
   took_mark m y last rest came cutter held room =
       record {
         ran = subst (λ u. reads m.reader (bytes (u ++ []) ++ last) y.reader) (sym (untaken_none buffer_of m rest)) came;
@@ -205,10 +205,10 @@ module _ {T C E : Type 0} (piece : C → List ℕ → List ℕ → Type 0) (refu
 
   module _ (laws : MarkLaws reads) where
     -- Nothing is shown, and no frame is whole.
-    pub still_waits : (m : Lending T C) → IsOpen piece refuses cut_off reads buffer_of m → buffer_of m.reader ≡ [] → AdvancesInHand piece refuses cut_off reads buffer_of m Pending m
+    pub still_waits : (m : Lending T C) → IsUnfinished piece refuses cut_off reads buffer_of m → buffer_of m.reader ≡ [] → AdvancesInHand piece refuses cut_off reads buffer_of m Pending m
     still_waits m waits none = inr (waits.0, [], took_none laws m m waits.1 refl refl refl (omega arith), (waits, none))
 
-    pub looked_on : (x m : Lending T C) → IsOpen piece refuses cut_off reads buffer_of x → LooksBehind piece refuses cut_off reads buffer_of x Pending m → (a : Answer (Result (Unit {0}) (FramesError E)))
+    pub looked_on : (x m : Lending T C) → IsUnfinished piece refuses cut_off reads buffer_of x → LooksBehind piece refuses cut_off reads buffer_of x Pending m → (a : Answer (Result (Unit {0}) (FramesError E)))
         (z : Lending T C) → AdvancesInHand piece refuses cut_off reads buffer_of m a z → AdvancesInHand piece refuses cut_off reads buffer_of x a z
     looked_on x m waits (xs, some, took, goes) a z k =
         in_hand_on piece refuses cut_off reads buffer_of laws x m z xs a waits.0 took goes.0 goes.1 k
@@ -248,7 +248,7 @@ module _ {T C E : Type 0} (piece : C → List ℕ → List ℕ → Type 0) (refu
           by : AdvancesInHand piece refuses cut_off reads buffer_of x Pending m → Advances piece refuses cut_off reads buffer_of x Pending y
           by (inl (_, wrong, _)) = cc wrong
           by (inr (was, xs, (took, _), (waits, _))) =
-              let goes : IsOpen piece refuses cut_off reads buffer_of y = rw is waits in
+              let goes : IsUnfinished piece refuses cut_off reads buffer_of y = rw is waits in
               advances_on piece refuses cut_off reads buffer_of laws x m y xs Pending was took waits (inr (
                 waits.0,
                 [],
@@ -296,7 +296,7 @@ module _ {T C E : Type 0} (piece : C → List ℕ → List ℕ → Type 0) (refu
         abbrev filled : Lending T C
         filled = record m { reader = s }
 
-        took_filled : (xs : List ℕ) → Took piece refuses cut_off reads buffer_of x xs [] m → Took piece refuses cut_off reads buffer_of x xs [] filled
+        took_filled : (xs : List ℕ) → TookFrom piece refuses cut_off reads buffer_of x xs [] m → TookFrom piece refuses cut_off reads buffer_of x xs [] filled
         took_filled xs t =
             record {
               ran = subst (λ l. reads x.reader l s) (append-nil _) (laws.follows _ _ _ _ _ t.ran came);
@@ -314,10 +314,10 @@ module _ {T C E : Type 0} (piece : C → List ℕ → List ℕ → Type 0) (refu
             by (inr (was, xs, (took, _), (waits, _))) (inr (goes, ys, (more, _), found)) =
                 advances_on piece refuses cut_off reads buffer_of laws x filled y xs (Ready r) was (took_filled xs took) waits (inr (goes, ys, [], more, found))
 
-        pub took_more : 0 < length (buffer_of s) → AdvancesInHand piece refuses cut_off reads buffer_of filled Pending y → Waits piece refuses cut_off reads buffer_of x y
+        pub took_more : 0 < length (buffer_of s) → AdvancesInHand piece refuses cut_off reads buffer_of filled Pending y → WaitsForMore piece refuses cut_off reads buffer_of x y
         took_more some k = by h k
           where
-            by : AdvancesInHand piece refuses cut_off reads buffer_of x Pending m → AdvancesInHand piece refuses cut_off reads buffer_of filled Pending y → Waits piece refuses cut_off reads buffer_of x y
+            by : AdvancesInHand piece refuses cut_off reads buffer_of x Pending m → AdvancesInHand piece refuses cut_off reads buffer_of filled Pending y → WaitsForMore piece refuses cut_off reads buffer_of x y
             by (inl (_, wrong, _)) k = cc wrong
             by (inr h) (inl (_, wrong, _)) = cc wrong
             by (inr (was, xs, (took, _), (waits, _))) (inr (goes, ys, (more, shown), (still, none))) =

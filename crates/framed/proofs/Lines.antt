@@ -1,6 +1,6 @@
 -- The lines of `LineDelimited` at the front of some bytes.
 use Rattle.std.specs.Prelude.{◌≡◌, ◌≢◌, ◌⊎◌, ◌≤◌, ◌<◌, ◌==◌, ◌+◌, ◌-◌, Bool, true, false, ℕ, zero, suc, List, [], ◌∷◌, ◌++◌, length, take, drop, IsErr, IsErrAnd, Option, Result, Ok, Err}
-use Rattle.std.proofs.Common.{◌∙◌, ap, append-nil, append_assoc, arith, eqb-true, inl, inr, length-append, length-take-le, refl, subst, sym, take-append-drop}
+use Rattle.std.proofs.Common.{◌∙◌, ap, append-nil, append_assoc, arith, eqb-true, inl, inr, length-append, length-take-le, refl, sym, take-append-drop}
 use Rattle.std.proofs.lemmas.Bool.{cases_lt, eqb-false}
 use Rattle.std.proofs.lemmas.List.Elements.{All-cons, All-nil, All-take}
 use Rattle.std.proofs.lemmas.List.{take-take}
@@ -10,7 +10,7 @@ use Rattle.tokio_util.specs.Codec.Next.{Decodes}
 use Rattle.framed.specs.FrameErrors.{SaysOutOfMemory}
 use Rattle.framed.specs.Heads.{FindsDelimiter, none_within, text_has_none, text_length, up_to_text, with_delimiter}
 use Rattle.framed.specs.LineDelimited.{HasNoNewline, IsLongLineCut, LineOf, gives_line_delimited, with_newline}
-use Rattle.framed.specs.Cutting.{Cuts}
+use Rattle.framed.specs.Cutting.{CutFound}
 use Rattle.framed.specs.Pieces.{Undecided}
 use Rattle.framed.specs.declared.cut.Cut.TheVariants.{Whole}
 use Rattle.framed.specs.declared.cut_error.CutError.TheVariants as small
@@ -90,7 +90,7 @@ seen_has_none c xs (suc seen) undecided = open_has_none c (take (suc seen) xs) (
 -- The text before a newline that was found, with the length of the line in it.
 pub line_cut : (c : LineDelimited) (xs : List ℕ) (at k : ℕ) → FindsDelimiter 10 c.max xs (At at) → k ≤ length (take at xs)
     → take k (take at xs) ≡ without_return (take at xs)
-    → Cuts LineOf IsLongLineCut c xs (Whole (record { from = 0; to = k; size = at + 1 }))
+    → CutFound LineOf IsLongLineCut c xs (Whole (record { from = 0; to = k; size = at + 1 }))
 line_cut c xs at k found short line =
     let max = c.max in
     let long = text_length 10 max xs at found in

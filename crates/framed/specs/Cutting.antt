@@ -10,10 +10,11 @@ use Rattle.framed.specs.declared.cut.Span.{Span}
 abbrev pub IsWithin : Span → ℕ → Type 0
 IsWithin s n = (s.from ≤ s.to) × (s.to ≤ s.size) × (s.size ≤ n)
 
--- The bytes of the frame, and those of its body.
+-- The bytes of the frame.
 abbrev pub frame_at : Span → List ℕ → List ℕ
 frame_at s xs = take s.size xs
 
+-- The bytes of its body.
 abbrev pub body_at : Span → List ℕ → List ℕ
 body_at s xs = slice_range xs s.from s.to
 
@@ -38,10 +39,10 @@ module _ {C E : Type 0} (piece : C → List ℕ → List ℕ → Type 0) (refuse
 
   -- What is found at the front of some bytes: a frame; or none, and how many bytes there have to be; or that they begin
   -- none.
-  abbrev pub Cuts : C → List ℕ → Cut E → Type 0
-  Cuts c xs (Whole s) = IsWithin s (length xs) × piece c (body_at s xs) (frame_at s xs)
-  Cuts c xs (More least) = (length xs < least) × OpenUntil c least xs
-  Cuts c xs (Refused e) = BeginsNone c xs e
+  abbrev pub CutFound : C → List ℕ → Cut E → Type 0
+  CutFound c xs (Whole s) = IsWithin s (length xs) × piece c (body_at s xs) (frame_at s xs)
+  CutFound c xs (More least) = (length xs < least) × OpenUntil c least xs
+  CutFound c xs (Refused e) = BeginsNone c xs e
 
 -- What is undecided by filled buffers and errors is undecided by lists of bytes and smaller errors.
 pub by_bytes : {C E F : Type 0} (piece : C → List ℕ → List ℕ → Type 0) (refuses : C → List ℕ → F → Type 0) (as_error : E → F)

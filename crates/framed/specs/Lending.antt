@@ -3,8 +3,7 @@ use Rattle.std.specs.Prelude.{◌≡◌, ◌⊎◌, ◌≤◌, ◌<◌, ◌-◌,
 use Rattle.std.specs.Prelude.{Option, Some, None, Result, Ok, Err, IfSome, IsSome}
 use Rattle.std.specs.IoError.{error_kind}
 use Rattle.std.specs.declared.io.Error.{Error}
-use Rattle.std.specs.declared.io.ErrorKind.{ErrorKind}
-use Rattle.framed.specs.Uses.{Answer, Pending, Ranks, ReadMark, Ready, Runs, bytes}
+use Rattle.framed.specs.Uses.{Answer, Pending, ReadMark, Ready, Runs, bytes}
 use Rattle.framed.specs.Cutting.{BeginsNone, IsWithin, OpenUntil, body_at, frame_at}
 use Rattle.framed.specs.Frames.{Phase, ended, reading}
 use Rattle.framed.specs.Pieces.{Undecided}
@@ -67,15 +66,15 @@ kept x = drop x.span.size x.held
 module _ {T C E : Type 0} (piece : C → List ℕ → List ℕ → Type 0) (refuses : C → List ℕ → E → Type 0) (cut_off : C → List ℕ → E → Type 0)
     (reads : Runs ReadMark T) (buffer_of : T → List ℕ) where
   -- The lent frame was let go. Then the bytes `xs` were taken from the reader, which then left the marks `last`.
-  pub record Took (x : Lending T C) (xs : List ℕ) (last : List ReadMark) (y : Lending T C) : Type 0 where
+  pub record TookFrom (x : Lending T C) (xs : List ℕ) (last : List ReadMark) (y : Lending T C) : Type 0 where
     pub ran : reads x.reader (bytes (untaken buffer_of x ++ xs) ++ last) y.reader
     pub cutter : y.cutter ≡ x.cutter
     pub held : y.held ≡ kept x ++ xs
     pub room : x.room ≤ y.room
 
   -- No frame is lent, and none is whole in the bytes held.
-  abbrev pub IsOpen : Lending T C → Type 0
-  IsOpen y = (y.phase ≡ reading) × (y.span ≡ nowhere) × Undecided piece refuses y.cutter y.held
+  abbrev pub IsUnfinished : Lending T C → Type 0
+  IsUnfinished y = (y.phase ≡ reading) × (y.span ≡ nowhere) × Undecided piece refuses y.cutter y.held
 
   -- A frame is lent: it is the first of the bytes that come next.
   abbrev pub Lends : Lending T C → Type 0
@@ -88,18 +87,18 @@ module _ {T C E : Type 0} (piece : C → List ℕ → List ℕ → Type 0) (refu
 
   -- Why no frame is lent, if the reader left the marks `last`: the bytes begin none, or the input ended within one; memory
   -- was refused, and there was no room; or the reader failed.
-  abbrev pub Stops : Lending T C → List ReadMark → FramesError E → Lending T C → Type 0
-  Stops x last (NoFrame e) y = ((last ≡ []) × BeginsNone piece refuses y.cutter (ahead buffer_of y) e)
+  abbrev pub StopsLending : Lending T C → List ReadMark → FramesError E → Lending T C → Type 0
+  StopsLending x last (NoFrame e) y = ((last ≡ []) × BeginsNone piece refuses y.cutter (ahead buffer_of y) e)
       ⊎ ((last ≡ ReadMark.end ∷ []) × (0 < length y.held) × Undecided piece refuses y.cutter y.held × cut_off y.cutter y.held e)
-  Stops x last OutOfMemory y = (last ≡ []) × (x.room < length (ahead buffer_of y))
-  Stops x last (Reader kind) y = (last ≡ ReadMark.fault kind ∷ []) × Undecided piece refuses y.cutter y.held
+  StopsLending x last OutOfMemory y = (last ≡ []) × (x.room < length (ahead buffer_of y))
+  StopsLending x last (Reader kind) y = (last ≡ ReadMark.fault kind ∷ []) × Undecided piece refuses y.cutter y.held
       × IsSome y.error × IfSome y.error (λ e. error_kind e ≡ kind)
 
   -- What is returned then.
   abbrev pub Finds : Lending T C → List ReadMark → Answer (Result (Unit {0}) (FramesError E)) → Lending T C → Type 0
-  Finds x last Pending y = (last ≡ ReadMark.pending ∷ []) × IsOpen y × (buffer_of y.reader ≡ [])
+  Finds x last Pending y = (last ≡ ReadMark.pending ∷ []) × IsUnfinished y × (buffer_of y.reader ≡ [])
   Finds x last (Ready (Some (Ok u))) y = (last ≡ []) × Lends y
-  Finds x last (Ready (Some (Err e))) y = IsOver y × Stops x last e y
+  Finds x last (Ready (Some (Err e))) y = IsOver y × StopsLending x last e y
   Finds x last (Ready None) y = (last ≡ ReadMark.end ∷ []) × IsOver y × (y.held ≡ []) × Undecided piece refuses y.cutter []
 
   -- After the end and after an error there is no frame.
@@ -109,17 +108,18 @@ module _ {T C E : Type 0} (piece : C → List ℕ → List ℕ → Type 0) (refu
   -- One poll for the next frame.
   abbrev pub Advances : Lending T C → Answer (Result (Unit {0}) (FramesError E)) → Lending T C → Type 0
   Advances x a y = StaysOver x a y
-      ⊎ ((x.phase ≡ reading) × (xs : List ℕ) × (last : List ReadMark) × Took x xs last y × Finds x last a y)
+      ⊎ ((x.phase ≡ reading) × (xs : List ℕ) × (last : List ReadMark) × TookFrom x xs last y × Finds x last a y)
 
   -- The bytes that were taken are the first of those shown.
   abbrev pub TookShown : Lending T C → List ℕ → Lending T C → Type 0
-  TookShown x xs y = Took x xs [] y × (buffer_of x.reader ≡ (untaken buffer_of x ++ xs) ++ buffer_of y.reader)
+  TookShown x xs y = TookFrom x xs [] y × (buffer_of x.reader ≡ (untaken buffer_of x ++ xs) ++ buffer_of y.reader)
 
   -- What is known without a read. `Pending`: all bytes shown were taken, and no frame is whole.
   abbrev pub FindsInHand : Lending T C → Answer (Result (Unit {0}) (FramesError E)) → Lending T C → Type 0
-  FindsInHand x Pending y = IsOpen y × (buffer_of y.reader ≡ [])
+  FindsInHand x Pending y = IsUnfinished y × (buffer_of y.reader ≡ [])
   FindsInHand x (Ready r) y = Finds x [] (Ready r) y
 
+  -- What a call that does not read may do.
   abbrev pub AdvancesInHand : Lending T C → Answer (Result (Unit {0}) (FramesError E)) → Lending T C → Type 0
   AdvancesInHand x a y = StaysOver x a y
       ⊎ ((x.phase ≡ reading) × (xs : List ℕ) × TookShown x xs y × FindsInHand x a y)
@@ -131,18 +131,18 @@ module _ {T C E : Type 0} (piece : C → List ℕ → List ℕ → Type 0) (refu
 
   -- A look at the bytes held alone. `Pending`: no frame is whole in them.
   abbrev pub LooksLoose : Lending T C → Answer (Result (Unit {0}) (FramesError E)) → Lending T C → Type 0
-  LooksLoose x Pending y = (y ≡ x) × IsOpen y
+  LooksLoose x Pending y = (y ≡ x) × IsUnfinished y
   LooksLoose x (Ready r) y = AdvancesInHand x (Ready r) y
 
   -- A look at them and at some of those shown. `Pending`: these were taken, and no frame is whole.
   abbrev pub LooksBehind : Lending T C → Answer (Result (Unit {0}) (FramesError E)) → Lending T C → Type 0
-  LooksBehind x Pending y = (xs : List ℕ) × (0 < length xs) × TookShown x xs y × IsOpen y
+  LooksBehind x Pending y = (xs : List ℕ) × (0 < length xs) × TookShown x xs y × IsUnfinished y
   LooksBehind x (Ready r) y = AdvancesInHand x (Ready r) y
 
   -- A step within a poll: some bytes were taken, and no frame is whole yet.
-  pub record Waits (x y : Lending T C) : Type 0 where
+  pub record WaitsForMore (x y : Lending T C) : Type 0 where
     pub taken : List ℕ
     pub some : 0 < length (untaken buffer_of x ++ taken)
     pub was : x.phase ≡ reading
-    pub took : Took x taken [] y
-    pub waits : IsOpen y
+    pub took : TookFrom x taken [] y
+    pub waits : IsUnfinished y

@@ -1,13 +1,13 @@
 -- Laws of lent frames.
-use Rattle.std.specs.Prelude.{◌≡◌, ◌⊎◌, ◌≤◌, ◌<◌, ◌-◌, ℕ, List, [], ◌∷◌, ◌++◌, drop, length, take}
-use Rattle.std.specs.Prelude.{Option, Some, None, Result, Ok, Err}
-use Rattle.std.proofs.Common.{◌∙◌, ap, append-nil, append_assoc, arith, inl, inr, refl, subst, sym}
+use Rattle.std.specs.Prelude.{◌≡◌, ◌≤◌, ◌-◌, ℕ, List, [], ◌++◌, drop, length, take}
+use Rattle.std.specs.Prelude.{Some, None, Result, Ok, Err}
+use Rattle.std.proofs.Common.{◌∙◌, ap, append-nil, append_assoc, arith, inl, inr, subst, sym}
 use Rattle.framed.specs.Uses.{Answer, MarkLaws, Pending, Ranks, Reaches, ReadCounting, ReadMark, Ready, Runs, bytes}
 use Rattle.lite_base.specs.Laws.Chain.{steps_answer}
 use Rattle.lite_io_base.specs.Laws.Counting.{GivenRun, given_of}
 use Rattle.framed.specs.FrameLaws.{join_marks}
 use Rattle.framed.specs.Frames.{reading}
-use Rattle.framed.specs.Lending.{Advances, AdvancesInHand, Finds, FindsInHand, IsOpen, Lending, StaysOver, Took, TookShown, Waits, kept, nowhere, untaken}
+use Rattle.framed.specs.Lending.{Advances, AdvancesInHand, Finds, FindsInHand, IsUnfinished, Lending, TookFrom, TookShown, WaitsForMore, kept, nowhere, untaken}
 use Rattle.framed.specs.declared.frames_error.FramesError.{FramesError}
 use Rattle.framed.specs.declared.frames_error.FramesError.TheVariants.{NoFrame, OutOfMemory, Reader}
 
@@ -35,8 +35,8 @@ module _ {T C E : Type 0} (piece : C → List ℕ → List ℕ → Type 0) (refu
   module _ (laws : MarkLaws reads) where
     -- Bytes were taken, and then more.
     pub took_on : (x m z : Lending T C) (ys xs : List ℕ) (last : List ReadMark) → m.span ≡ nowhere
-        → Took piece refuses cut_off reads buffer_of x ys [] m → Took piece refuses cut_off reads buffer_of m xs last z
-        → Took piece refuses cut_off reads buffer_of x (ys ++ xs) last z
+        → TookFrom piece refuses cut_off reads buffer_of x ys [] m → TookFrom piece refuses cut_off reads buffer_of m xs last z
+        → TookFrom piece refuses cut_off reads buffer_of x (ys ++ xs) last z
     took_on x m z ys xs last rest t k =
         record {
           ran =
@@ -51,7 +51,7 @@ module _ {T C E : Type 0} (piece : C → List ℕ → List ℕ → Type 0) (refu
         }
 
     pub advances_on : (x m z : Lending T C) (ys : List ℕ) (a : Answer (Result (Unit {0}) (FramesError E))) → x.phase ≡ reading
-        → Took piece refuses cut_off reads buffer_of x ys [] m → IsOpen piece refuses cut_off reads buffer_of m
+        → TookFrom piece refuses cut_off reads buffer_of x ys [] m → IsUnfinished piece refuses cut_off reads buffer_of m
         → Advances piece refuses cut_off reads buffer_of m a z → Advances piece refuses cut_off reads buffer_of x a z
     advances_on x m z ys a was t waits (inl (over, _, _)) = let e = sym waits.0 ∙ over in cc e
     advances_on x m z ys a was t waits (inr (_, xs, last, k, found)) =
@@ -76,13 +76,13 @@ module _ {T C E : Type 0} (piece : C → List ℕ → List ℕ → Type 0) (refu
         by Pending h = h
         by (Ready r) h = finds_on x m z [] (Ready r) t.room h
 
-    step_before : (x m z : Lending T C) (a : Answer (Result (Unit {0}) (FramesError E))) → Waits piece refuses cut_off reads buffer_of x m
+    step_before : (x m z : Lending T C) (a : Answer (Result (Unit {0}) (FramesError E))) → WaitsForMore piece refuses cut_off reads buffer_of x m
         → Advances piece refuses cut_off reads buffer_of m a z → Advances piece refuses cut_off reads buffer_of x a z
     step_before x m z a w h = advances_on x m z w.taken a w.was w.took w.waits h
 
     -- Steps that take bytes, followed by a poll result, are one step with that result.
     pub advances_ran : {x z : Lending T C} {a : Answer (Result (Unit {0}) (FramesError E))}
-        → (y : Lending T C) × Reaches (Waits piece refuses cut_off reads buffer_of) x y × Advances piece refuses cut_off reads buffer_of y a z
+        → (y : Lending T C) × Reaches (WaitsForMore piece refuses cut_off reads buffer_of) x y × Advances piece refuses cut_off reads buffer_of y a z
         → Advances piece refuses cut_off reads buffer_of x a z
     advances_ran = steps_answer step_before
 
@@ -95,6 +95,6 @@ module _ {T C E : Type 0} (piece : C → List ℕ → List ℕ → Type 0) (refu
 module _ {T C E : Type 0} {piece : C → List ℕ → List ℕ → Type 0} {refuses : C → List ℕ → E → Type 0} {cut_off : C → List ℕ → E → Type 0}
     {reads : Runs ReadMark T} {buffer_of : T → List ℕ} where
   -- A step that takes bytes lowers the reader's rank.
-  pub takes_given : (x y : Lending T C) → Waits piece refuses cut_off reads buffer_of x y → GivenRun reads x.reader y.reader
+  pub takes_given : (x y : Lending T C) → WaitsForMore piece refuses cut_off reads buffer_of x y → GivenRun reads x.reader y.reader
   takes_given x y w =
       given_of reads _ _ (untaken buffer_of x ++ w.taken) w.some (subst (λ l. reads x.reader l y.reader) (append-nil _) w.took.ran)

@@ -1,6 +1,6 @@
 //! What finds frames in bytes.
 ghost use Rattle.std.specs.Prelude.{◌≤◌, ◌<◌, List, length, take, ℕ};
-ghost use Rattle.framed.specs.Cutting.{Cuts, NoneEmpty, OneFrame};
+ghost use Rattle.framed.specs.Cutting.{CutFound, NoneEmpty, OneFrame};
 ghost use Rattle.framed.specs.Pieces.{Undecided};
 
 use crate::cut::Cut;
@@ -41,12 +41,31 @@ pub trait Cutter {
     ///
     /// The caller guarantees that there is no whole frame in the first `seen` bytes, and that they are not refused. So a
     /// search may go on behind them.
+    ///
+    /// # Examples
+    ///
+    /// ```
+    /// use framed::{Cut, CutError, Cutter, LengthDelimited};
+    ///
+    /// let codec = LengthDelimited { max: 9 };
+    /// assert_eq!(rt; codec.cut(b"\0\0", 0), Cut::More(4));
+    /// assert_eq!(rt; codec.cut(b"\0\0\0\x05", 2), Cut::More(9));
+    /// assert_eq!(rt; codec.cut(b"\0\0\0\x0a", 2), Cut::Refused(CutError::TooLong(10)));
+    /// ```
     fn cut(&self, bytes: &[u8], seen: usize) -> Cut<Self::Error>
         requires within { seen ≤ length bytes.now }
         requires undecided { 0 < seen → Undecided piece refuses self.now (take seen bytes.now) }
-        ensures { Cuts piece refuses self.now bytes.now result };
+        ensures { CutFound piece refuses self.now bytes.now result };
 
     /// Returns the error if the input ends behind `bytes`, in which no frame is whole.
+    ///
+    /// # Examples
+    ///
+    /// ```
+    /// use framed::{CutError, Cutter, LineDelimited};
+    ///
+    /// assert_eq!(rt; (LineDelimited { max: 100 }).at_end(b"hel"), CutError::CutOff);
+    /// ```
     fn at_end(&self, bytes: &[u8]) -> Self::Error
         ensures { cut_off self.now bytes.now result };
 

@@ -7,9 +7,9 @@ ghost use Rattle.lite_base.specs.Laws.Ranks.{Terminates-map};
 ghost use Rattle.lite_io_base.specs.Runs.{OnlyOkLends};
 ghost use Rattle.framed.specs.Pieces.{Undecided};
 ghost use Rattle.framed.specs.declared.frames_error.FramesError.TheVariants.{Reader};
-ghost use Rattle.framed.specs.Cutting.{Cuts, OpenUntil};
+ghost use Rattle.framed.specs.Cutting.{CutFound, OpenUntil};
 ghost use Rattle.framed.specs.Frames.{ended, reading};
-ghost use Rattle.framed.specs.Lending.{Advances, AdvancesInHand, Ends, IsOpen, IsResting, LooksBehind, LooksLoose, Waits};
+ghost use Rattle.framed.specs.Lending.{Advances, AdvancesInHand, Ends, IsUnfinished, IsResting, LooksBehind, LooksLoose, WaitsForMore};
 ghost use Rattle.framed.specs.Lending.{kept, lent_body, nowhere, untaken};
 ghost use Rattle.framed.specs.LendingLaws.{takes_given};
 
@@ -421,7 +421,7 @@ impl<T: AsyncBufRead, C: Cutter> Frames<T, C> {
 
     // Puts bytes that the reader shows behind those held, in which no frame is whole, and looks for a frame.
     fn look_behind(&mut self) -> Poll<Found<C::Error>>
-        requires waits { IsOpen C.piece C.refuses C.cut_off T.reads T.buffer_of self.old }
+        requires waits { IsUnfinished C.piece C.refuses C.cut_off T.reads T.buffer_of self.old }
         requires some { 0 < length (T.buffer_of self.old.reader) }
         ensures { LooksBehind C.piece C.refuses C.cut_off T.reads T.buffer_of self.old result self.new }
     {
@@ -455,7 +455,7 @@ impl<T: AsyncBufRead, C: Cutter> Frames<T, C> {
 
     // What the end of the input says of the bytes held, in which no frame is whole.
     fn last(&mut self) -> Found<C::Error>
-        requires { IsOpen C.piece C.refuses C.cut_off T.reads T.buffer_of self.old }
+        requires { IsUnfinished C.piece C.refuses C.cut_off T.reads T.buffer_of self.old }
         ensures { Ends C.piece C.refuses C.cut_off T.reads T.buffer_of self.old result self.new }
     {
         if self.held.is_empty() {
@@ -504,7 +504,7 @@ fn cut_behind<C: Cutter>(cutter: &C, held: &[u8], seen: usize, least: usize) -> 
     requires within { seen ≤ length held.now }
     requires undecided { Undecided C.piece C.refuses cutter.now (take seen held.now) }
     requires still { OpenUntil C.piece C.refuses cutter.now least held.now }
-    ensures { Cuts C.piece C.refuses cutter.now held.now result }
+    ensures { CutFound C.piece C.refuses cutter.now held.now result }
 {
     if held.len() < least {
         return Cut::More(least);
@@ -532,7 +532,7 @@ impl<T: AsyncBufRead + CountedRead, C: Cutter> PollSteps for Frames<T, C> {
 
     ghost can_step = { λ x. T.ranks.counts x.reader };
 
-    ghost step = { OneStep (Waits C.piece C.refuses C.cut_off T.reads T.buffer_of)
+    ghost step = { OneStep (WaitsForMore C.piece C.refuses C.cut_off T.reads T.buffer_of)
         (Advances C.piece C.refuses C.cut_off T.reads T.buffer_of) };
 
     ghost step_registers = { λ x. T.registers x.reader };

@@ -129,11 +129,11 @@ impl Cutter for LengthDelimited {
         if bytes.len() < 4 {
             return Cut::More(4);
         }
-        let length = length_of(bytes);
-        if length > self.max {
-            return Cut::Refused(CutError::TooLong(length as usize));
+        let payload = length_of(bytes);
+        if payload > self.max {
+            return Cut::Refused(CutError::TooLong(payload as usize));
         }
-        let size = 4 + length as usize;
+        let size = 4 + payload as usize;
         if bytes.len() < size {
             return Cut::More(size);
         }

@@ -1,4 +1,4 @@
-use Rattle.std.specs.Prelude.{◌≡◌, ◌<◌, [], length}
+use Rattle.std.specs.Prelude.{◌<◌, length}
 use Rattle.std.proofs.Common.{refl, rules}
 use Rattle.framed.proofs.Lending.{ended_within}
 use Rattle.framed.proofs.frames.Frames.last.Goals as goal

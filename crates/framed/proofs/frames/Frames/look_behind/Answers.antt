@@ -1,6 +1,6 @@
-use Rattle.std.specs.Prelude.{◌≡◌, ◌≤◌, ◌<◌, ◌-◌, ◌+◌, ◌++◌, [], drop, length, take, vec_capacity}
-use Rattle.std.proofs.Common.{◌∙◌, ap, arith, inl, length-append, length-take-le, refl, rules, sym, take_at}
-use Rattle.framed.specs.Cutting.{Cuts}
+use Rattle.std.specs.Prelude.{◌≡◌, ◌≤◌, ◌<◌, ◌+◌, ◌++◌, length, take, vec_capacity}
+use Rattle.std.proofs.Common.{◌∙◌, ap, arith, inl, length-append, length-take-le, refl, rules, take_at}
+use Rattle.framed.specs.Cutting.{CutFound}
 use Rattle.framed.specs.declared.cut.Cut.TheVariants.{More, Refused, Whole}
 use Rattle.framed.specs.declared.frames_error.FramesError.TheVariants.{NoFrame, OutOfMemory}
 use Rattle.framed.proofs.Lending.{found_behind, refused_behind, size_behind, stopped, waits_behind}
@@ -24,7 +24,7 @@ overflow_sub-span g c =
     let n = c.min-taken.result in
     let fits : n ≤ length shown = search rules in
     let held : c.extend_from_slice.new.self.items ≡ c.self.inside.held.items ++ take n shown = search rules in
-    let cut : Cuts g.C.Cutter.piece g.C.Cutter.refuses c.self.inside.cutter (c.self.inside.held.items ++ take n shown)
+    let cut : CutFound g.C.Cutter.piece g.C.Cutter.refuses c.self.inside.cutter (c.self.inside.held.items ++ take n shown)
     (Whole c.in-Whole.span) = rw (c.in-Whole.is, c.deref.ensures.value, held) at c.cut_behind.ensures in
     let waits = rw (← c.self.view_is) at c.requires.waits in
     let long : c.len-seen.result ≡ length c.self.inside.held.items = search rules in
@@ -36,7 +36,7 @@ returns-in-Whole g c =
     let n = c.min-taken.result in
     let fits : n ≤ length shown = search rules in
     let held : c.extend_from_slice.new.self.items ≡ c.self.inside.held.items ++ take n shown = search rules in
-    let cut : Cuts g.C.Cutter.piece g.C.Cutter.refuses c.self.inside.cutter (c.self.inside.held.items ++ take n shown)
+    let cut : CutFound g.C.Cutter.piece g.C.Cutter.refuses c.self.inside.cutter (c.self.inside.held.items ++ take n shown)
     (Whole c.in-Whole.span) = rw (c.in-Whole.is, c.deref.ensures.value, held) at c.cut_behind.ensures in
     let waits = rw (← c.self.view_is) at c.requires.waits in
     let long : c.len-seen.result ≡ length c.self.inside.held.items = search rules in
@@ -52,7 +52,7 @@ returns-in-More g c =
     let n = c.min-taken.result in
     let fits : n ≤ length shown = search rules in
     let held : c.extend_from_slice.new.self.items ≡ c.self.inside.held.items ++ take n shown = search rules in
-    let cut : Cuts g.C.Cutter.piece g.C.Cutter.refuses c.self.inside.cutter (c.self.inside.held.items ++ take n shown)
+    let cut : CutFound g.C.Cutter.piece g.C.Cutter.refuses c.self.inside.cutter (c.self.inside.held.items ++ take n shown)
     (More c.in-More.least) = rw (c.in-More.is, c.deref.ensures.value, held) at c.cut_behind.ensures in
     let waits = rw (← c.self.view_is) at c.requires.waits in
     let some : 0 < n = search rules in
@@ -66,7 +66,7 @@ returns-in-Refused g c =
     let n = c.min-taken.result in
     let fits : n ≤ length shown = search rules in
     let held : c.extend_from_slice.new.self.items ≡ c.self.inside.held.items ++ take n shown = search rules in
-    let cut : Cuts g.C.Cutter.piece g.C.Cutter.refuses c.self.inside.cutter (c.self.inside.held.items ++ take n shown)
+    let cut : CutFound g.C.Cutter.piece g.C.Cutter.refuses c.self.inside.cutter (c.self.inside.held.items ++ take n shown)
     (Refused c.in-Refused.e) = rw (c.in-Refused.is, c.deref.ensures.value, held) at c.cut_behind.ensures in
     let waits = rw (← c.self.view_is) at c.requires.waits in
     let before : c.truncate-in-Refused.new.self.items ≡ c.self.inside.held.items =

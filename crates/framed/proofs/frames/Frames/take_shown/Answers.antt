@@ -1,4 +1,4 @@
-use Rattle.std.specs.Prelude.{◌≡◌, ◌++◌, [], length}
+use Rattle.std.specs.Prelude.{◌≡◌, ◌++◌, length}
 use Rattle.std.proofs.Common.{◌∙◌, arith, rules, refl}
 use Rattle.std.proofs.lemmas.List.{drop_all, take_all}
 use Rattle.framed.proofs.Lending.{took_all}

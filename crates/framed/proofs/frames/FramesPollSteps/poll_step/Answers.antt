@@ -1,8 +1,8 @@
-use Rattle.std.specs.Prelude.{◌≡◌, ◌<◌, [], Err, Ok, false, length, true}
+use Rattle.std.specs.Prelude.{◌≡◌, Err, Ok, false, true}
 use Rattle.std.proofs.Common.{rules, subst}
 use Rattle.framed.specs.Lending.{Ends}
 use Rattle.framed.specs.Uses.{Pending, Ready}
-use Rattle.framed.proofs.Lending.{answered, at_end, failed, pended, took_more}
+use Rattle.framed.proofs.Lending.{answered, at_end, failed, took_more}
 use Rattle.framed.proofs.Steps.{no_mark, none_shown, some_shown}
 use Rattle.framed.proofs.frames.FramesPollSteps.poll_step.Goals as goal
 
