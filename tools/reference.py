@@ -57,6 +57,7 @@ GROUPS = {
     },
     "framed": {
         "Frames of a reader": tuple(f"framed/src/{it}.rt" for it in ("collect", "framed_read", "next_frame", "send", "send_all")),
+        "Frames that are lent": tuple(f"framed/src/{it}.rt" for it in ("frames", "frames_error", "cutter", "cut", "cut_error")),
         "Codecs": ("framed/src/length_delimited.rt", "framed/src/line_delimited.rt", "framed/src/frame_error.rt"),
         "Parts of a codec": tuple(f"framed/src/{it}.rt" for it in ("delimiter", "head", "hexadecimal")),
         "Serving": ("framed/src/server.rt", "framed/src/service.rt", "framed/src/serve_error.rt"),

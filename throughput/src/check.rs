@@ -41,6 +41,7 @@ const NUMBERS: [(&str, u64, u64); 68] = [
     ("made_values", 6, 120),
     ("made_chunks", 6, 132),
     ("values", 1000, 16000),
+    ("lent_values", 1000, 16000),
     ("values_by_hand", 1000, 16000),
     ("take_body", 1000, 16000),
     ("served_lines", 1000, 16000),

@@ -1,18 +1,20 @@
 -- Delimiters and bodies at the front of some bytes.
 use Rattle.std.specs.Prelude.{◌≡◌, ◌≢◌, ◌≤◌, ◌<◌, ◌+◌, ◌-◌, ◌^◌, Bool, true, false, not, ℕ, zero, suc, List, ◌∷◌, ◌++◌}
-use Rattle.std.specs.Prelude.{IsErr, IsErrAnd, Option, Some, None, Result, Ok, Err, decimal, drop, length, slice_index, take}
+use Rattle.std.specs.Prelude.{IsErr, IsErrAnd, Option, Some, None, Result, Ok, Err, decimal, drop, length, slice_index, slice_range, take}
 use Rattle.std.specs.Result.{result_ok}
 use Rattle.std.specs.Str.{IsUtf8, bytes_eq}
 use Rattle.std.specs.Str.Parse.{AllDigits, IsNumeral, ParsesUnsigned, digits_value}
-use Rattle.std.proofs.Common.{◌∙◌, ap, arith, inl, inr, length-drop, length-take-le, refl, sym, take-add, take-append-drop}
+use Rattle.std.proofs.Common.{◌∙◌, ap, arith, inl, inr, length-drop, length-append, length-take-le, refl, subst, sym, take-add, take-append-drop}
 use Rattle.std.proofs.lemmas.Fmt.{IsAscii-decimal, decimal-digits_value, decimal_digit, first_decimal, parse-decimal}
-use Rattle.std.proofs.lemmas.List.{drop-drop, drop_at, drop_more, get_or-take, take-take}
+use Rattle.std.proofs.Math.Seq.{take-append-add}
+use Rattle.std.proofs.lemmas.List.{drop-drop, drop_at, drop_more, get_or-append-add, get_or-take, take-take}
+use Rattle.std.proofs.lemmas.List.Elements.{All-append, All-take}
 use Rattle.std.proofs.lemmas.Slice.Eq.{bytes_eq-Decides}
 use Rattle.std.proofs.lemmas.Str.{IsUtf8-from_ascii}
 use Rattle.std.proofs.lemmas.Str.Parse.{numerals_by_value, tells_digits, without_leading_plus_none}
 use Rattle.bytes.specs.Filled.{Filled}
 use Rattle.framed.specs.FrameErrors.{SaysOutOfMemory}
-use Rattle.framed.specs.Heads.{FindsDelimiter, FirstAt, ReadsDecimal, TakesBody}
+use Rattle.framed.specs.Heads.{FindsDelimiter, FirstAt, HasNo, ReadsDecimal, TakesBody}
 use Rattle.framed.specs.declared.frame_error.FrameError.{FrameError}
 use Rattle.framed.specs.declared.frame_error.FrameError.TheVariants.{Malformed}
 use Rattle.framed.specs.declared.delimiter.Delimiter.TheVariants.{At}
@@ -135,3 +137,29 @@ module _ (text : List ℕ) where
         sym (decimal-digits_value (numerals_by_value (AllDigits 10) tells_digits) text digits.1 digits.0 alone small) ∙ ap decimal (sym value),
       )
   parsed (Err e) plain alone none = λ n small is. cc (parse-decimal 64 n text (Err e) small small is none)
+
+-- A search goes on behind the first `seen` bytes, which have no such byte.
+module _ (byte seen from n : ℕ) (xs : List ℕ) (lacks : HasNo byte (take seen xs)) (low : from ≤ seen) (before : from ≤ n)
+    (within : n ≤ length xs) where
+  searched_is : take n xs ≡ take from xs ++ slice_range xs from n
+  searched_is = ap (λ k. take k xs) (omega (arith, before)) ∙ take-add from (n - from) xs
+
+  front_lacks : HasNo byte (take from xs)
+  front_lacks = rw (take-take from seen xs low) at (All-take (λ b. b ≢ byte) from (take seen xs) lacks)
+
+  front_long : length (take from xs) ≡ from
+  front_long = length-take-le from xs (omega (arith, before, within))
+
+  pub none_behind : FirstAt byte (slice_range xs from n) None → FirstAt byte (take n xs) None
+  none_behind none = rw searched_is (All-append (λ b. b ≢ byte) (take from xs) (slice_range xs from n) front_lacks none)
+
+  pub first_behind : (at : ℕ) → FirstAt byte (slice_range xs from n) (Some at) → FirstAt byte (take n xs) (Some (from + at))
+  first_behind at (inside, here, none) =
+      rw searched_is (
+        omega (arith, inside, front_long, length-append (take from xs) (slice_range xs from n)),
+        ap (λ k. slice_index (take from xs ++ slice_range xs from n) (k + at)) (sym front_long)
+            ∙ get_or-append-add (take from xs) (slice_range xs from n) at 0 ∙ here,
+        subst (λ l. HasNo byte l) (sym (ap (λ k. take (k + at) (take from xs ++ slice_range xs from n)) (sym front_long)
+            ∙ take-append-add (take from xs) (slice_range xs from n) at))
+            (All-append (λ b. b ≢ byte) (take from xs) (take at (slice_range xs from n)) front_lacks none),
+      )

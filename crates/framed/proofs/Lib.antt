@@ -7,3 +7,4 @@ mod Collecting
 mod Delimited
 mod Lines
 mod Heads
+mod Lending

@@ -2,6 +2,7 @@
 use Rattle.std.specs.Prelude.{◌≡◌, ◌≤◌, ◌<◌, ◌^◌, ℕ, List, ◌++◌, length}
 use Rattle.std.proofs.Common.{ap, append_assoc, arith, sym, ◌∙◌}
 use Rattle.bytes.specs.Filled.{Filled}
+use Rattle.framed.specs.Cutting.{OneFrame}
 use Rattle.framed.specs.FrameErrors.{SaysOutOfMemory}
 use Rattle.framed.specs.LengthDelimited.{FrameOf, IsTooLong, frame_bytes, gives_delimited, length_header, no_frame_empty, one_number}
 use Rattle.framed.specs.Pieces.{same_fronts}
@@ -11,13 +12,18 @@ use Rattle.framed.specs.declared.length_delimited.LengthDelimited.{LengthDelimit
 use Rattle.framed.specs.declared.frame_error.FrameError.TheVariants.{CutOff, Io}
 
 -- A frame and the bytes behind it are no other frame with other bytes behind.
-one_frame : (p v more rest : List ℕ) → length p < 2 ^ 32 → length v < 2 ^ 32
+pub one_frame : (p v more rest : List ℕ) → length p < 2 ^ 32 → length v < 2 ^ 32
     → frame_bytes p ++ more ≡ frame_bytes v ++ rest → (v ≡ p) × (rest ≡ more)
 one_frame p v more rest small short e =
     let same = one_number (length p) (length v) (p ++ more) (v ++ rest) small short
     (sym (append_assoc (length_header (length p)) p more) ∙ e ∙ append_assoc (length_header (length v)) v rest) in
     let parts = same_fronts p v more rest same.0 same.1 in
     (sym parts.0, sym parts.1)
+
+pub one_frame_cut : OneFrame FrameOf
+one_frame_cut c v w front other rest more (_, small, is) (_, short, there) same =
+    let parts = one_frame v w rest more small short (ap (λ l. l ++ rest) (sym is) ∙ same ∙ ap (λ l. l ++ more) there) in
+    (sym parts.0, is ∙ ap frame_bytes (sym parts.0) ∙ sym there)
 
 -- What is written for a payload comes back, if the decoder allows as much as the encoder.
 module _ {X : Type 0} (payload : X → List ℕ) where
@@ -44,7 +50,7 @@ module _ {X : Type 0} (payload : X → List ℕ) where
                   omega (arith, one.0, above, fits, within);
               others = rw same within;
             };
-        some = no_frame_empty;
+        some = λ d v. no_frame_empty d v.items;
         none_refused = λ d e (n, above, short, is, _). omega (arith, ap length is);
         lacking = λ e lacks. lacks;
       })

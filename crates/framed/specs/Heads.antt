@@ -168,7 +168,7 @@ module _ {C : Type 0} (f : HeadForm C) where
   module _ (c : C) where
     -- No front of the bytes is a frame or is refused.
     abbrev IsOpen : List ℕ → Type 0
-    IsOpen = Undecided {V = Filled} (λ c v. HeadedFrame c v.items) RefusesHeaded SaysOutOfMemory (λ e. e ≡ CutOff) c
+    IsOpen = Undecided {V = Filled} (λ c v. HeadedFrame c v.items) RefusesHeaded c
 
     -- Without a delimiter nothing is decided while there is room for a head.
     open_head : (xs : List ℕ) → HasNo f.delimiter xs → length xs ≤ f.longest c → IsOpen xs

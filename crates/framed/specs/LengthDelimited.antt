@@ -5,9 +5,10 @@ use Rattle.std.proofs.Common.{ap, append_assoc, arith, length-append, refl, sym,
 use Rattle.std.proofs.lemmas.Nat.{from_be_bytes-to_be_bytes_4}
 use Rattle.bytes.specs.Filled.{Filled}
 use Rattle.tokio_util.specs.Codec.Next.{Gives}
-use Rattle.framed.specs.FrameErrors.{SaysOutOfMemory}
+use Rattle.framed.specs.FrameErrors.{SaysOutOfMemory, as_frame_error}
 use Rattle.framed.specs.Pieces.{Undecided, gives_pieces, same_fronts}
 use Rattle.framed.specs.declared.length_delimited.LengthDelimited.{LengthDelimited}
+use Rattle.framed.specs.declared.cut_error.CutError.{CutError}
 use Rattle.framed.specs.declared.frame_error.FrameError.{FrameError}
 use Rattle.framed.specs.declared.frame_error.FrameError.TheVariants.{CutOff, TooLong}
 
@@ -26,6 +27,10 @@ FrameOf c payload xs = (length payload ≤ c.max) × (length payload < 2 ^ 32) �
 -- A number above the limit.
 abbrev pub IsTooLong : LengthDelimited → List ℕ → FrameError → Type 0
 IsTooLong c xs e = (n : ℕ) × (c.max < n) × (n < 2 ^ 32) × (xs ≡ length_header n) × (e ≡ TooLong n)
+
+-- A number above the limit, by the smaller error.
+abbrev pub IsTooLongCut : LengthDelimited → List ℕ → CutError → Type 0
+IsTooLongCut c xs e = IsTooLong c xs (as_frame_error e)
 
 -- Why a payload of `n` bytes is not encoded into a buffer with room for `spare` more: it is too long, or memory was
 -- refused.
@@ -48,7 +53,7 @@ one_number n m p q small short e =
 module _ (c : LengthDelimited) where
   -- No front of the bytes is a frame or is refused.
   abbrev Open : List ℕ → Type 0
-  Open = Undecided {V = Filled} (λ c v. FrameOf c v.items) IsTooLong SaysOutOfMemory (λ e. e ≡ CutOff) c
+  Open = Undecided {V = Filled} (λ c v. FrameOf c v.items) IsTooLong c
 
   -- Before the number is whole nothing is decided.
   pub open_head : (xs : List ℕ) → length xs < 4 → Open xs
@@ -70,5 +75,5 @@ module _ (c : LengthDelimited) where
         omega (arith, within, same.0, h.1)),
   )
 
-pub no_frame_empty : (c : LengthDelimited) (v : Filled) → FrameOf c v.items [] → ⊥
-no_frame_empty c v h = omega (arith, ap length h.2, length-append (length_header (length v.items)) v.items)
+pub no_frame_empty : (c : LengthDelimited) (v : List ℕ) → FrameOf c v [] → ⊥
+no_frame_empty c v h = omega (arith, ap length h.2, length-append (length_header (length v)) v)

@@ -28,3 +28,6 @@ pub mod LineBack
 pub mod HeadsBack
 pub mod Hexadecimal
 pub mod LinesBack
+pub mod Cutting
+pub mod Lending
+pub mod LendingLaws

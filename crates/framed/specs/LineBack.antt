@@ -4,6 +4,7 @@ use Rattle.std.proofs.Common.{ap, append_assoc, arith, sym, ◌∙◌}
 use Rattle.std.proofs.lemmas.List.{append_cancel_right}
 use Rattle.bytes.specs.Filled.{Filled}
 use Rattle.framed.specs.Uses.{without_return}
+use Rattle.framed.specs.Cutting.{OneFrame}
 use Rattle.framed.specs.FrameErrors.{SaysOutOfMemory}
 use Rattle.framed.specs.LineDelimited.{HasNoNewline, IsLongLine, LineOf, gives_line_delimited, no_line_empty, with_newline}
 use Rattle.framed.specs.Heads.{longer_text}
@@ -17,6 +18,11 @@ use Rattle.framed.specs.declared.line_delimited.LineDelimited.{LineDelimited}
 one_line : (a b p q : List ℕ) → HasNoNewline a → HasNoNewline b → with_newline a ++ p ≡ with_newline b ++ q → (a ≡ b) × (p ≡ q)
 one_line a b p q h k e =
     up_to_delimiter 10 a b p q h k (sym (append_assoc a (10 ∷ []) p) ∙ e ∙ append_assoc b (10 ∷ []) q)
+
+pub one_line_cut : OneFrame LineOf
+one_line_cut c v w front other rest more (text, none, _, item, is) (line, lacks, _, found, there) same =
+    let parts = one_line text line rest more none lacks (ap (λ l. l ++ rest) (sym is) ∙ same ∙ ap (λ l. l ++ more) there) in
+    (item ∙ ap without_return parts.0 ∙ sym found, is ∙ ap with_newline parts.0 ∙ sym there)
 
 -- What is written for a text comes back, if the decoder allows as much as the encoder.
 module _ {X : Type 0} (text : X → List ℕ) where
@@ -51,7 +57,7 @@ module _ {X : Type 0} (text : X → List ℕ) where
                   (sym (append_assoc (text x) (10 ∷ []) more) ∙ ap (λ l. l ++ more) (sym is) ∙ here);
               others = rw same within;
             };
-        some = no_line_empty;
+        some = λ d v. no_line_empty d v.items;
         none_refused = λ d e (none, long, _). omega (arith, long);
         lacking = λ e lacks. lacks;
       })

@@ -4,9 +4,10 @@ use Rattle.std.proofs.Common.{ap, arith, length-append}
 use Rattle.bytes.specs.Filled.{Filled}
 use Rattle.framed.specs.Uses.{without_return}
 use Rattle.tokio_util.specs.Codec.Next.{Gives}
-use Rattle.framed.specs.FrameErrors.{SaysOutOfMemory}
+use Rattle.framed.specs.FrameErrors.{SaysOutOfMemory, as_frame_error}
 use Rattle.framed.specs.Heads.{FirstAt, HasNo}
 use Rattle.framed.specs.Pieces.{gives_pieces}
+use Rattle.framed.specs.declared.cut_error.CutError.{CutError}
 use Rattle.framed.specs.declared.frame_error.FrameError.{FrameError}
 use Rattle.framed.specs.declared.frame_error.FrameError.TheVariants.{CutOff, EndsInReturn, HasNewline, TooLong}
 use Rattle.framed.specs.declared.line_delimited.LineDelimited.{LineDelimited}
@@ -27,6 +28,10 @@ LineOf c line xs = (text : List ℕ) × HasNoNewline text × (length text ≤ c.
 abbrev pub IsLongLine : LineDelimited → List ℕ → FrameError → Type 0
 IsLongLine c xs e = HasNoNewline xs × (length xs ≡ c.max + 1) × (e ≡ TooLong (c.max + 1))
 
+-- The same, by the smaller error.
+abbrev pub IsLongLineCut : LineDelimited → List ℕ → CutError → Type 0
+IsLongLineCut c xs e = IsLongLine c xs (as_frame_error e)
+
 -- What the decoder gives.
 abbrev pub gives_line_delimited : Gives LineDelimited Filled FrameError
 gives_line_delimited = gives_pieces (λ c v. LineOf c v.items) IsLongLine SaysOutOfMemory (λ e. e ≡ CutOff)
@@ -40,5 +45,5 @@ RefusesText c line spare e =
     ⊎ ((without_return line ≢ line) × (e ≡ EndsInReturn))
     ⊎ (SaysOutOfMemory e × (spare < length line + 1))
 
-pub no_line_empty : (c : LineDelimited) (v : Filled) → LineOf c v.items [] → ⊥
+pub no_line_empty : (c : LineDelimited) (v : List ℕ) → LineOf c v [] → ⊥
 no_line_empty c v h = omega (arith, ap length h.4, length-append h.0 (10 ∷ []))

@@ -32,14 +32,14 @@ up_to_delimiter delimiter (x ∷ a) (y ∷ b) p q h k e =
     let rest = up_to_delimiter delimiter a b p q (All-tail (λ x. x ≢ delimiter) x a h) (All-tail (λ x. x ≢ delimiter) y b k) others in
     (rw (first, rest.0) refl, rest.1)
 
--- `piece` says which bytes a frame may have, and `refuses` at which bytes the decoder stops with which error. An error
--- that `lacks` says that memory was refused, and one that is `cut` that the input ended within a frame.
-module _ {C V E : Type 0} (piece : C → V → List ℕ → Type 0) (refuses : C → List ℕ → E → Type 0) (lacks cut : E → Type 0) where
-  -- No front of the bytes is a frame, and none is refused.
-  abbrev pub Undecided : C → List ℕ → Type 0
-  Undecided c xs = (front rest : List ℕ) → xs ≡ front ++ rest
-      → ((v : V) → piece c v front → ⊥) × ((e : E) → refuses c front e → ⊥)
+-- No front of the bytes is a frame, and none is refused. `piece` says which bytes a frame may have, and `refuses` at which
+-- bytes a decoder stops with which error.
+abbrev pub Undecided : {C V E : Type 0} → (C → V → List ℕ → Type 0) → (C → List ℕ → E → Type 0) → C → List ℕ → Type 0
+Undecided {V = V} {E = E} piece refuses c xs = (front rest : List ℕ) → xs ≡ front ++ rest
+    → ((v : V) → piece c v front → ⊥) × ((e : E) → refuses c front e → ⊥)
 
+-- An error that `lacks` says that memory was refused, and one that is `cut` that the input ended within a frame.
+module _ {C V E : Type 0} (piece : C → V → List ℕ → Type 0) (refuses : C → List ℕ → E → Type 0) (lacks cut : E → Type 0) where
   -- What stops the decoder at the front of the bytes: bytes that it refuses, or a frame for which memory was refused.
   abbrev pub StopsPiece : C → List ℕ → E → Type 0
   StopsPiece c xs e = (front : List ℕ) × (rest : List ℕ) × (xs ≡ front ++ rest)
@@ -49,10 +49,10 @@ module _ {C V E : Type 0} (piece : C → V → List ℕ → Type 0) (refuses : C
   abbrev pub gives_pieces : Gives C V E
   gives_pieces c xs (decoded (Ok v) t ys) = (t ≡ c) × (front : List ℕ) × piece c v front × (xs ≡ front ++ ys)
   gives_pieces c xs (decoded (Err e) t ys) = (t ≡ c) × (ys ≡ xs) × StopsPiece c xs e
-  gives_pieces c xs partial = Undecided c xs
-  gives_pieces c xs (at_end (Ok None) t ys) = (t ≡ c) × (ys ≡ xs) × (xs ≡ []) × Undecided c xs
+  gives_pieces c xs partial = Undecided piece refuses c xs
+  gives_pieces c xs (at_end (Ok None) t ys) = (t ≡ c) × (ys ≡ xs) × (xs ≡ []) × Undecided piece refuses c xs
   gives_pieces c xs (at_end (Ok (Some v)) t ys) = ⊥
-  gives_pieces c xs (at_end (Err e) t ys) = (t ≡ c) × (ys ≡ xs) × (0 < length xs) × cut e × Undecided c xs
+  gives_pieces c xs (at_end (Err e) t ys) = (t ≡ c) × (ys ≡ xs) × (0 < length xs) × cut e × Undecided piece refuses c xs
 
   -- The laws of a `Decoder` hold of it.
   pub pieces_stable : IsStable gives_pieces

@@ -1,5 +1,6 @@
 //! Where the first delimiter is.
-ghost use Rattle.framed.specs.Heads.{FindsDelimiter, FirstAt};
+ghost use Rattle.std.specs.Prelude.{◌≤◌, length, take};
+ghost use Rattle.framed.specs.Heads.{FindsDelimiter, FirstAt, HasNo};
 
 use memchr::memchr;
 
@@ -44,10 +45,33 @@ pub enum Delimiter {
 pub fn find_delimiter(bytes: &[u8], delimiter: u8, max: usize) -> Delimiter
     ensures { FindsDelimiter delimiter max bytes.now result }
 {
+    find_delimiter_behind(bytes, delimiter, max, 0)
+}
+
+/// Returns the same as [`find_delimiter`], and looks only at the bytes behind the first `seen`.
+///
+/// The caller guarantees that no delimiter is in the first `seen` bytes. So a search that waits for more bytes goes on
+/// where it stopped, and a line that comes byte by byte is looked at once.
+///
+/// # Examples
+///
+/// ```
+/// use framed::{find_delimiter_behind, Delimiter};
+///
+/// assert_eq!(rt; find_delimiter_behind(b"120", b':', 20, 0), Delimiter::Missing);
+/// assert_eq!(rt; find_delimiter_behind(b"120:abc", b':', 20, 3), Delimiter::At(3));
+/// ```
+#[inline(always)]
+pub fn find_delimiter_behind(bytes: &[u8], delimiter: u8, max: usize, seen: usize) -> Delimiter
+    requires within { seen ≤ length bytes.now }
+    requires none { HasNo delimiter (take seen bytes.now) }
+    ensures { FindsDelimiter delimiter max bytes.now result }
+{
     // A delimiter behind these bytes is too far.
     let searched = bytes.len().min(max.saturating_add(1));
-    match first_at(&bytes[..searched], delimiter) {
-        Some(at) => Delimiter::At(at),
+    let seen = seen.min(searched);
+    match first_at(&bytes[seen..searched], delimiter) {
+        Some(at) => Delimiter::At(seen + at),
         None if searched > max => Delimiter::TooFar,
         None => Delimiter::Missing,
     }

@@ -3,11 +3,15 @@ ghost use Rattle.std.specs.Prelude.{◌≡◌, ◌≤◌, ◌<◌, ◌^◌, IfNo
 ghost use Rattle.bytes.specs.Filled.{Filled};
 ghost use Rattle.tokio_util.specs.Codec.Next.{Decodes};
 ghost use Rattle.framed.specs.FrameErrors.{SaysOutOfMemory};
-ghost use Rattle.framed.specs.LengthDelimited.{FrameOf, IsTooLong, RefusesPayload, gives_delimited, length_header, no_frame_empty};
-ghost use Rattle.framed.specs.DelimitedBack.{delimited_back};
+ghost use Rattle.framed.specs.LengthDelimited.{FrameOf, IsTooLong, IsTooLongCut, RefusesPayload, gives_delimited, length_header, no_frame_empty};
+ghost use Rattle.framed.specs.DelimitedBack.{delimited_back, one_frame_cut};
 ghost use Rattle.framed.specs.Pieces.{pieces_end, pieces_partial, pieces_prompt, pieces_stable};
+ghost use Rattle.framed.specs.declared.cut_error.CutError.TheVariants as small;
 ghost use Rattle.framed.specs.declared.frame_error.FrameError.TheVariants.{CutOff};
 
+use crate::cut::{Cut, Span};
+use crate::cut_error::CutError;
+use crate::cutter::Cutter;
 use crate::frame_error::FrameError;
 use crate::prompt_decoder::PromptDecoder;
 use crate::round_trip::RoundTrip;
@@ -107,7 +111,46 @@ impl<T: AsSlice<u8> + Drop> Encoder<T> for LengthDelimited {
 }
 
 impl PromptDecoder for LengthDelimited {
-    ghost prompt = { pieces_prompt (λ c v. FrameOf c v.items) IsTooLong SaysOutOfMemory (λ e. e ≡ CutOff) no_frame_empty };
+    ghost prompt = { pieces_prompt (λ c v. FrameOf c v.items) IsTooLong SaysOutOfMemory (λ e. e ≡ CutOff)
+        (λ c v. no_frame_empty c v.items) };
+}
+
+impl Cutter for LengthDelimited {
+    type Error = CutError;
+
+    ghost piece = { FrameOf };
+
+    ghost refuses = { IsTooLongCut };
+
+    ghost cut_off = { λ _ _ e. e ≡ small.CutOff };
+
+    #[inline(always)]
+    fn cut(&self, bytes: &[u8], seen: usize) -> Cut<CutError> {
+        if bytes.len() < 4 {
+            return Cut::More(4);
+        }
+        let payload = length_of(bytes);
+        if payload > self.max {
+            return Cut::Refused(CutError::TooLong(payload as usize));
+        }
+        let size = 4 + payload as usize;
+        if bytes.len() < size {
+            return Cut::More(size);
+        }
+        Cut::Whole(Span {
+            from: 4,
+            to: size,
+            size,
+        })
+    }
+
+    fn at_end(&self, bytes: &[u8]) -> CutError {
+        CutError::CutOff
+    }
+
+    ghost one = { one_frame_cut };
+
+    ghost some = { no_frame_empty };
 }
 
 impl<T: AsSlice<u8> + Drop> RoundTrip<T> for LengthDelimited {

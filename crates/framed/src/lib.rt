@@ -11,10 +11,15 @@
 
 mod bytes_codec;
 mod collect;
+mod cut;
+mod cut_error;
+mod cutter;
 mod delimiter;
 mod fill;
 mod frame_error;
 mod framed_read;
+mod frames;
+mod frames_error;
 mod head;
 mod hexadecimal;
 mod length_delimited;
@@ -30,9 +35,14 @@ mod server;
 mod service;
 
 pub use collect::collect_frames;
-pub use delimiter::{Delimiter, find_delimiter};
+pub use cut::{Cut, Span};
+pub use cut_error::CutError;
+pub use cutter::Cutter;
+pub use delimiter::{Delimiter, find_delimiter, find_delimiter_behind};
 pub use frame_error::FrameError;
 pub use framed_read::{FramedParts, FramedRead};
+pub use frames::{Frames, FramesParts};
+pub use frames_error::FramesError;
 pub use head::{read_decimal, strip_return, take_body};
 pub use hexadecimal::{Hexadecimal, read_hexadecimal};
 pub use length_delimited::LengthDelimited;

@@ -4,12 +4,16 @@ ghost use Rattle.bytes.specs.Filled.{Filled};
 ghost use Rattle.framed.specs.Uses.{without_return};
 ghost use Rattle.tokio_util.specs.Codec.Next.{Decodes};
 ghost use Rattle.framed.specs.FrameErrors.{SaysOutOfMemory};
-ghost use Rattle.framed.specs.LineBack.{line_back};
-ghost use Rattle.framed.specs.LineDelimited.{IsLongLine, LineOf, RefusesText, gives_line_delimited, with_newline, no_line_empty};
+ghost use Rattle.framed.specs.LineBack.{line_back, one_line_cut};
+ghost use Rattle.framed.specs.LineDelimited.{IsLongLine, IsLongLineCut, LineOf, RefusesText, gives_line_delimited, with_newline, no_line_empty};
 ghost use Rattle.framed.specs.Pieces.{pieces_end, pieces_partial, pieces_prompt, pieces_stable};
+ghost use Rattle.framed.specs.declared.cut_error.CutError.TheVariants as small;
 ghost use Rattle.framed.specs.declared.frame_error.FrameError.TheVariants.{CutOff};
 
-use crate::delimiter::{Delimiter, find_delimiter, first_at};
+use crate::cut::{Cut, Span};
+use crate::cut_error::CutError;
+use crate::cutter::Cutter;
+use crate::delimiter::{Delimiter, find_delimiter, find_delimiter_behind, first_at};
 use crate::frame_error::FrameError;
 use crate::prompt_decoder::PromptDecoder;
 use crate::round_trip::RoundTrip;
@@ -26,7 +30,8 @@ use tokio_util::codec::{Decoder, Encoder};
 /// line is refused with `TooLong(max + 1)`. Nothing is taken at an error.
 ///
 /// The decoder keeps no state. It searches an open line again when more bytes come: at most `max + 1` bytes, by one
-/// `memchr`. If a peer sends a line byte by byte, that is `max * max / 2` bytes for a line.
+/// `memchr`. If a peer sends a line byte by byte, that is `max * max / 2` bytes for a line. As a [`Cutter`], which
+/// [`Frames`](crate::Frames) takes, it goes on behind the bytes that it has seen.
 ///
 /// It encodes whatever has the bytes of a slice. It refuses what would not be decoded as the same line: with a newline in
 /// it, with a `\r` at its end, or above the limit.
@@ -119,7 +124,39 @@ impl<T: AsSlice<u8> + Drop> Encoder<T> for LineDelimited {
 }
 
 impl PromptDecoder for LineDelimited {
-    ghost prompt = { pieces_prompt (λ c v. LineOf c v.items) IsLongLine SaysOutOfMemory (λ e. e ≡ CutOff) no_line_empty };
+    ghost prompt = { pieces_prompt (λ c v. LineOf c v.items) IsLongLine SaysOutOfMemory (λ e. e ≡ CutOff)
+        (λ c v. no_line_empty c v.items) };
+}
+
+impl Cutter for LineDelimited {
+    type Error = CutError;
+
+    ghost piece = { LineOf };
+
+    ghost refuses = { IsLongLineCut };
+
+    ghost cut_off = { λ _ _ e. e ≡ small.CutOff };
+
+    #[inline(always)]
+    fn cut(&self, bytes: &[u8], seen: usize) -> Cut<CutError> {
+        match find_delimiter_behind(bytes, b'\n', self.max, seen) {
+            Delimiter::At(at) => Cut::Whole(Span {
+                from: 0,
+                to: line_length(&bytes[..at]),
+                size: at + 1,
+            }),
+            Delimiter::Missing => Cut::More(bytes.len() + 1),
+            Delimiter::TooFar => Cut::Refused(CutError::TooLong(self.max + 1)),
+        }
+    }
+
+    fn at_end(&self, bytes: &[u8]) -> CutError {
+        CutError::CutOff
+    }
+
+    ghost one = { one_line_cut };
+
+    ghost some = { no_line_empty };
 }
 
 impl<T: AsSlice<u8> + Drop> RoundTrip<T> for LineDelimited {
@@ -135,7 +172,8 @@ impl<T: AsSlice<u8> + Drop> RoundTrip<T> for LineDelimited {
 // Returns how many bytes a text has without the `\r` that may end it.
 #[inline(always)]
 fn line_length(text: &[u8]) -> usize
-    ensures { take result text.now ≡ without_return text.now }
+    ensures line { take result text.now ≡ without_return text.now }
+    ensures within { result ≤ length text.now }
 {
     match text.last() {
         Some(b'\r') => text.len() - 1,

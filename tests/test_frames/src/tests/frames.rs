@@ -3,6 +3,7 @@ mod collecting;
 mod heads;
 mod in_hand;
 mod length_delimited;
+mod lent;
 mod line_delimited;
 mod lines;
 mod parts;

@@ -1,7 +1,7 @@
 use Rattle.std.specs.Prelude.{◌≡◌, []}
 use Rattle.std.proofs.Common.{rules}
 use Rattle.framed.specs.Uses.{Pending, Ready}
-use Rattle.framed.proofs.Steps.{less_shown, looked_all, looked_on, none_shown, some_shown}
+use Rattle.framed.proofs.Steps.{looked_all, looked_on, none_shown}
 use Rattle.framed.proofs.framed_read.FramedRead.look.Goals as goal
 
 pub returns-in-Ready : goal.returns-in-Ready

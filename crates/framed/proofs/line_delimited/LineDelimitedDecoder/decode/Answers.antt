@@ -22,6 +22,6 @@ returns-clause-next c =
     let text : c.truncate.new.self.items ≡ take at xs =
     c.truncate.ensures.items ∙ ap (take at) c.in_ok-line.ensures.front ∙ take-take at (at + 1) xs (omega arith) in
     let line : c.truncate-2.new.self.items ≡ without_return (take at xs) =
-    c.truncate-2.ensures.items ∙ (rw c.as_slice-2.ensures at c.line_length.ensures) ∙ ap without_return text in
+    c.truncate-2.ensures.items ∙ (rw c.as_slice-2.ensures at c.line_length.ensures.line) ∙ ap without_return text in
     let rest : c.split_to.new.self.items ≡ drop (at + 1) xs = search rules in
     (refl, take (at + 1) xs, rw line (line_found c.args.self.now xs at found), rw rest (sym (take-append-drop (at + 1) xs)))
