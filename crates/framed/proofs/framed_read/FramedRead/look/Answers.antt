@@ -1,7 +1,7 @@
 use Rattle.std.specs.Prelude.{◌≡◌, []}
 use Rattle.std.proofs.Common.{rules}
 use Rattle.framed.specs.Uses.{Pending, Ready}
-use Rattle.framed.proofs.Steps.{less_shown, looked_all, looked_on, none_shown, some_shown}
+use Rattle.framed.proofs.Steps.{looked_all, looked_on, none_shown}
 use Rattle.framed.proofs.framed_read.FramedRead.look.Goals as goal
 
 pub returns-in-Ready : goal.returns-in-Ready
@@ -19,7 +19,9 @@ returns-then-is_empty-2 g c =
 pub looks-preserved : goal.looks-preserved
 looks-preserved g c =
     let p : c.look_once.result ≡ Pending = search rules in
-    let h = rw p at c.look_once.ensures in
-    (h.4.0, λ a z k. c.looks.invariant.1 a z
-    (looked_on g.D.Decoder.gives g.D.Error.From.from_gives g.T.ReadSpec.reads g.T.ReadSpec.read_laws g.met.D.Decoder.partial_has_no_frame
-    g.T.AsyncBufRead.buffer_of c.looks.self c.look_once.new.self c.looks.invariant.0 h a z k))
+    let h = rw p at c.look_once.ensures in (
+      h.4.0,
+      λ a z k. c.looks.invariant.1 a z
+          (looked_on g.D.Decoder.gives g.D.Error.From.from_gives g.T.ReadSpec.reads g.T.ReadSpec.read_laws g.met.D.Decoder.partial_has_no_frame
+          g.T.AsyncBufRead.buffer_of c.looks.self c.look_once.new.self c.looks.invariant.0 h a z k),
+    )

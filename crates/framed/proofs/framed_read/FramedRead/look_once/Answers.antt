@@ -12,7 +12,7 @@ overflow_sub-taken g c =
     let n = c.in-Ok.taken in
     let fits : n ≤ length shown = rw (c.in-Ok.is, c.buffer-shown.ensures) at c.append_shown.ensures.within in
     let front : c.append_shown.new.buffer.items ≡ held_at c.self.inside.stage c.self.inside.buffer.items ++ take n shown
-        = rw (c.in-Ok.is, c.buffer-shown.ensures) at c.append_shown.ensures.front in
+    = rw (c.in-Ok.is, c.buffer-shown.ensures) at c.append_shown.ensures.front in
     let s = look_splits g.met.D.PromptDecoder.prompt g.met.D.Decoder.stable g.met.D.Decoder.partial_has_no_frame _
     c.self.inside.stage c.self.inside.buffer.items shown (take n shown) _ _ _ _ was c.self.invariant front (rw is at c.decode.ensures) in
     rw c.len.ensures.value (rest_within shown _ _ n fits s.cut)
@@ -25,7 +25,7 @@ invariant_of-self-in-Ok-Some g c =
     let n = c.in-Ok.taken in
     let fits : n ≤ length shown = rw (c.in-Ok.is, c.buffer-shown.ensures) at c.append_shown.ensures.within in
     let front : c.append_shown.new.buffer.items ≡ held_at c.self.inside.stage c.self.inside.buffer.items ++ take n shown
-        = rw (c.in-Ok.is, c.buffer-shown.ensures) at c.append_shown.ensures.front in
+    = rw (c.in-Ok.is, c.buffer-shown.ensures) at c.append_shown.ensures.front in
     let s = look_splits g.met.D.PromptDecoder.prompt g.met.D.Decoder.stable g.met.D.Decoder.partial_has_no_frame _
     c.self.inside.stage c.self.inside.buffer.items shown (take n shown) _ _ _ _ was c.self.invariant front (rw is at c.decode.ensures) in
     let left = rw c.len.ensures.value at c.consume.ensures.rest in
@@ -39,7 +39,7 @@ returns-in-Ok-Some g c =
     let n = c.in-Ok.taken in
     let fits : n ≤ length shown = rw (c.in-Ok.is, c.buffer-shown.ensures) at c.append_shown.ensures.within in
     let front : c.append_shown.new.buffer.items ≡ held_at c.self.inside.stage c.self.inside.buffer.items ++ take n shown
-        = rw (c.in-Ok.is, c.buffer-shown.ensures) at c.append_shown.ensures.front in
+    = rw (c.in-Ok.is, c.buffer-shown.ensures) at c.append_shown.ensures.front in
     let s = look_splits g.met.D.PromptDecoder.prompt g.met.D.Decoder.stable g.met.D.Decoder.partial_has_no_frame _
     c.self.inside.stage c.self.inside.buffer.items shown (take n shown) _ _ _ _ was c.self.invariant front (rw is at c.decode.ensures) in
     let taken = rw (c.len.ensures.value, front_taken shown s.xs _ n fits s.cut) at c.consume.ensures.ran in
@@ -53,7 +53,7 @@ returns-in-Err-decode g c =
     let n = c.in-Ok.taken in
     let fits : n ≤ length shown = rw (c.in-Ok.is, c.buffer-shown.ensures) at c.append_shown.ensures.within in
     let front : c.append_shown.new.buffer.items ≡ held_at c.self.inside.stage c.self.inside.buffer.items ++ take n shown
-        = rw (c.in-Ok.is, c.buffer-shown.ensures) at c.append_shown.ensures.front in
+    = rw (c.in-Ok.is, c.buffer-shown.ensures) at c.append_shown.ensures.front in
     let found = look_refused g.D.Decoder.gives _ (held_at c.self.inside.stage c.self.inside.buffer.items)
     (take n shown) _ _ _ _ front (rw is at c.decode.ensures) in
     let taken = c.consume-in-Err-decode.ensures.ran in
@@ -66,7 +66,7 @@ returns-in-Ok-None g c =
     let n = c.in-Ok.taken in
     let fits : n ≤ length shown = rw (c.in-Ok.is, c.buffer-shown.ensures) at c.append_shown.ensures.within in
     let front : c.append_shown.new.buffer.items ≡ held_at c.self.inside.stage c.self.inside.buffer.items ++ take n shown
-        = rw (c.in-Ok.is, c.buffer-shown.ensures) at c.append_shown.ensures.front in
+    = rw (c.in-Ok.is, c.buffer-shown.ensures) at c.append_shown.ensures.front in
     let is : c.decode.result ≡ Ok None = rw c.in-Ok-None.field-0-is at c.in-Ok-None.is in
     let d = rw is at c.decode.ensures in
     let some : n ≡ 0 → shown ≡ [] = rw (c.in-Ok.is, c.buffer-shown.ensures) at c.append_shown.ensures.some in
