@@ -101,7 +101,7 @@ POLLED = re.compile(r"^impl\b[^{;]*? (?:Stream|PollSteps|Future|Folder|Decoder|E
 # Functions that no case of the measured program calls, by their names.
 NO_CASE = {
     # They return, lend or set a part of a value, or tell its state.
-    *"borrow borrow_mut buffer calls first_mut get_mut into_inner into_parts is_reading is_stopped limit second_mut set_limit set_position".split(),
+    *"borrow borrow_mut buffer calls first_mut get_mut into_inner into_parts is_reading is_stopped from_parts limit second_mut set_limit set_position".split(),
     *"size_hint start take_future take_result".split(),
     # They have no value.
     "pending",
@@ -113,6 +113,8 @@ NO_CASE = {
     *"answer finish in_hand poll_close poll_flush poll_seek poll_write_vectored refuse scan_line take_in wait".split(),
     # What is wrapped costs what it wraps, and a wait for it what `block_on` costs.
     *"collect_from_kit compat stream_from_kit wait_from_kit".split(),
+    # They are parts of `wait_send` and `wait_send_all`.
+    *"encode_all send send_all".split(),
     # They do what `AsyncAsSync::read`, `read_hexadecimal` and `poll_read_vectored` do.
     *"poll_with read_decimal read_vectored".split(),
     # Calls and checks of journals, which tests alone make.

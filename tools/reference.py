@@ -56,7 +56,7 @@ GROUPS = {
         "Halves and journals": ("lite_halves",),
     },
     "framed": {
-        "Frames of a reader": tuple(f"framed/src/{it}.rt" for it in ("collect", "framed_read", "next_frame", "send", "send_all")),
+        "Frames of a reader": tuple(f"framed/src/{it}.rt" for it in ("collect", "collect_error", "framed_read", "held_frame", "make", "next_frame", "send_future", "waiting")),
         "Frames that are lent": tuple(f"framed/src/{it}.rt" for it in ("frames", "frames_error", "cutter", "cut", "cut_error")),
         "Codecs": ("framed/src/length_delimited.rt", "framed/src/line_delimited.rt", "framed/src/frame_error.rt"),
         "Parts of a codec": tuple(f"framed/src/{it}.rt" for it in ("delimiter", "head", "hexadecimal")),

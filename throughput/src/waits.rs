@@ -174,9 +174,10 @@ where
     let mut on = BlockOn::new(rt)?;
     let reader = Cursor::new(bytes.as_slice());
     let mut frames = FramedRead::new(rt.alloc(), reader, LengthDelimited { max: MAX });
-    match collect_frames(&mut on, rt, &mut frames) {
-        Ok(frames) => Ok(
-            frames.iter().fold(
+    let mut collected = Vec::new(rt.alloc());
+    match collect_frames(&mut on.waits(), rt, &mut frames, &mut collected) {
+        Ok(()) => Ok(
+            collected.iter().fold(
                 0,
                 |sum: u64, frame: &BytesMut| sum.wrapping_add(frame.len() as u64),
             ),

@@ -1,9 +1,7 @@
 -- Texts that come back.
 use Rattle.std.specs.Prelude.{◌≡◌, ℕ, List, [], ◌∷◌, ◌++◌, map, Result, Ok, Err, IfOk}
 use Rattle.std.specs.List.{AllZip}
-use Rattle.std.specs.declared.alloc.Global.{Global}
 use Rattle.std.specs.declared.io.Error.{Error}
-use Rattle.std.specs.declared.vec.Vec.{Vec}
 use Rattle.std.proofs.Common.{◌∙◌, Bor, ap, arith, refl}
 use Rattle.bytes.specs.Filled.{Filled}
 use Rattle.futures_lite.specs.Marks.{ReadMark, WriteMark, bytes}
@@ -38,13 +36,14 @@ frames_back c d texts xs encoded frames read =
 -- What was sent to a writer whose bytes are known.
 pub sent_back : {O : Type 0} (writes : Runs WriteMark O) (stored : Stored O) (w v : O) (c d : LengthDelimited)
     (texts : List (Bor (List ℕ))) (rejects : LengthDelimited → Bor (List ℕ) → ℕ → FrameError → Type 0)
-    (from_gives : Error → FrameError → Type 0) (r : Result (Unit {0}) FrameError) → Stores writes stored w
-    → SendsItems (Encoded (λ (t : Bor (List ℕ)). t.now)) rejects writes from_gives w c texts r v d
+    (from_gives : Error → FrameError → Type 0) (room : ℕ) (r : Result (Unit {0}) FrameError) (out : List ℕ)
+    → Stores writes stored w
+    → SendsItems (Encoded (λ (t : Bor (List ℕ)). t.now)) rejects writes from_gives w c texts room r v d out
     → IfOk r (λ _. (xs : List ℕ) × (stored.kept v ≡ stored.kept w ++ xs) × ReadsBack c texts xs)
-sent_back writes stored w v c d texts rejects from_gives (Ok u) stores (xs, encoded, (took, front, handed)) =
+sent_back writes stored w v c d texts rejects from_gives room (Ok u) xs stores (encoded, (took, front, handed)) =
     let kept = (stored.tells w v took stores.0 (stores.1 took v front.0)).1 in
     (xs, kept ∙ ap (λ l. stored.kept w ++ l) handed.1, frames_back c d texts xs encoded)
-sent_back writes stored w v c d texts rejects from_gives (Err e) stores h = tt
+sent_back writes stored w v c d texts rejects from_gives room (Err e) out stores h = tt
 
 strip_known : (xs : List ℕ) (l : List ReadMark) (ys : List ℕ) → ReadsKnown xs l ys → ReadsKnown xs (strip_marks l) ys
 strip_known xs [] ys h = h
@@ -59,11 +58,10 @@ all_known (x ∷ xs) zs ys h = h.1 ∙ ap (λ l. x ∷ l) (all_known xs h.0 ys h
 
 -- What was read of a reader whose bytes are known.
 pub read_known : {T : Type 0} (reads : Runs ReadMark T) (known : Known T) (x y : T) (c : LengthDelimited)
-    (r : Result (Vec Filled Global) FrameError) → Knows reads known x
-    → (m : List ReadMark) × ToldStripped reads x m y × Collects gives_delimited (λ cause e. e ≡ Io cause) c [] m r
-    → IfOk r (λ all. ReadsAll gives_delimited c (known.left x) (map Ok all.items))
-read_known reads known x y c (Ok all) knows (m, (l, came, is), (xs, m_is, read)) =
+    (read : List Filled) (u : Unit {0}) → Knows reads known x
+    → (m : List ReadMark) → ToldStripped reads x m y → Collects gives_delimited (λ cause e. e ≡ Io cause) c [] m read (Ok u)
+    → ReadsAll gives_delimited c (known.left x) (map Ok read)
+read_known reads known x y c all u knows m (l, came, is) (xs, m_is, read) =
     let told = (known.tells x y l knows.0 (knows.1 l y came)).1 in
     let left : known.left x ≡ xs = all_known xs _ _ (rw (is ∙ m_is) at (strip_known _ l _ told)) in
     rw left read
-read_known reads known x y c (Err e) knows h = tt

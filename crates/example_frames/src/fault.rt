@@ -3,7 +3,8 @@ ghost use Rattle.example_frames.specs.declared.fault.Fault.TheVariants.{Output};
 ghost use Rattle.programs.specs.Statuses.{WrapsBrokenPipe};
 
 use crate::entries::EntryError;
-use framed::FrameError;
+use bytes::BytesMut;
+use framed::{CollectError, FrameError};
 use programs::ProgramError;
 use std::alloc::AllocError;
 use std::io;
@@ -43,6 +44,15 @@ impl ProgramError for Fault {
 impl From<FrameError> for Fault {
     fn from(error: FrameError) -> Fault {
         Fault::Frame(error)
+    }
+}
+
+impl From<CollectError<BytesMut, FrameError>> for Fault {
+    fn from(error: CollectError<BytesMut, FrameError>) -> Fault {
+        match error {
+            CollectError::Input(e) => Fault::Frame(e),
+            CollectError::Memory(_) => Fault::Memory,
+        }
     }
 }
 

@@ -1,6 +1,7 @@
 //! Frames that are written and read.
 ghost use Rattle.std.specs.Prelude.{◌≡◌, ◌<◌, ◌++◌, IfOk, List, Ok, length, map, ℕ};
 ghost use Rattle.example_frames.specs.Framing.{ReadsBack};
+ghost use Rattle.bytes.specs.Filled.{Filled};
 ghost use Rattle.futures_lite.specs.Marks.{ReadMark};
 ghost use Rattle.futures_lite.specs.Readers.{Knows, ToldStripped};
 ghost use Rattle.futures_lite.specs.Writers.{Stores};
@@ -13,7 +14,9 @@ ghost use Rattle.framed.specs.Whole.{Collects};
 ghost use Rattle.framed.specs.declared.FrameError.TheVariants.{Io};
 
 use bytes::BytesMut;
-use framed::{FrameError, FramedRead, LengthDelimited, collect_frames, wait_send, wait_send_all};
+use framed::{
+    CollectError, FrameError, FramedRead, LengthDelimited, collect_frames, wait_send, wait_send_all,
+};
 use futures_lite::future::BlockOn;
 use futures_lite::io::{AsyncBufRead, AsyncWrite, BufReader, CountedRead};
 use std::alloc::{AllocError, AllocGlobal};
@@ -35,32 +38,35 @@ pub fn write_frame<R, O>(
 where
     R: Wait + AllocGlobal,
     O: AsyncWrite,
-    ensures { SendsOne (Encoded (λ t. t.now)) (λ c t. RefusesPayload c (length t.now)) O.writes (λ cause e. e ≡ Io cause)
-        writer.old codec.old text.entry result writer.new codec.new }
+    ensures { (out : List ℕ) × SendsOne (Encoded (λ t. t.now)) (λ c t. RefusesPayload c (length t.now)) O.writes
+        (λ cause e. e ≡ Io cause) writer.old codec.old text.entry 0 result writer.new codec.new out }
 {
     let mut out = BytesMut::new(rt.alloc());
     wait_send(on, rt, writer, codec, text, &mut out)
 }
 
-/// Returns all frames of a reader. They are those that its bytes have, up to the end of file.
+/// Appends all frames of a reader to `out`. They are those that its bytes have, up to the end of file.
 ///
 /// # Errors
 ///
-/// Behind the frames before it, the decoder refused the bytes, the reader failed, or memory was refused.
+/// The frames before an error are in `out`. Behind them the decoder refused the bytes, the reader failed, or memory was
+/// refused: to the reader's frames, or to the vector, and then the error has the frame that found no room.
 pub fn read_all<R, T>(
     on: &mut BlockOn,
     rt: &R,
     frames: &mut FramedRead<T, LengthDelimited>,
-) -> Result<Vec<BytesMut>, FrameError>
+    out: &mut Vec<BytesMut>,
+) -> Result<(), CollectError<BytesMut, FrameError>>
 where
     R: Wait + AllocGlobal,
     T: AsyncBufRead + CountedRead,
     requires counts { T.ranks.counts frames.old.reader }
     requires reading { frames.old.phase ≡ reading }
-    ensures { (l : List ReadMark) × ToldStripped T.reads frames.old.reader l frames.new.reader
-        × Collects gives_delimited (λ cause e. e ≡ Io cause) frames.old.decoder frames.old.held l result }
+    ensures { (l : List ReadMark) × (read : List Filled) × ToldStripped T.reads frames.old.reader l frames.new.reader
+        × (out.new.items ≡ out.old.items ++ read)
+        × Collects gives_delimited (λ cause e. e ≡ Io cause) frames.old.decoder frames.old.held l read result }
 {
-    collect_frames(on, rt, frames)
+    collect_frames(&mut on.waits(), rt, frames, out)
 }
 
 /// Writes the frames of the texts to memory, and reads them back through a buffer of `room` bytes, which is above 0.
@@ -121,5 +127,10 @@ where
     ensures { IfOk result (λ all. ReadsAll gives_delimited codec (T.known.left reader) (map Ok all.items)) }
 {
     let mut frames = FramedRead::new(rt.alloc(), reader, codec);
-    read_all(on, rt, &mut frames)
+    let mut all = Vec::new(rt.alloc());
+    match read_all(on, rt, &mut frames, &mut all) {
+        Ok(()) => Ok(all),
+        Err(CollectError::Input(e)) => Err(e),
+        Err(CollectError::Memory(_)) => Err(FrameError::from(AllocError)),
+    }
 }

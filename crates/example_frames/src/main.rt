@@ -95,7 +95,9 @@ where
     wait_send_all(on, rt, &mut sent, &mut codec, texts, &mut out)?;
     println!(host; "{}", String::from_utf8_lossy(rt.alloc(), sent.as_slice())?)?;
     let mut strings = FramedRead::new(rt.alloc(), sent.as_slice(), codec);
-    for string in collect_frames(on, rt, &mut strings)? {
+    let mut read = Vec::new(rt.alloc());
+    collect_frames(&mut on.waits(), rt, &mut strings, &mut read)?;
+    for string in read {
         println!(host; "{} bytes", string.len())?;
     }
     Ok(())
@@ -125,7 +127,9 @@ where
         return Err(Fault::Memory);
     };
     let mut frames = FramedRead::new(rt.alloc(), reader, LengthDelimited { max: LIMIT });
-    for frame in read_all(on, rt, &mut frames)? {
+    let mut all = Vec::new(rt.alloc());
+    read_all(on, rt, &mut frames, &mut all)?;
+    for frame in all {
         println!(host;
             "{}",
             String::from_utf8_lossy(rt.alloc(), frame.as_slice())?

@@ -1,10 +1,6 @@
 -- Collecting the frames of a reader.
 use Rattle.std.specs.Prelude.{◌≡◌, ◌⊎◌, Bool, true, false, ℕ, List, [], ◌∷◌, ◌++◌, map, Option, Some, None, Result, Ok, Err}
-use Rattle.std.specs.IoError.{error_kind}
-use Rattle.std.specs.declared.alloc.Global.{Global}
 use Rattle.std.specs.declared.io.Error.{Error}
-use Rattle.std.specs.declared.io.ErrorKind.TheVariants.{OutOfMemory}
-use Rattle.std.specs.declared.vec.Vec.{Vec}
 use Rattle.std.proofs.Common.{◌∙◌, ap, append-nil, append_assoc, inl, inr, refl, subst, sym}
 use Rattle.framed.specs.Uses.{MarkLaws, ReadMark, Ready, Runs, bytes}
 use Rattle.tokio_util.specs.Codec.Next.{Gives, IsStable, Resumes, at_end, decoded}
@@ -12,6 +8,7 @@ use Rattle.tokio_util.specs.Codec.Whole.{ReadsAll, last_frame, no_frame, whole_f
 use Rattle.tokio_util.proofs.CodecLemmas.Next.{Resumes-append, Resumes_now}
 use Rattle.framed.specs.FrameLaws.{join_marks, not_after}
 use Rattle.framed.specs.Frames.{FrameStep, Framed, ended, ending, reading}
+use Rattle.framed.specs.declared.collect_error.CollectError.TheVariants.{Input, Memory}
 use Rattle.framed.specs.Whole.{Collects, CollectsLast, ReadsTo, at_last, goes_on, whole}
 
 module _ {D X E : Type 0} {gives : Gives D X E} where
@@ -137,30 +134,28 @@ module _ {T D X E : Type 0} (gives : Gives D X E) (from_gives : Error → E → 
   )
   all items m y (at_the_end xs phase came reads) (inr h) = let e = h.0 in cc
 
-  pub all_frames : (frames : Vec X Global) (items : List X) → frames.items ≡ items → (m y : Framed T D) → Collected gives told x items m
-      → FrameStep gives from_gives told m (Ready None) y
-      → (l : List ReadMark) × told x.reader l y.reader × Collects gives from_gives x.decoder x.held l (Ok frames)
-  all_frames frames items same m y h k =
-      let a = all items m y h k in (_, a.1, (a.0, refl, rw same a.2))
+  pub all_frames : (items : List X) (m y : Framed T D) → Collected gives told x items m → FrameStep gives from_gives told m (Ready None) y
+      → (l : List ReadMark) × told x.reader l y.reader × Collects gives from_gives x.decoder x.held l items (Ok tt)
+  all_frames items m y h k = let a = all items m y h k in (_, a.1, (a.0, refl, a.2))
 
   pub stops : (items : List X) (m y : Framed T D) (e : E) → Collected gives told x items m
       → FrameStep gives from_gives told m (Ready (Some (Err e))) y
-      → (l : List ReadMark) × told x.reader l y.reader × Collects gives from_gives x.decoder x.held l (Err e)
+      → (l : List ReadMark) × told x.reader l y.reader × Collects gives from_gives x.decoder x.held l items (Err (Input e))
   stops items m y e (still xs phase came reads) (inl (r, is, after)) = absurd (not_after gives m y r phase after)
   stops items m y e (still xs phase came reads) (inr (_, ys, last, next, inl k)) = (
     _,
     join m y xs ys last came next,
-    (xs ++ ys, last, refl, items, m.decoder, m.held ++ ys, false, more_bytes m xs ys items reads, inl (k.0, _, _, k.1.1)),
+    (xs ++ ys, last, refl, m.decoder, m.held ++ ys, false, more_bytes m xs ys items reads, inl (k.0, _, _, k.1.1)),
   )
   stops items m y e (still xs phase came reads) (inr (_, ys, last, next, inr (inl k))) = (
     _,
     join m y xs ys last came next,
-    (xs ++ ys, last, refl, items, m.decoder, m.held ++ ys, true, reads_ended _ _ _ _ _ (more_bytes m xs ys items reads), (k.0, inl (_, _, k.1.1))),
+    (xs ++ ys, last, refl, m.decoder, m.held ++ ys, true, reads_ended _ _ _ _ _ (more_bytes m xs ys items reads), (k.0, (_, _, k.1.1))),
   )
   stops items m y e (still xs phase came reads) (inr (_, ys, last, next, inr (inr k))) = (
     _,
     join m y xs ys last came next,
-    (xs ++ ys, last, refl, items, m.decoder, m.held ++ ys, false, more_bytes m xs ys items reads, inr k.0),
+    (xs ++ ys, last, refl, m.decoder, m.held ++ ys, false, more_bytes m xs ys items reads, inr k.0),
   )
   stops items m y e (at_the_end xs phase came reads) (inl (r, is, inl after)) = let e = after.0 in cc
   stops items m y e (at_the_end xs phase came reads) (inl (None, is, inr after)) = cc is
@@ -169,21 +164,20 @@ module _ {T D X E : Type 0} (gives : Gives D X E) (from_gives : Error → E → 
       let same : f ≡ e = cc is in (
         _,
         rw after.2 came,
-        (xs, ReadMark.end ∷ [], refl, items, m.decoder, m.held, true, reads, (refl, inl (_, _, rw (append-nil m.held, same) at after.1.1))),
+        (xs, ReadMark.end ∷ [], refl, m.decoder, m.held, true, reads, (refl, (_, _, rw (append-nil m.held, same) at after.1.1))),
       )
   stops items m y e (at_the_end xs phase came reads) (inr h) = let e = h.0 in cc
 
-  -- The vector had no room for a frame.
-  pub refused : (items : List X) (y : Framed T D) (cause : Error) (e : E) → Collected gives told x items y → from_gives cause e
-      → error_kind cause ≡ OutOfMemory
-      → (l : List ReadMark) × told x.reader l y.reader × Collects gives from_gives x.decoder x.held l (Err e)
-  refused items y cause e (still xs phase came reads) made kind = (
+  -- The vector had no room for the last frame.
+  pub refused : (items : List X) (v w : X) (y : Framed T D) → w ≡ v → Collected gives told x (items ++ v ∷ []) y
+      → (l : List ReadMark) × told x.reader l y.reader × Collects gives from_gives x.decoder x.held l items (Err (Memory w))
+  refused items v w y same (still xs phase came reads) = (
     _,
     subst (λ l. told x.reader l y.reader) (sym (append-nil _)) came,
-    (xs, [], refl, items, y.decoder, y.held, false, reads, inr (cause, made, inr (refl, kind))),
+    (xs, [], refl, y.decoder, y.held, false, rw same reads, refl),
   )
-  refused items y cause e (at_the_end xs phase came reads) made kind =
-      (_, came, (xs, ReadMark.end ∷ [], refl, items, y.decoder, y.held, true, reads, (refl, inr (cause, made, kind))))
+  refused items v w y same (at_the_end xs phase came reads) =
+      (_, came, (xs, ReadMark.end ∷ [], refl, y.decoder, y.held, true, rw same reads, refl))
 
   pub none_yet : x.phase ≡ reading → Collected gives told x [] x
   none_yet phase =
@@ -204,32 +198,30 @@ module _ {T D X E : Type 0} (gives : Gives D X E) (from_gives : Error → E → 
       (after.1.0, after.2 ∙ same, one_at_end m y _ _ items v reads (rw (append-nil m.held, one) at after.1.1))
   last_more items m y v (phase, same, reads) (inr h) = let e = h.0 in cc
 
-  pub all_left : (frames : Vec X Global) (items : List X) → frames.items ≡ items → (m y : Framed T D) → LastCollected gives x items m
+  pub all_left : (items : List X) (m y : Framed T D) → LastCollected gives x items m
       → FrameStep gives from_gives told m (Ready None) y
-      → (y.reader ≡ x.reader) × CollectsLast gives from_gives x.decoder x.held (Ok frames)
-  all_left frames items those m y (phase, same, reads) (inl (r, is, inl after)) = let e = after.0 in cc
-  all_left frames items those m y (phase, same, reads) (inl (Some v, is, inr after)) = cc is
-  all_left frames items those m y (phase, same, reads) (inl (None, is, inr after)) =
+      → (y.reader ≡ x.reader) × CollectsLast gives from_gives x.decoder x.held items (Ok tt)
+  all_left items m y (phase, same, reads) (inl (r, is, inl after)) = let e = after.0 in cc
+  all_left items m y (phase, same, reads) (inl (Some v, is, inr after)) = cc is
+  all_left items m y (phase, same, reads) (inl (None, is, inr after)) =
       let whole = reads_all true _ _ items _ _ [] reads (no_frame _ _ _ _ (rw (append-nil m.held) at after.1.1)) in
-      (after.2 ∙ same, rw those (rw (append-nil _) at whole))
-  all_left frames items those m y (phase, same, reads) (inr h) = let e = h.0 in cc
+      (after.2 ∙ same, rw (append-nil _) at whole)
+  all_left items m y (phase, same, reads) (inr h) = let e = h.0 in cc
 
   pub last_stops : (items : List X) (m y : Framed T D) (e : E) → LastCollected gives x items m
       → FrameStep gives from_gives told m (Ready (Some (Err e))) y
-      → (y.reader ≡ x.reader) × CollectsLast gives from_gives x.decoder x.held (Err e)
+      → (y.reader ≡ x.reader) × CollectsLast gives from_gives x.decoder x.held items (Err (Input e))
   last_stops items m y e (phase, same, reads) (inl (r, is, inl after)) = let k = after.0 in cc
   last_stops items m y e (phase, same, reads) (inl (None, is, inr after)) = cc is
   last_stops items m y e (phase, same, reads) (inl (Some (Ok w), is, inr after)) = cc is
   last_stops items m y e (phase, same, reads) (inl (Some (Err f), is, inr after)) =
       let one : f ≡ e = cc is in
-      (after.2 ∙ same, (items, m.decoder, m.held, reads, inl (_, _, rw (append-nil m.held, one) at after.1.1)))
+      (after.2 ∙ same, (m.decoder, m.held, reads, (_, _, rw (append-nil m.held, one) at after.1.1)))
   last_stops items m y e (phase, same, reads) (inr h) = let k = h.0 in cc
 
-  pub last_refused : (items : List X) (y : Framed T D) (cause : Error) (e : E) → LastCollected gives x items y → from_gives cause e
-      → error_kind cause ≡ OutOfMemory
-      → (y.reader ≡ x.reader) × CollectsLast gives from_gives x.decoder x.held (Err e)
-  last_refused items y cause e (phase, same, reads) made kind =
-      (same, (items, y.decoder, y.held, reads, inr (cause, made, kind)))
+  pub last_refused : (items : List X) (v w : X) (y : Framed T D) → w ≡ v → LastCollected gives x (items ++ v ∷ []) y
+      → (y.reader ≡ x.reader) × CollectsLast gives from_gives x.decoder x.held items (Err (Memory w))
+  last_refused items v w y is (phase, same, reads) = (same, (y.decoder, y.held, rw is reads))
 
   -- Behind the end nothing is given.
   pub nothing_left : (m y : Framed T D) (r : Option (Result X E)) → m ≡ x → x.phase ≡ ended

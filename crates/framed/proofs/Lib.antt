@@ -1,4 +1,5 @@
 -- Lemmas of the proofs.
+pub mod Sent
 mod Steps
 mod Waits
 mod Encoding

@@ -1,15 +1,15 @@
 -- What an encoder wrote is what a decoder reads.
 use Rattle.std.specs.Prelude.{◌≡◌, Bool, true, false, ℕ, List, [], ◌∷◌, ◌++◌, map, Some, None, Result, Ok, Err, ⊤}
 use Rattle.std.specs.List.{AllZip}
-use Rattle.std.specs.declared.alloc.Global.{Global}
 use Rattle.std.specs.declared.io.Error.{Error}
-use Rattle.std.specs.declared.vec.Vec.{Vec}
 use Rattle.std.proofs.Common.{◌∙◌, ap, append-nil, append_assoc, inl, inr, refl, sym}
 use Rattle.framed.specs.Uses.{ReadMark, bytes}
 use Rattle.tokio_util.specs.Codec.Next.{Gives, IsStable, Next, at_end, decoded, partial}
 use Rattle.tokio_util.specs.Codec.Whole.{EncodesAll, ReadsAll, last_frame, no_frame, whole_frame}
-use Rattle.framed.specs.RoundTrip.{CollectsBack, ComesBack, IsBack, IsNoFrame, RoundTripLaws}
-use Rattle.framed.specs.Whole.{Collects, LacksMemory, ReadsTo, StopsAt, at_last, goes_on, whole}
+use Rattle.framed.specs.RoundTrip.{CollectsBack, ComesBack, FirstBack, IsBack, IsNoFrame, RoundTripLaws}
+use Rattle.framed.specs.Whole.{Collects, LacksMemory, NothingElse, ReadsTo, StopsAt, at_last, goes_on, whole}
+use Rattle.framed.specs.declared.collect_error.CollectError.{CollectError}
+use Rattle.framed.specs.declared.collect_error.CollectError.TheVariants.{Input, Memory}
 
 -- If some bytes and the end begin with the bytes `xs`, so do the bytes alone.
 cut_bytes : (ys xs : List ℕ) (m : List ReadMark) → bytes ys ++ ReadMark.end ∷ [] ≡ bytes xs ++ m
@@ -112,6 +112,28 @@ module _ {C D X V E : Type 0} (encodes : C → X → List ℕ → C → Type 0) 
         let all : xs ≡ frame ++ rest = rw (last refl, append-nil xs) at cut in
         absurd (laws.back c x items d frame m rest _ fits w (rw all at one))
 
+    -- One item more comes back.
+    one_more : (x : X) (v : V) (items : List X) (out : List V) → means x v → FirstBack encodes gives from_gives readable means items out
+        → FirstBack encodes gives from_gives readable means (x ∷ items) (v ∷ out)
+    one_more x v items out is (front, rest, cut, same) = (x ∷ front, rest, ap (λ l. x ∷ l) cut, (is, same))
+
+    -- The frames that were read are those of the first items.
+    first_back : (ended : Bool) (d : D) (xs : List ℕ) (out : List V) (t : D) (ys : List ℕ) → ReadsTo gives ended d xs out t ys
+        → (more : List ℕ) → (ended ≡ true → more ≡ []) → (items : List X) (c b : C) → readable c items d
+        → EncodesAll encodes c items (xs ++ more) b → FirstBack encodes gives from_gives readable means items out
+    first_back ended d xs out t ys (goes_on _ _ _ _ _ resumed) more last items c b fits written = ([], items, refl, tt)
+    first_back ended d xs out t ys (whole _ _ _ v u zs vs _ _ one h) more last [] c b fits written =
+        absurd (laws.nothing c d _ fits (rw written.0 at (stable d xs (Ok v) u zs more one)))
+    first_back ended d xs out t ys (whole _ _ _ v u zs vs _ _ one h) more last (x ∷ items) c b fits (frame, m, rest, w, cut, others) =
+        let came = laws.back c x items d frame m rest _ fits w (rw cut at (stable d xs (Ok v) u zs more one)) in
+        one_more x v items vs came.0 (first_back ended u zs vs t ys h more last items m b came.2 (rw (sym came.1) at others))
+    first_back ended d xs out t ys (at_last _ _ v u zs vs _ _ one h) more last [] c b fits written =
+        let none : xs ≡ [] = rw (last refl, append-nil xs) at written.0 in
+        absurd (laws.nothing c d _ fits (rw none at one))
+    first_back ended d xs out t ys (at_last _ _ v u zs vs _ _ one h) more last (x ∷ items) c b fits (frame, m, rest, w, cut, others) =
+        let all : xs ≡ frame ++ rest = rw (last refl, append-nil xs) at cut in
+        absurd (laws.back c x items d frame m rest _ fits w (rw all at one))
+
     -- The marks that were told begin the bytes `frames` and the end. They have the bytes `xs`, and then `last`.
     cut_told : (frames xs : List ℕ) (told after last : List ReadMark) → told ≡ bytes xs ++ last
         → bytes frames ++ ReadMark.end ∷ [] ≡ told ++ after
@@ -136,11 +158,10 @@ module _ {C D X V E : Type 0} (encodes : C → X → List ℕ → C → Type 0) 
       error_lacks : (e : E) (xs more : List ℕ) (last after : List ReadMark) (out : List V) (t : D) (ys : List ℕ) (ended : Bool)
           → ReadsTo gives ended d xs out t ys → frames ≡ xs ++ more → last ++ after ≡ bytes more ++ ReadMark.end ∷ []
           → StopsAt gives from_gives ended t ys last e → LacksMemory from_gives e
-      error_lacks e xs more last after out t ys true reads cut rest (is, inr lacks) = lacks
-      error_lacks e xs more last after out t ys true reads cut rest (is, inl (u, zs, inl g)) =
+      error_lacks e xs more last after out t ys true reads cut rest (is, (u, zs, inl g)) =
           let none = at_the_end more after (rw is at rest) in
           stops_at true xs more out t ys reads cut (λ _. none) (decoded (Err e) u zs) (rw (none, append-nil ys) g)
-      error_lacks e xs more last after out t ys true reads cut rest (is, inl (u, zs, inr g)) =
+      error_lacks e xs more last after out t ys true reads cut rest (is, (u, zs, inr g)) =
           let none = at_the_end more after (rw is at rest) in
           stops_at true xs more out t ys reads cut (λ _. none) (at_end (Err e) u zs) (rw (none, append-nil ys) g)
       error_lacks e xs more last after out t ys false reads cut rest (inl (is, u, zs, g)) =
@@ -149,14 +170,37 @@ module _ {C D X V E : Type 0} (encodes : C → X → List ℕ → C → Type 0) 
           absurd (no_fault more after (rw is at rest))
       error_lacks e xs more last after out t ys false reads cut rest (inr (cause, made, inr (is, kind))) = (cause, made, kind)
 
+      -- Behind the end no byte comes.
+      none_after : (ended : Bool) (more : List ℕ) (last after : List ReadMark) → last ++ after ≡ bytes more ++ ReadMark.end ∷ []
+          → NothingElse ended last → ended ≡ true → more ≡ []
+      none_after true more last after rest is e = at_the_end more after (rw is at rest)
+      none_after false more last after rest is e = cc e
+
+      none_behind : (e : E) (t : D) (ys : List ℕ) (ended : Bool) (more : List ℕ) (last after : List ReadMark)
+          → last ++ after ≡ bytes more ++ ReadMark.end ∷ [] → StopsAt gives from_gives ended t ys last e → ended ≡ true → more ≡ []
+      none_behind e t ys true more last after rest h is = at_the_end more after (rw h.0 at rest)
+      none_behind e t ys false more last after rest h is = cc is
+
+      first_of : (ended : Bool) (xs more : List ℕ) (out : List V) (t : D) (ys : List ℕ) → ReadsTo gives ended d xs out t ys
+          → frames ≡ xs ++ more → (ended ≡ true → more ≡ []) → FirstBack encodes gives from_gives readable means items out
+      first_of ended xs more out t ys reads cut last =
+          first_back ended d xs out t ys reads more last items c b fits (rw cut at written)
+
       collected : (told after : List ReadMark) → bytes frames ++ ReadMark.end ∷ [] ≡ told ++ after
-          → (r : Result (Vec V Global) E) → Collects gives from_gives d [] told r → CollectsBack encodes gives from_gives readable means items r
-      collected told after is (Ok out) (xs, told_is, reads) =
+          → (out : List V) (r : Result (Unit {0}) (CollectError V E)) → Collects gives from_gives d [] told out r
+          → CollectsBack encodes gives from_gives readable means items out r
+      collected told after is out (Ok u) (xs, told_is, reads) =
           let (more, cut, rest) = cut_told frames xs told after (ReadMark.end ∷ []) told_is is in
-          all_back out.items xs more after cut rest reads
-      collected told after is (Err e) (xs, last, told_is, out, t, ys, ended, reads, stops) =
+          all_back out xs more after cut rest reads
+      collected told after is out (Err (Input e)) (xs, last, told_is, t, ys, ended, reads, stops) =
+          let (more, cut, rest) = cut_told frames xs told after last told_is is in (
+            error_lacks e xs more last after out t ys ended reads cut rest stops,
+            first_of ended xs more out t ys reads cut (none_behind e t ys ended more last after rest stops),
+          )
+      collected told after is out (Err (Memory v)) (xs, last, told_is, t, ys, ended, reads, nothing) =
           let (more, cut, rest) = cut_told frames xs told after last told_is is in
-          error_lacks e xs more last after out t ys ended reads cut rest stops
+          first_of ended xs more (out ++ v ∷ []) t ys reads cut (none_after ended more last after rest nothing)
 
     pub collects_back : (c : C) (items : List X) (b : C) → ComesBack encodes gives from_gives readable means c items b
-    collects_back c items b frames written d fits told after is r h = collected c items b frames written d fits told after is r h
+    collects_back c items b frames written d fits told after is out r h =
+        collected c items b frames written d fits told after is out r h

@@ -124,7 +124,7 @@ module _ {T D X E : Type 0} (gives : Gives D X E) (from_gives : Error → E → 
 
 module _ {T D X E : Type 0} (gives : Gives D X E) (from_gives : Error → E → Type 0) (reads : Runs ReadMark T) where
   -- A fact about the reader that its runs keep is kept by a poll.
-  step_keeps : (P : T → Type 0) → ((s t : T) (l : List ReadMark) → P s → reads s l t → P t) → (x y : Framed T D)
+  pub step_keeps : (P : T → Type 0) → ((s t : T) (l : List ReadMark) → P s → reads s l t → P t) → (x y : Framed T D)
       (a : Answer (Result X E)) → P x.reader → FrameStep gives from_gives reads x a y → P y.reader
   step_keeps P keeps x y a c (inl (r, is, inl h)) = rw h.2 c
   step_keeps P keeps x y a c (inl (r, is, inr h)) = rw h.2 c

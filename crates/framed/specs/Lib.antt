@@ -1,7 +1,10 @@
 -- Frames of a reader and a writer, and a server of frames.
+pub mod CalmFrames
 pub mod Prompt
 pub mod Frames
 pub mod FrameLaws
+pub mod SendFuture
+pub mod SendLaws
 pub mod Uses
 pub mod Whole
 pub mod ToldLaws

@@ -1,13 +1,13 @@
 -- What an encoder wrote, a decoder reads back.
 use Rattle.std.specs.Prelude.{◌≡◌, ℕ, List, [], ◌∷◌, ◌++◌, Some, None, Result, Ok, Err, ⊤}
 use Rattle.std.specs.List.{AllZip}
-use Rattle.std.specs.declared.alloc.Global.{Global}
 use Rattle.std.specs.declared.io.Error.{Error}
-use Rattle.std.specs.declared.vec.Vec.{Vec}
 use Rattle.framed.specs.Uses.{ReadMark, bytes}
 use Rattle.tokio_util.specs.Codec.Next.{Gives, Next, at_end, decoded, partial}
 use Rattle.tokio_util.specs.Codec.Whole.{EncodesAll}
 use Rattle.framed.specs.Whole.{Collects, LacksMemory}
+use Rattle.framed.specs.declared.collect_error.CollectError.{CollectError}
+use Rattle.framed.specs.declared.collect_error.CollectError.TheVariants.{Input, Memory}
 
 -- `readable c xs d` says that a decoder `d` reads back what an encoder `c` writes for the items `xs`, and `means` what an
 -- item is read as.
@@ -37,15 +37,20 @@ module _ {C D X V E : Type 0} (encodes : C → X → List ℕ → C → Type 0) 
     -- Nothing comes of no bytes.
     pub nothing : (c : C) (d : D) (next : Next D V E) → readable c [] d → gives d [] next → IsNoFrame next
 
-  -- What is collected of the bytes that were written for some items: these items, in order. An error says that memory was
-  -- refused.
-  abbrev pub CollectsBack : List X → Result (Vec V Global) E → Type 0
-  CollectsBack items (Ok out) = AllZip means items out.items
-  CollectsBack items (Err e) = LacksMemory from_gives e
+  -- These items are the first ones of `items`, in order.
+  abbrev pub FirstBack : List X → List V → Type 0
+  FirstBack items out = (front : List X) × (rest : List X) × (items ≡ front ++ rest) × AllZip means front out
+
+  -- What is collected of the bytes that were written for some items: these items, in order. Or memory was refused, and then
+  -- they are the first ones of these items.
+  abbrev pub CollectsBack : List X → List V → Result (Unit {0}) (CollectError V E) → Type 0
+  CollectsBack items out (Ok u) = AllZip means items out
+  CollectsBack items out (Err (Input e)) = LacksMemory from_gives e × FirstBack items out
+  CollectsBack items out (Err (Memory v)) = FirstBack items (out ++ v ∷ [])
 
   -- What was written for `items` comes back. `told` are marks of a reader that begin the bytes written and the end of file.
-  -- Whatever is collected of them are these items, or an error that says that memory was refused.
+  -- Whatever is collected of them are these items. Or memory was refused, and then they are the first ones.
   abbrev pub ComesBack : C → List X → C → Type 0
   ComesBack c items b = (frames : List ℕ) → EncodesAll encodes c items frames b → (d : D) → readable c items d
       → (told after : List ReadMark) → bytes frames ++ ReadMark.end ∷ [] ≡ told ++ after
-      → (r : Result (Vec V Global) E) → Collects gives from_gives d [] told r → CollectsBack items r
+      → (out : List V) (r : Result (Unit {0}) (CollectError V E)) → Collects gives from_gives d [] told out r → CollectsBack items out r

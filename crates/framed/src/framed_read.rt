@@ -1,19 +1,22 @@
 //! A stream of the frames that a decoder finds in a reader.
-ghost use Rattle.std.specs.Prelude.{◌≡◌, ◌⊎◌, ◌==◌, ◌≤◌, ◌↔◌, ◌++◌, [], Err, IfOk, IsTrue, List, None, OnErr, Some, length, take, ℕ};
+ghost use Rattle.std.specs.Prelude.{◌≡◌, ◌⊎◌, ◌==◌, ◌≤◌, ◌<◌, ◌↔◌, ◌++◌, [], Err, IfErr, IfOk, IsTrue, List, None, OnErr, Some, length, take, ℕ};
 ghost use Rattle.std.specs.List.{FoldsTo};
 ghost use Rattle.framed.specs.Uses.{IfReady, Keeps, Registered, bytes, fill_marks};
 ghost use Rattle.lite_base.specs.Chain.{OneStep};
 ghost use Rattle.lite_base.specs.Laws.Ranks.{Terminates-map};
 ghost use Rattle.lite_base.specs.Laws.Streams.{stream_by_keeping_steps};
 ghost use Rattle.lite_base.specs.Runs.{NoHint};
+ghost use Rattle.tokio_util.specs.Codec.Next.{Resumes, decoded, partial};
+ghost use Rattle.framed.specs.CalmFrames.{frames_calm};
 ghost use Rattle.framed.specs.Frames.{FrameStep, InHand, Last, Looks, ended, ending, frame_ranks, held_at, reading};
 ghost use Rattle.framed.specs.FrameLaws.{TakesMore, frame_counts, frames_counting, takes_given};
 
 use crate::fill::fill;
+use crate::held_frame::HeldFrame;
 use crate::prompt_decoder::PromptDecoder;
 use bytes::BytesMut;
-use lite_base::{Context, OkCounted, Poll, PollSteps, Stream, drive};
-use lite_io_base::{AsyncBufRead, CountedRead};
+use lite_base::{CalmStream, Context, OkCounted, Poll, PollSteps, Stream, drive};
+use lite_io_base::{AsyncBufRead, CalmRead, CountedRead};
 use std::alloc::{AllocError, Global};
 use std::io;
 use std::marker::Model;
@@ -25,7 +28,8 @@ use std::marker::Model;
 /// poll returns `Ready(None)`. Size hint: `(0, None)`.
 ///
 /// It takes no byte behind a frame from the reader. So the reader can be lent as `&mut reader`, and other calls
-/// go on there behind the last frame. Each byte is copied once, into a buffer for the decoder.
+/// go on there behind the last frame. Each byte is copied into a buffer for the decoder, at most 8 KiB at a time, and a
+/// frame that is longer is copied again when that buffer grows.
 ///
 /// # Errors
 ///
@@ -174,6 +178,69 @@ impl<T: AsyncBufRead, D: PromptDecoder> FramedRead<T, D> {
             decoder: self.decoder,
             held,
         }
+    }
+
+    /// Returns a stream that goes on from these parts. It is the inverse of [`into_parts`](FramedRead::into_parts).
+    ///
+    /// The bytes in `held` come before those that the reader gives. They may be any bytes: the decoder looks at them at
+    /// once. The stream reads on, even if that from which the parts came was at its end or had returned an error. So a
+    /// stream that was refused memory goes on without a loss.
+    ///
+    /// # Errors
+    ///
+    /// A whole frame is held, or bytes that the decoder refuses. The [`HeldFrame`] has what the decoder returned, and the
+    /// parts behind it.
+    ///
+    /// # Examples
+    ///
+    /// ```
+    /// use framed::{FramedParts, FramedRead, LengthDelimited, wait_frame};
+    /// use futures_lite::future::BlockOn;
+    ///
+    /// let mut on = BlockOn::new(&rt)?;
+    /// let reader = b"\0\0\0\x02h".as_slice();
+    /// let mut frames = FramedRead::new(rt.alloc(), reader, LengthDelimited { max: 100 });
+    /// assert!(rt; matches!(wait_frame(&mut on, &rt, &mut frames), Some(Err(_))));
+    /// // The frame goes on in another file.
+    /// let FramedParts { decoder, held, .. } = frames.into_parts();
+    /// let reader = b"i".as_slice();
+    /// let Ok(mut frames) = FramedRead::from_parts(FramedParts { reader, decoder, held }) else {
+    ///     return Err(Fail::from("no whole frame is held"));
+    /// };
+    /// match wait_frame(&mut on, &rt, &mut frames) {
+    ///     Some(Ok(frame)) => assert_eq!(rt; frame.as_slice(), b"hi".as_slice()),
+    ///     _ => return Err(Fail::from("there is a frame")),
+    /// }
+    /// ```
+    pub fn from_parts(parts: FramedParts<T, D>) -> Result<FramedRead<T, D>, HeldFrame<T, D>>
+        ensures reading { IfOk result (λ f. (f.reader ≡ parts.reader) × (f.phase ≡ reading) × D.gives f.decoder f.held partial
+            × Resumes D.gives parts.decoder parts.held.items f.decoder f.held) }
+        ensures found { IfErr result (λ h. (h.parts.reader ≡ parts.reader)
+            × D.gives parts.decoder parts.held.items (decoded h.frame h.parts.decoder h.parts.held.items)) }
+    {
+        let FramedParts {
+            reader,
+            mut decoder,
+            mut held,
+        } = parts;
+        let frame = match decoder.decode(&mut held) {
+            Ok(Some(frame)) => Ok(frame),
+            Ok(None) => {
+                return Ok(FramedRead {
+                    reader,
+                    decoder,
+                    buffer: held,
+                    stage: Stage::Open,
+                });
+            }
+            Err(e) => Err(e),
+        };
+        let parts = FramedParts {
+            reader,
+            decoder,
+            held,
+        };
+        Err(HeldFrame { frame, parts })
     }
 
     /// Returns whether the input may go on: its end was not read, and no error was returned.
@@ -337,6 +404,7 @@ fn append_shown(buffer: &mut BytesMut, stage: Stage, shown: &[u8]) -> Result<usi
     ensures some { IfOk result (λ n. n ≡ 0 → shown.now ≡ []) }
     ensures front { IfOk result (λ n. buffer.new.items ≡ held_at stage buffer.old.items ++ take n shown.now) }
     ensures refused { OnErr result (buffer.new.items ≡ held_at stage buffer.old.items) }
+    ensures full { OnErr result (buffer.old.spare < length shown.now) }
 {
     let held = buffer.len();
     if matches!(stage, Stage::Fresh) && held > 0 {
@@ -408,4 +476,10 @@ impl<T: AsyncBufRead + CountedRead, D: PromptDecoder> OkCounted for FramedRead<T
     ghost ok_ranks = { frame_ranks D.owes T.ranks };
 
     ghost ok_counting = { frames_counting D.gives D.owes D.prompt D.Error.from_gives T.reads T.counting };
+}
+
+impl<T: AsyncBufRead + CountedRead + CalmRead, D: PromptDecoder> CalmStream for FramedRead<T, D> {
+    ghost is_calm = { λ x. T.is_calm x.reader };
+
+    ghost calm = { frames_calm D.gives D.Error.from_gives T.calm };
 }

@@ -1,14 +1,14 @@
 //! A server of frames.
 ghost use Rattle.std.specs.Prelude.{◌≡◌, List, Ok};
-ghost use Rattle.framed.specs.Serving.{NextEnds, ServeEnds, Session, StepEnds, TakesOrFails};
+ghost use Rattle.framed.specs.Serving.{NextEnds, Sent, ServeEnds, Session, StepEnds, TakesOrFails};
 
 use crate::framed_read::FramedRead;
+use crate::make::encode_all;
 use crate::next_frame::frame_by;
 use crate::prompt_decoder::PromptDecoder;
-use crate::send::flush_by;
-use crate::send_all::send_all;
 use crate::serve_error::ServeError;
 use crate::service::Service;
+use crate::waiting::{flush_by, hand};
 use bytes::BytesMut;
 use lite_base::Poll;
 use lite_base::future::Waits;
@@ -190,7 +190,7 @@ where
             let Ok(answer) = service.answer(rt.alloc(), request) else {
                 return Ok(Err(ServeError::Memory));
             };
-            match send_all(waits, rt, replies, encoder, answer.replies, out) {
+            match send_replies(waits, rt, replies, encoder, answer.replies, out) {
                 Ok(Ok(())) => Ok(Ok(answer.goes_on)),
                 Ok(Err(e)) => Err(e),
                 Err(e) => Ok(Err(ServeError::Encode(e))),
@@ -200,12 +200,35 @@ where
             let Ok(words) = service.refuse(rt.alloc(), &error) else {
                 return Ok(Err(ServeError::Memory));
             };
-            match send_all(waits, rt, replies, encoder, words, out) {
+            match send_replies(waits, rt, replies, encoder, words, out) {
                 Ok(Ok(())) => Ok(Err(ServeError::Input(error))),
                 Ok(Err(e)) => Err(e),
                 Err(e) => Ok(Err(ServeError::Encode(e))),
             }
         }
+    }
+}
+
+// Writes the frames of these replies. `Err`: one was not encoded, and nothing was written.
+#[inline(always)]
+fn send_replies<R, O, X, E>(
+    waits: &mut Waits<'_>,
+    rt: &R,
+    writer: &mut O,
+    encoder: &mut E,
+    replies: Vec<X>,
+    out: &mut BytesMut,
+) -> Result<io::Result<()>, E::Error>
+where
+    R: Wait,
+    O: AsyncWrite,
+    X: Drop,
+    E: Encoder<X>,
+    ensures { Sent O.writes E.encodes E.refuses writer.old encoder.old replies.items result writer.new encoder.new }
+{
+    match encode_all(encoder, replies, out) {
+        Ok(()) => Ok(hand(waits, rt, writer, out.as_slice())),
+        Err(e) => Err(e),
     }
 }
 

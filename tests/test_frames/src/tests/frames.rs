@@ -1,4 +1,5 @@
 //! Tests of frames on a reader.
+mod asleep;
 mod collecting;
 mod heads;
 mod in_hand;
@@ -9,6 +10,7 @@ mod lines;
 mod parts;
 mod polls;
 mod round_trip;
+mod sending;
 
 use bytes::BytesMut;
 use framed::{FrameError, FramedRead, LengthDelimited};

@@ -12,22 +12,22 @@ returns-in-None-clause-served g c =
 pub returns-in-Ok-Ok-clause-served : goal.returns-in-Ok-Ok-clause-served
 returns-in-Ok-Ok-clause-served g c =
     let t : c.in_ok-take.field-0 ≡ Some (Ok c.in-Some-Ok.request) = rw c.in-Some-Ok.field-0-is at c.in-Some-Ok.is in
-    let s : c.send_all.result ≡ Ok (Ok tt) = rw c.in-Ok-Ok.field-0-is at c.in-Ok-Ok.is in
+    let s : c.send_replies.result ≡ Ok (Ok tt) = rw c.in-Ok-Ok.field-0-is at c.in-Ok-Ok.is in
     went g.D.Decoder.gives g.S.Error.From.from_gives g.T.ReadSpec.reads g.T.AsyncBufRead.buffer_of g.O.WriteSpec.writes
     g.E.Encoder.encodes g.E.Encoder.refuses g.S.Service.answers g.S.Service.refuses _
     _ c.in-Some-Ok.request _ (stepped g.D.Decoder.gives g.S.Error.From.from_gives g.T.ReadSpec.reads g.T.AsyncBufRead.buffer_of g.O.WriteSpec.writes
     g.E.Encoder.encodes g.E.Encoder.refuses g.S.Service.answers g.S.Service.refuses _
     _ (Ok c.in-Some-Ok.request) _ _ _ (rw t at c.in_ok-take.ensures.taken) (rw c.in-Ok.is at c.answer.ensures)
-    _ c.send_all.ensures s)
+    _ c.send_replies.ensures s)
 
 pub returns-in-Ok-Err-clause-served : goal.returns-in-Ok-Err-clause-served
 returns-in-Ok-Err-clause-served g c =
     let t : c.in_ok-take.field-0 ≡ Some (Ok c.in-Some-Ok.request) = rw c.in-Some-Ok.field-0-is at c.in-Some-Ok.is in
-    let s : c.send_all.result ≡ Ok (Err c.in-Ok-Err.e) = rw c.in-Ok-Err.field-0-is at c.in-Ok-Err.is in
+    let s : c.send_replies.result ≡ Ok (Err c.in-Ok-Err.e) = rw c.in-Ok-Err.field-0-is at c.in-Ok-Err.is in
     not_written g.D.Decoder.gives g.S.Error.From.from_gives g.T.ReadSpec.reads g.T.AsyncBufRead.buffer_of g.O.WriteSpec.writes
     g.E.Encoder.encodes g.E.Encoder.refuses g.S.Service.answers g.S.Service.refuses _
     _ (Ok c.in-Some-Ok.request) _ _ _ (rw t at c.in_ok-take.ensures.taken) (rw c.in-Ok.is at c.answer.ensures)
-    _ c.send_all.ensures _ s
+    _ c.send_replies.ensures _ s
 
 pub returns-in-Err-clause-served : goal.returns-in-Err-clause-served
 returns-in-Err-clause-served g c =
@@ -35,33 +35,33 @@ returns-in-Err-clause-served g c =
     not_encoded g.D.Decoder.gives g.S.Error.From.from_gives g.T.ReadSpec.reads g.T.AsyncBufRead.buffer_of g.O.WriteSpec.writes
     g.E.Encoder.encodes g.E.Encoder.refuses g.S.Service.answers g.S.Service.refuses _
     _ (Ok c.in-Some-Ok.request) _ _ _ (rw t at c.in_ok-take.ensures.taken) (rw c.in-Ok.is at c.answer.ensures)
-    _ c.send_all.ensures _ c.in-Err.is
+    _ c.send_replies.ensures _ c.in-Err.is
 
-pub returns-in-Ok-Ok-send_all-clause-served : goal.returns-in-Ok-Ok-send_all-clause-served
-returns-in-Ok-Ok-send_all-clause-served g c =
+pub returns-in-Ok-Ok-send_replies-clause-served : goal.returns-in-Ok-Ok-send_replies-clause-served
+returns-in-Ok-Ok-send_replies-clause-served g c =
     let t : c.in_ok-take.field-0 ≡ Some (Err c.in-Some-Err.error) = rw c.in-Some-Err.field-0-is at c.in-Some-Err.is in
-    let s : c.send_all-in-Some-Err.result ≡ Ok (Ok tt) = rw c.in-Ok-Ok-send_all.field-0-is at c.in-Ok-Ok-send_all.is in
+    let s : c.send_replies-in-Some-Err.result ≡ Ok (Ok tt) = rw c.in-Ok-Ok-send_replies.field-0-is at c.in-Ok-Ok-send_replies.is in
     stepped g.D.Decoder.gives g.S.Error.From.from_gives g.T.ReadSpec.reads g.T.AsyncBufRead.buffer_of g.O.WriteSpec.writes
     g.E.Encoder.encodes g.E.Encoder.refuses g.S.Service.answers g.S.Service.refuses _
     _ (Err c.in-Some-Err.error) false _ _ (rw t at c.in_ok-take.ensures.taken)
-    (rw c.in-Ok-refuse.is at c.refuse.ensures, refl) _ c.send_all-in-Some-Err.ensures s
+    (rw c.in-Ok-refuse.is at c.refuse.ensures, refl) _ c.send_replies-in-Some-Err.ensures s
 
-pub returns-in-Ok-Err-send_all-clause-served : goal.returns-in-Ok-Err-send_all-clause-served
-returns-in-Ok-Err-send_all-clause-served g c =
+pub returns-in-Ok-Err-send_replies-clause-served : goal.returns-in-Ok-Err-send_replies-clause-served
+returns-in-Ok-Err-send_replies-clause-served g c =
     let t : c.in_ok-take.field-0 ≡ Some (Err c.in-Some-Err.error) = rw c.in-Some-Err.field-0-is at c.in-Some-Err.is in
-    let s : c.send_all-in-Some-Err.result ≡ Ok (Err c.in-Ok-Err-send_all.e) = rw c.in-Ok-Err-send_all.field-0-is at c.in-Ok-Err-send_all.is in
+    let s : c.send_replies-in-Some-Err.result ≡ Ok (Err c.in-Ok-Err-send_replies.e) = rw c.in-Ok-Err-send_replies.field-0-is at c.in-Ok-Err-send_replies.is in
     not_written g.D.Decoder.gives g.S.Error.From.from_gives g.T.ReadSpec.reads g.T.AsyncBufRead.buffer_of g.O.WriteSpec.writes
     g.E.Encoder.encodes g.E.Encoder.refuses g.S.Service.answers g.S.Service.refuses _
     _ (Err c.in-Some-Err.error) false _ _ (rw t at c.in_ok-take.ensures.taken)
-    (rw c.in-Ok-refuse.is at c.refuse.ensures, refl) _ c.send_all-in-Some-Err.ensures _ s
+    (rw c.in-Ok-refuse.is at c.refuse.ensures, refl) _ c.send_replies-in-Some-Err.ensures _ s
 
-pub returns-in-Err-send_all-clause-served : goal.returns-in-Err-send_all-clause-served
-returns-in-Err-send_all-clause-served g c =
+pub returns-in-Err-send_replies-clause-served : goal.returns-in-Err-send_replies-clause-served
+returns-in-Err-send_replies-clause-served g c =
     let t : c.in_ok-take.field-0 ≡ Some (Err c.in-Some-Err.error) = rw c.in-Some-Err.field-0-is at c.in-Some-Err.is in
     not_encoded g.D.Decoder.gives g.S.Error.From.from_gives g.T.ReadSpec.reads g.T.AsyncBufRead.buffer_of g.O.WriteSpec.writes
     g.E.Encoder.encodes g.E.Encoder.refuses g.S.Service.answers g.S.Service.refuses _
     _ (Err c.in-Some-Err.error) false _ _ (rw t at c.in_ok-take.ensures.taken)
-    (rw c.in-Ok-refuse.is at c.refuse.ensures, refl) _ c.send_all-in-Some-Err.ensures _ c.in-Err-send_all.is
+    (rw c.in-Ok-refuse.is at c.refuse.ensures, refl) _ c.send_replies-in-Some-Err.ensures _ c.in-Err-send_replies.is
 
 pub returns-in_default-clause-served : goal.returns-in_default-clause-served
 returns-in_default-clause-served g c =

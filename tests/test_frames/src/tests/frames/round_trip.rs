@@ -1,7 +1,7 @@
 use super::CODEC;
 use bytes::BytesMut;
 use framed::{
-    FrameError, FramedRead, LengthDelimited, LineDelimited, PromptDecoder, RoundTrip,
+    CollectError, FrameError, FramedRead, LengthDelimited, LineDelimited, PromptDecoder, RoundTrip,
     collect_frames, wait_frame, wait_send_all,
 };
 use futures_lite::future::BlockOn;
@@ -54,14 +54,16 @@ where
             return Err(AllocError.into());
         };
         let mut frames = FramedRead::new(rt.alloc(), reader, codec);
-        match collect_frames(&mut on, rt, &mut frames) {
-            Ok(frames) => {
-                assert_eq!(rt; frames.len(), 3);
-                for (frame, text) in frames.iter().zip(TEXTS) {
+        let mut came = Vec::new(rt.alloc());
+        match collect_frames(&mut on, rt, &mut frames, &mut came) {
+            Ok(()) => {
+                assert_eq!(rt; came.len(), 3);
+                for (frame, text) in came.iter().zip(TEXTS) {
                     assert_eq!(rt; frame.as_slice(), text.as_bytes());
                 }
             }
-            Err(e) => return Err(refused(e)),
+            Err(CollectError::Memory(_)) => return Err(AllocError.into()),
+            Err(CollectError::Input(e)) => return Err(refused(e)),
         }
     }
     Ok(())

@@ -1,7 +1,7 @@
 use Rattle.std.proofs.Common.{rules}
 use Rattle.framed.specs.Uses.{done}
 use Rattle.lite_write.proofs.Handed.{flush_lent, flush_up}
-use Rattle.framed.proofs.send.flush_by.Goals as goal
+use Rattle.framed.proofs.waiting.flush_by.Goals as goal
 
 pub returns : goal.returns
 returns g c =

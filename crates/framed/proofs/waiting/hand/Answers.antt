@@ -1,7 +1,7 @@
 use Rattle.std.proofs.Common.{rules}
 use Rattle.framed.specs.Uses.{done}
 use Rattle.lite_write.proofs.Handed.{hand_up, writer_lent}
-use Rattle.framed.proofs.send.hand.Goals as goal
+use Rattle.framed.proofs.waiting.hand.Goals as goal
 
 pub returns : goal.returns
 returns g c =
