@@ -102,7 +102,7 @@ POLLED = re.compile(r"^impl\b[^{;]*? (?:Stream|PollSteps|Future|Folder|Decoder|E
 NO_CASE = {
     # They return, lend or set a part of a value, or tell its state.
     *"borrow borrow_mut buffer calls first_mut get_mut into_inner into_parts is_reading is_stopped from_parts limit second_mut set_limit set_position".split(),
-    *"size_hint start take_future take_result".split(),
+    *"size_hint start take_error take_future take_result".split(),
     # They have no value.
     "pending",
     # They cost what the poll costs that they make.
@@ -110,7 +110,7 @@ NO_CASE = {
     # Sources that differ from `iter` in the type of their list alone.
     *"iter_array iter_range iter_slice iter_vec".split(),
     # Members of traits, and parts of a poll, that other calls make.
-    *"answer finish in_hand poll_close poll_flush poll_seek poll_write_vectored refuse scan_line take_in wait".split(),
+    *"advance_in_hand answer at_end cut find_delimiter_behind finish in_hand poll_close poll_flush poll_seek poll_write_vectored refuse scan_line take_in wait".split(),
     # What is wrapped costs what it wraps, and a wait for it what `block_on` costs.
     *"collect_from_kit compat stream_from_kit wait_from_kit".split(),
     # They are parts of `wait_send` and `wait_send_all`.
