@@ -1,6 +1,9 @@
 //! Frames that are lent.
 use super::{CODEC, Polled, encoded};
-use framed::{CutError, Cutter, Frames, FramesError, FramesParts, LengthDelimited, LineDelimited};
+use framed::{
+    CutError, Cutter, Delimiter, Frames, FramesError, FramesParts, LengthDelimited, LineDelimited,
+    find_delimiter_behind,
+};
 use futures::task::{Doorbell, Solo};
 use futures_lite::Poll;
 use futures_lite::io::{AsyncBufRead, BufReader, CountedRead};
@@ -280,7 +283,6 @@ fn a_frame_that_was_read_is_lent_without_a_read(rt: HostRuntime) -> Result<(), F
 #[test]
 fn a_search_goes_on_behind_what_was_seen(rt: HostRuntime) -> Result<(), Fail> {
     let lines = LineDelimited { max: 100 };
-    // A newline among the bytes that were seen is passed over, as none is expected there.
     let codec = LengthDelimited { max: 9 };
     assert_eq!(rt;
         codec.cut(b"\0\0\0\x0a", 0),
@@ -290,5 +292,12 @@ fn a_search_goes_on_behind_what_was_seen(rt: HostRuntime) -> Result<(), Fail> {
     assert_eq!(rt; codec.cut(b"\0\0\0\x05abc", 4), framed::Cut::More(9));
     assert_eq!(rt; lines.cut(b"abc", 0), framed::Cut::More(4));
     assert_eq!(rt; lines.at_end(b"abc"), CutError::CutOff);
+    let (colon, none) = (Delimiter::At(3), Delimiter::Missing);
+    assert_eq!(rt; find_delimiter_behind(b"120:abc:", b':', 20, 2), colon);
+    assert_eq!(rt; find_delimiter_behind(b"120", b':', 20, 3), none);
+    assert_eq!(rt;
+        find_delimiter_behind(b"120", b':', 2, 2),
+        Delimiter::TooFar
+    );
     Ok(())
 }
