@@ -21,12 +21,12 @@ use Rattle.framed.specs.Pieces.{pieces_by_frame, pieces_partial}
 use Rattle.framed.specs.Services.{AnswerOf, ServesAs, all_of}
 use Rattle.framed.specs.Serving.{ServeEnds, Session}
 use Rattle.framed.specs.declared.FrameError.{FrameError}
-use Rattle.framed.specs.declared.FrameError.TheVariants.{CutOff}
+use Rattle.framed.specs.declared.FrameError.TheVariants.{CutOff, Io}
 use Rattle.framed.specs.declared.ServeError.{ServeError}
 use Rattle.framed.specs.declared.ServeError.TheVariants.{Encode, Input, Memory, Output}
 use Rattle.framed.specs.declared.LineDelimited.{LineDelimited}
 use Rattle.example_lines.specs.Service.{SaysLast, last_lines, line_step}
-use Rattle.example_lines.specs.Session.{EndsWell, LineSession, LineSessionEnds, answers_to, encodes_lines, replies_to}
+use Rattle.example_lines.specs.Session.{BreaksALine, EndsWell, LineSession, LineSessionEnds, answers_to, encodes_lines, replies_to}
 use Rattle.example_lines.specs.Store.{KeyValues, no_keys, stored}
 use Rattle.example_lines.specs.declared.store.Store.{Store}
 
@@ -71,18 +71,19 @@ module _ {T O : Type 0} (reads : Runs ReadMark T) (writes : Runs WriteMark O) (x
       }
 
   stopped_session : (e : FrameError)
-      → Refusal reads writes (λ (v : Filled). LineOf x.requests.decoder v.items) encodes_lines (λ v. v.items) (λ r. r.items)
+      → Refusal gives_line_delimited (λ given error. error ≡ Io given) (λ d. d ≡ x.requests.decoder) reads writes (λ (v : Filled). LineOf x.requests.decoder v.items) encodes_lines (λ v. v.items) (λ r. r.items)
       stored line_step SaysLast x y e
-      → LineSession reads writes x.requests x.replies y.requests y.replies (λ answers behind. EachGoesOn answers) (last_lines e)
+      → LineSession reads writes x.requests x.replies y.requests y.replies
+      (λ answers behind. EachGoesOn answers × BreaksALine x.requests.decoder behind e) (last_lines e)
   stopped_session e s =
       let all = answers_are (stored x.service) s.requests s.answers (stored s.at) empty s.answered in
       record {
         lines = map (λ v. v.items) s.requests;
         came = s.came;
         of_lines = lines_of x.requests.decoder s.requests s.came s.of_requests;
-        behind = s.behind;
+        behind = bytes s.behind ++ s.last;
         read = s.read;
-        ended = subst EachGoesOn all s.goes_on;
+        ended = (subst EachGoesOn all s.goes_on, (s.behind, s.last, refl, s.why));
         took = s.took;
         wrote = s.wrote;
         replied = s.whole.1 ∙ replies_are _ _ (s.replies ++ s.words) s.frames s.encoded
@@ -93,7 +94,11 @@ module _ {T O : Type 0} (reads : Runs ReadMark T) (writes : Runs WriteMark O) (x
         flushed = s.whole.2;
       }
 
-module _ {T O : Type 0} (from_gives : Error → FrameError → Type 0) (reads : Runs ReadMark T) (buffer_of : T → List ℕ)
+-- what becomes of an error of the reader
+abbrev from_gives : Error → FrameError → Type 0
+from_gives given error = error ≡ Io given
+
+module _ {T O : Type 0} (reads : Runs ReadMark T) (buffer_of : T → List ℕ)
     (writes : Runs WriteMark O) (rejects : LineDelimited → Vec ℕ → ℕ → FrameError → Type 0) (read_laws : MarkLaws reads)
     (write_laws : MarkLaws writes) (x y : Session T LineDelimited O LineDelimited Store) (phase : x.requests.phase ≡ reading)
     (none : x.requests.held ≡ []) (empty : stored x.service ≡ no_keys) where

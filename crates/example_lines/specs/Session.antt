@@ -10,6 +10,7 @@ use Rattle.framed.specs.Dialogues.{EndsBy, FramesOf, EachGoesOn, answers_from}
 use Rattle.framed.specs.Frames.{Framed}
 use Rattle.framed.specs.LineBack.{EncodedText}
 use Rattle.framed.specs.LineDelimited.{LineOf, RefusesText, gives_line_delimited, with_newline}
+use Rattle.framed.specs.Refusals.{BreaksOff}
 use Rattle.framed.specs.Services.{AnswerOf, ServesAs, all_of}
 use Rattle.framed.specs.Serving.{ServeEnds}
 use Rattle.framed.specs.declared.FrameError.{FrameError}
@@ -38,6 +39,12 @@ EndsWell answers behind = (unread : List ℕ) × (marks : List ReadMark) × Ends
 abbrev pub replies_to : List (List ℕ) → List (List ℕ)
 replies_to lines = all_of (map (λ answer. answer.0) (answers_to lines))
 
+-- Behind the last line came bytes that such a decoder refuses with this error, as they are or as the end of the input. Or it is
+-- the error of the reader behind them, or memory was refused.
+abbrev pub BreaksALine : LineDelimited → List ReadMark → FrameError → Type 0
+BreaksALine c behind e = (ys : List ℕ) × (last : List ReadMark) × (behind ≡ bytes ys ++ last)
+    × BreaksOff gives_line_delimited (λ given error. error ≡ Io given) (λ d. d ≡ c) ys last e
+
 module _ {T O : Type 0} (reads : Runs ReadMark T) (writes : Runs WriteMark O) (x : Framed T LineDelimited) (w : O)
     (y : Framed T LineDelimited) (v : O) where
   -- The reader gave the bytes of some lines, and then the marks `behind`. The writer took the replies to these lines and then
@@ -55,10 +62,10 @@ module _ {T O : Type 0} (reads : Runs ReadMark T) (writes : Runs WriteMark O) (x
     pub flushed : EndsFlushed took
 
   -- How a session ends. On `Ok` the input ended behind the last line, or that line was `QUIT` or one of a web page. On `Input` no
-  -- line was such a one, and the last words to the error were written. Of other errors `LinesServed` says what was done.
+  -- line was such a one, the error is that of the bytes behind them, and the last words to it were written. Of other errors `LinesServed` says what was done.
   abbrev pub LineSessionEnds : Result (Unit {0}) (ServeError FrameError FrameError) → Type 0
   LineSessionEnds (Ok u) = LineSession EndsWell []
-  LineSessionEnds (Err (Input e)) = LineSession (λ answers behind. EachGoesOn answers) (last_lines e)
+  LineSessionEnds (Err (Input e)) = LineSession (λ answers behind. EachGoesOn answers × BreaksALine x.decoder behind e) (last_lines e)
   LineSessionEnds (Err (Output e)) = ⊤
   LineSessionEnds (Err (Encode e)) = ⊤
   LineSessionEnds (Err Memory) = ⊤

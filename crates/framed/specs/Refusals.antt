@@ -1,7 +1,7 @@
 -- A session of a server that stopped at an error of the input.
-use Rattle.std.specs.Prelude.{◌≡◌, false, ℕ, List, [], ◌∷◌, ◌++◌, Some, Err, map}
+use Rattle.std.specs.Prelude.{◌≡◌, Bool, true, false, ℕ, List, [], ◌∷◌, ◌++◌, Some, None, Ok, Err, map}
 use Rattle.std.specs.declared.io.Error.{Error}
-use Rattle.std.proofs.Common.{◌∙◌, ap, append-nil, append_assoc, inl, inr, subst, sym}
+use Rattle.std.proofs.Common.{◌∙◌, ap, append-nil, append_assoc, inl, inr, refl, subst, sym}
 use Rattle.framed.specs.Uses.{EndsFlushed, MarkLaws, ReadMark, Ready, Runs, ToldStripped, WriteMark, WritesAndFlushes}
 use Rattle.framed.specs.Uses.{bytes, bytes_taken, flushes_both, once_flushes, taken_both}
 use Rattle.tokio_util.specs.Codec.Next.{Gives, PartialHasNoFrame}
@@ -15,18 +15,26 @@ use Rattle.framed.specs.Services.{AnswerOf, LastWords, ServesAs, all_of}
 use Rattle.framed.specs.Serving.{ServeEnds, Session}
 use Rattle.framed.specs.ServingLaws.{encodes_both, served_all, step_wrote, takes_next}
 use Rattle.framed.specs.ToldLaws.{stripped_laws}
+use Rattle.framed.specs.Whole.{StopsAt}
 use Rattle.framed.specs.declared.serve_error.ServeError.TheVariants.{Input}
 
-module _ {T D O C L S A E B P Q : Type 0} (reads : Runs ReadMark T) (writes : Runs WriteMark O)
-    (frame_of : A → List ℕ → Type 0) (encodes : C → B → List ℕ → C → Type 0) (asked : A → P) (told : B → Q) (holds : L → S)
+-- Why no frame came of the bytes `ys` and the marks `last` behind them. A decoder in such a state refuses the bytes, as they are or
+-- as the end of the input. Or the reader failed, or memory was refused.
+abbrev pub BreaksOff : {D A E : Type 0} → Gives D A E → (Error → E → Type 0) → (D → Type 0) → List ℕ → List ReadMark → E → Type 0
+BreaksOff {D} gives from_gives idle ys last e = (d : D) × idle d × (ended : Bool) × StopsAt gives from_gives ended d ys last e
+
+module _ {T D O C L S A E B P Q : Type 0} (gives : Gives D A E) (from_gives : Error → E → Type 0) (idle : D → Type 0)
+    (reads : Runs ReadMark T) (writes : Runs WriteMark O) (frame_of : A → List ℕ → Type 0) (encodes : C → B → List ℕ → C → Type 0) (asked : A → P) (told : B → Q) (holds : L → S)
     (step : S → P → AnswerOf Q × S) (refuses : LastWords L E B) where
-  -- The reader gave the frames of these requests, and then other marks. The requests were answered in turn by `step`, and the
+  -- The reader gave the frames of these requests, and then bytes of which no frame came, and why. The requests were answered in turn by `step`, and the
   -- service said its last words to the error. The writer took the frames of all replies and of these words, and then a flush.
   pub record Refusal (x y : Session T D O C L) (e : E) : Type 0 where
     pub requests : List A
     pub came : List ℕ
-    pub behind : List ReadMark
-    pub read : ToldStripped reads x.requests.reader (bytes came ++ behind) y.requests.reader
+    pub behind : List ℕ
+    pub last : List ReadMark
+    pub read : ToldStripped reads x.requests.reader (bytes came ++ (bytes behind ++ last)) y.requests.reader
+    pub why : BreaksOff gives from_gives idle behind last e
     pub of_requests : FramesOf frame_of requests came
     pub at : L
     pub answers : List (AnswerOf Q)
@@ -48,17 +56,27 @@ module _ {T D A E : Type 0} (gives : Gives D A E) (from_gives : Error → E → 
   error_read : (items : List A) (m y : Framed T D) (e : E)
       → FramesRead gives from_gives told runs idle frame_of laws x items m
       → FrameStep gives from_gives told m (Ready (Some (Err e))) y
-      → (xs : List ℕ) × (behind : List ReadMark) × FramesOf frame_of items xs × told x.reader (bytes xs ++ behind) y.reader
+      → (xs : List ℕ) × (ys : List ℕ) × (last : List ReadMark) × FramesOf frame_of items xs
+      × told x.reader (bytes xs ++ (bytes ys ++ last)) y.reader × BreaksOff gives from_gives idle ys last e
   error_read items m y e (so_far xs of is phase none came) (inl (r, same, after)) = absurd (not_after gives m y r phase after)
-  error_read items m y e (so_far xs of is phase none came) (inr (_, ys, last, next, polled)) =
-      (xs, bytes ys ++ last, of, runs.follows _ _ _ _ _ came next)
+  error_read items m y e (so_far xs of is phase none came) (inr (_, ys, last, next, inl k)) =
+      (xs, ys, last, of, runs.follows _ _ _ _ _ came next, (m.decoder, is, false, inl (k.0, _, _, rw none at k.1.1)))
+  error_read items m y e (so_far xs of is phase none came) (inr (_, ys, last, next, inr (inl k))) =
+      (xs, ys, last, of, runs.follows _ _ _ _ _ came next, (m.decoder, is, true, (k.0, (_, _, rw none at k.1.1))))
+  error_read items m y e (so_far xs of is phase none came) (inr (_, ys, last, next, inr (inr k))) =
+      (xs, ys, last, of, runs.follows _ _ _ _ _ came next, (m.decoder, is, false, inr k.0))
   error_read items m y e (to_the_end xs of is phase came) (inl (r, same, inl after)) = let k = after.0 in cc
-  error_read items m y e (to_the_end xs of is phase came) (inl (r, same, inr after)) = (
-    xs,
-    bytes m.held ++ ReadMark.end ∷ [],
-    of,
-    rw after.2 (subst (λ l. told x.reader l m.reader) (sym (join_marks xs m.held (ReadMark.end ∷ []))) came),
-  )
+  error_read items m y e (to_the_end xs of is phase came) (inl (None, same, inr after)) = cc same
+  error_read items m y e (to_the_end xs of is phase came) (inl (Some (Ok v), same, inr after)) = cc same
+  error_read items m y e (to_the_end xs of is phase came) (inl (Some (Err f), same, inr after)) =
+      let one : f ≡ e = cc same in (
+        xs,
+        m.held,
+        ReadMark.end ∷ [],
+        of,
+        rw after.2 (subst (λ l. told x.reader l m.reader) (sym (join_marks xs m.held (ReadMark.end ∷ []))) came),
+        (m.decoder, is, true, (refl, (_, _, rw (append-nil m.held, one) at after.1.1))),
+      )
   error_read items m y e (to_the_end xs of is phase came) (inr h) = let k = h.0 in cc
 
 module _ {T D O C L S A E B F P Q : Type 0} (gives : Gives D A E) (from_gives : Error → E → Type 0) (reads : Runs ReadMark T)
@@ -71,7 +89,7 @@ module _ {T D O C L S A E B F P Q : Type 0} (gives : Gives D A E) (from_gives : 
   pub refused_at : (x y : Session T D O C L) (e : E) → idle x.requests.decoder → x.requests.phase ≡ reading
       → x.requests.held ≡ []
       → ServeEnds gives from_gives reads buffer_of writes encodes rejects (ServesAs asked told holds step) refuses x (Err (Input e)) y
-      → Refusal reads writes frame_of encodes asked told holds step refuses x y e
+      → Refusal gives from_gives idle reads writes frame_of encodes asked told holds step refuses x y e
   refused_at x y e is phase none (requests, m, served, (n, stop, (took, came, no_bytes, once), same, encoder, service)) =
       let all = served_all gives from_gives reads buffer_of writes encodes rejects (ServesAs asked told holds step) refuses
       no_frame read_laws write_laws x requests m served in
@@ -90,8 +108,10 @@ module _ {T D O C L S A E B F P Q : Type 0} (gives : Gives D A E) (from_gives : 
         requests = requests;
         came = read.0;
         behind = read.1;
-        read = read.3;
-        of_requests = read.2;
+        last = read.2;
+        read = read.4;
+        why = read.5;
+        of_requests = read.3;
         at = m.service;
         answers = going_on (map (map told) all.replies);
         answered = serves_as asked told holds step x.service m.service requests all.replies all.answered;

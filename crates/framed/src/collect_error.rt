@@ -12,7 +12,7 @@ use thiserror::Error;
 ///
 /// let stopped: CollectError<u8, &str> = CollectError::Memory(7);
 /// assert!(rt; matches!(stopped, CollectError::Memory(7)));
-/// assert_eq!(rt; format!(in rt.alloc(); "{stopped}")?, "out of memory");
+/// assert_eq!(rt; format!(in rt.alloc(); "{stopped}")?.as_str(), "out of memory");
 /// ```
 #[derive(Debug, Drop, Error)]
 #[error_bound(E: Display)]

@@ -89,7 +89,7 @@ where
 /// let replies = FramedRead::new(rt.alloc(), b"\0\0\0\x01a\0\0\0\x01b".as_slice(), codec);
 /// let texts = Vec::from_array(rt.alloc(), ["hi", "there"])?;
 /// let requests = send_all(&mut written, &mut LengthDelimited { max: 100 }, texts, &mut out);
-/// let both = future::zip(requests, replies.count());
+/// let both = future::zip(requests, replies.take(2).count());
 /// let (sent, count) = future::block_on(&rt, both)?;
 /// assert!(rt; sent.is_ok());
 /// assert_eq!(rt; count, 2);
