@@ -5,7 +5,7 @@ ghost use Rattle.futures_lite.specs.Own.{StepsToValue, future_by_steps};
 ghost use Rattle.futures_lite.specs.Readers.{ToldStripped};
 ghost use Rattle.example_http.specs.Filling.{FillStep, FilledUp};
 
-use futures_lite::future::BlockOn;
+use futures_lite::future::Waits;
 use futures_lite::io::{AsyncBufRead, fill};
 use futures_lite::{Context, Future, Poll};
 use std::io;
@@ -31,14 +31,14 @@ impl<T: AsyncBufRead> Future for Filling<'_, T> {
     }
 }
 
-/// Blocks this thread, by `on`, until the reader shows bytes. At end of file it shows none.
+/// Blocks this thread, by `waits`, until the reader shows bytes. At end of file it shows none.
 pub fn wait_fill<R: Wait, T: AsyncBufRead>(
-    on: &mut BlockOn,
+    waits: &mut Waits<'_>,
     rt: &R,
     reader: &mut T,
 ) -> io::Result<()>
     ensures { (told : List ReadMark) × ToldStripped T.reads reader.old told reader.new
         × FilledUp told (T.buffer_of reader.new) result }
 {
-    on.waits().wait_for(rt, &mut Filling { reader })
+    waits.wait_for(rt, &mut Filling { reader })
 }

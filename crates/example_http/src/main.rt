@@ -78,7 +78,7 @@ where
         Err(e) => return Err(ProgramError::Keys(e)),
     };
     let served = serve_session(
-        &mut on,
+        &mut on.waits(),
         rt,
         &mut reader,
         &mut writer,

@@ -6,7 +6,7 @@ ghost use Rattle.example_http.specs.Moving.{FlushesOutput, Moved, ReceivesBytes,
 
 use crate::filling::wait_fill;
 use crate::http_error::HttpError;
-use futures_lite::future::BlockOn;
+use futures_lite::future::Waits;
 use futures_lite::io::{AsyncBufRead, AsyncWrite, wait_flush, wait_write_all};
 use http_server::Connection;
 use std::io;
@@ -14,7 +14,7 @@ use std::sync::Wait;
 
 /// Writes what waits in the connection, or a first part of it.
 pub fn write_output<R: Wait, O: AsyncWrite>(
-    on: &mut BlockOn,
+    waits: &mut Waits<'_>,
     rt: &R,
     writer: &mut O,
     connection: &mut Connection,
@@ -26,7 +26,7 @@ pub fn write_output<R: Wait, O: AsyncWrite>(
 {
     let output = connection.output();
     let count = output.len();
-    match wait_write_all(on, rt, writer, output) {
+    match wait_write_all(waits, rt, writer, output) {
         Ok(Ok(())) => {}
         Ok(Err(e)) => return Err(e),
         Err(_) => unreachable!(),
@@ -36,10 +36,14 @@ pub fn write_output<R: Wait, O: AsyncWrite>(
 }
 
 /// Flushes the writer.
-pub fn flush<R: Wait, O: AsyncWrite>(on: &mut BlockOn, rt: &R, writer: &mut O) -> io::Result<()>
+pub fn flush<R: Wait, O: AsyncWrite>(
+    waits: &mut Waits<'_>,
+    rt: &R,
+    writer: &mut O,
+) -> io::Result<()>
     ensures { (took : List WriteMark) × FlushesOutput O.writes writer.old took result writer.new }
 {
-    match wait_flush(on, rt, writer) {
+    match wait_flush(waits, rt, writer) {
         Ok(flushed) => flushed,
         Err(_) => unreachable!(),
     }
@@ -48,7 +52,7 @@ pub fn flush<R: Wait, O: AsyncWrite>(on: &mut BlockOn, rt: &R, writer: &mut O) -
 /// Moves more of the reader's bytes to the connection. If the reader shows none, it waits until it does, and flushes the
 /// writer before. At end of file the connection gets the end of its input.
 pub fn read_more<R, T, O>(
-    on: &mut BlockOn,
+    waits: &mut Waits<'_>,
     rt: &R,
     reader: &mut T,
     writer: &mut O,
@@ -66,13 +70,13 @@ where
     if !reader.buffer().is_empty() {
         return take_in(reader, connection);
     }
-    refill(on, rt, reader, writer)?;
+    refill(waits, rt, reader, writer)?;
     take_in(reader, connection)
 }
 
 /// Flushes the writer, and then waits until the reader shows bytes or is at end of file.
 fn refill<R, T, O>(
-    on: &mut BlockOn,
+    waits: &mut Waits<'_>,
     rt: &R,
     reader: &mut T,
     writer: &mut O,
@@ -83,10 +87,10 @@ where
     O: AsyncWrite,
     ensures { (moved : Moved) × Refills T.reads T.buffer_of O.writes reader.old writer.old moved result reader.new writer.new }
 {
-    if let Err(e) = flush(on, rt, writer) {
+    if let Err(e) = flush(waits, rt, writer) {
         return Err(HttpError::Output(e));
     }
-    match wait_fill(on, rt, reader) {
+    match wait_fill(waits, rt, reader) {
         Ok(()) => Ok(()),
         Err(e) => Err(HttpError::Input(e)),
     }

@@ -7,7 +7,7 @@ ghost use Rattle.example_http.specs.Whole.{WholeSession};
 
 use crate::http_error::HttpError;
 use crate::moves::{flush, read_more, write_output};
-use futures_lite::future::BlockOn;
+use futures_lite::future::Waits;
 use futures_lite::io::{AsyncBufRead, AsyncWrite};
 use http_server::{Connection, Service, State};
 use std::sync::Wait;
@@ -23,7 +23,7 @@ use std::sync::Wait;
 /// The [`HttpError`] says which side failed. The connection then has in its history what was received, and which of its
 /// responses were written. Drop it, and the reader and the writer with it.
 pub fn serve_http<R, T, O, S>(
-    on: &mut BlockOn,
+    waits: &mut Waits<'_>,
     rt: &R,
     reader: &mut T,
     writer: &mut O,
@@ -44,7 +44,7 @@ where
     ensures config { config_of connection.new ≡ config_of connection.old }
 {
     for _ in rt.forever() {
-        if !turn(on, rt, reader, writer, connection, service)? {
+        if !turn(waits, rt, reader, writer, connection, service)? {
             return outcome(connection);
         }
     }
@@ -63,7 +63,7 @@ fn outcome(connection: &Connection) -> Result<(), HttpError>
 
 /// Answers what was received. Then it writes what waits, or reads more if nothing does. Returns whether to go on.
 fn turn<R, T, O, S>(
-    on: &mut BlockOn,
+    waits: &mut Waits<'_>,
     rt: &R,
     reader: &mut T,
     writer: &mut O,
@@ -82,17 +82,17 @@ where
 {
     connection.advance(service);
     if connection.wants_write() {
-        return match write_output(on, rt, writer, connection) {
+        return match write_output(waits, rt, writer, connection) {
             Ok(()) => Ok(true),
             Err(e) => Err(HttpError::Output(e)),
         };
     }
     if connection.is_done() {
-        return match flush(on, rt, writer) {
+        return match flush(waits, rt, writer) {
             Ok(()) => Ok(false),
             Err(e) => Err(HttpError::Output(e)),
         };
     }
-    read_more(on, rt, reader, writer, connection)?;
+    read_more(waits, rt, reader, writer, connection)?;
     Ok(true)
 }

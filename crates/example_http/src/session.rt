@@ -6,7 +6,7 @@ ghost use Rattle.example_http.specs.Whole.{Conversation};
 
 use crate::http_error::HttpError;
 use crate::server::serve_http;
-use futures_lite::future::BlockOn;
+use futures_lite::future::Waits;
 use futures_lite::io::{AsyncBufRead, AsyncWrite};
 use http_server::{Config, Connection, Service};
 use std::alloc::AllocGlobal;
@@ -22,7 +22,7 @@ use std::sync::Wait;
 ///
 /// Those of [`serve_http`].
 pub fn serve_session<R, T, O, S>(
-    on: &mut BlockOn,
+    waits: &mut Waits<'_>,
     rt: &R,
     reader: &mut T,
     writer: &mut O,
@@ -40,5 +40,5 @@ where
         × Conversation config S.answers service.old moved result service.new }
 {
     let mut connection = Connection::new(rt.alloc(), keys, config);
-    serve_http(on, rt, reader, writer, &mut connection, service)
+    serve_http(waits, rt, reader, writer, &mut connection, service)
 }

@@ -4,14 +4,14 @@ ghost use Rattle.example_words.specs.Refusals.{NamesNoLine};
 ghost use Rattle.example_words.specs.Runs.{ReadsOneLine};
 
 use crate::fault::WordsError;
-use futures_lite::future::BlockOn;
+use futures_lite::future::Waits;
 use futures_lite::io::{AsyncBufRead, CountedRead, wait_read_until};
 use std::io::ErrorKind;
 use std::sync::Wait;
 
 /// Reads a line into `line`, with its newline. Returns whether it has one; if not, the input ended behind it.
 pub fn read_line<R, T>(
-    on: &mut BlockOn,
+    waits: &mut Waits<'_>,
     rt: &R,
     reader: &mut T,
     line: &mut Vec<u8>,
@@ -25,7 +25,7 @@ where
     ensures again { T.ranks.counts reader.new }
 {
     line.clear();
-    match wait_read_until(on, rt, reader, b'\n', line) {
+    match wait_read_until(waits, rt, reader, b'\n', line) {
         Ok(Ok(_)) => Ok(line.last() == Some(&b'\n')),
         Ok(Err(e)) if e.kind() == ErrorKind::OutOfMemory => Err(WordsError::Memory),
         Ok(Err(e)) => Err(WordsError::Input(e)),

@@ -22,7 +22,7 @@ mod words;
 
 use fault::WordsError;
 use futures_lite::AsyncReadExt;
-use futures_lite::future::BlockOn;
+use futures_lite::future::{BlockOn, Waits};
 use futures_lite::io::{AssertAsync, AsyncBufRead, AsyncWrite, BufReader, BufWriter, CountedRead};
 use map::map;
 use programs::{Command, Watched, end, misused};
@@ -90,12 +90,12 @@ where
     let Ok(mut writer) = BufWriter::with_capacity(rt.alloc(), BUFFER, output) else {
         return Err(WordsError::Memory);
     };
-    run(&mut on, rt, mode, &mut reader, &mut writer)
+    run(&mut on.waits(), rt, mode, &mut reader, &mut writer)
 }
 
 /// Counts the words that the reader gives (`map`), or adds counts up (`reduce`), as `mode` says.
 fn run<R, T, O>(
-    on: &mut BlockOn,
+    waits: &mut Waits<'_>,
     rt: &R,
     mode: Mode,
     reader: &mut T,
@@ -108,7 +108,7 @@ where
     requires { T.ranks.counts reader.old }
 {
     match mode {
-        Mode::Map => map(on, rt, reader, writer),
-        Mode::Reduce => reduce(on, rt, reader, writer),
+        Mode::Map => map(waits, rt, reader, writer),
+        Mode::Reduce => reduce(waits, rt, reader, writer),
     }
 }

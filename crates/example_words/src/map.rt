@@ -7,7 +7,7 @@ use crate::fault::WordsError;
 use crate::input::read_line;
 use crate::output::write_last;
 use futures_lite::AsyncWrite;
-use futures_lite::future::BlockOn;
+use futures_lite::future::Waits;
 use futures_lite::io::{AsyncBufRead, CountedRead};
 use std::alloc::AllocGlobal;
 use std::sync::Wait;
@@ -18,7 +18,7 @@ use std::sync::Wait;
 ///
 /// The input or the output failed, memory was refused, or a count passes 64 bits. The error of a line names the last one read.
 pub fn map<R, T, O>(
-    on: &mut BlockOn,
+    waits: &mut Waits<'_>,
     rt: &R,
     reader: &mut T,
     output: &mut O,
@@ -31,13 +31,13 @@ where
     ensures written { IfOk result (λ _. MapsText T.reads O.writes reader.old output.old reader.new output.new) }
     ensures stopped { IfErr result (λ e. MapStops T.reads reader.old e reader.new) }
 {
-    let counts = count_words(on, rt, reader)?;
+    let counts = count_words(waits, rt, reader)?;
     let text = counts.text()?;
-    write_last(on, rt, output, &text)
+    write_last(waits, rt, output, &text)
 }
 
 // Counts the words of a text, which is read to its end.
-fn count_words<R, T>(on: &mut BlockOn, rt: &R, reader: &mut T) -> Result<Counts, WordsError>
+fn count_words<R, T>(waits: &mut Waits<'_>, rt: &R, reader: &mut T) -> Result<Counts, WordsError>
 where
     R: Wait + AllocGlobal,
     T: AsyncBufRead + CountedRead,
@@ -49,7 +49,7 @@ where
     let mut line = Vec::new(rt.alloc());
     let mut number: u64 = 0;
     for _ in rt.forever() {
-        let more = read_line(on, rt, reader, &mut line)?;
+        let more = read_line(waits, rt, reader, &mut line)?;
         number = number.saturating_add(1);
         if let Err(e) = counts.add_line(&line) {
             return Err(WordsError::Line(number, e));

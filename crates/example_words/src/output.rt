@@ -5,13 +5,13 @@ ghost use Rattle.example_words.specs.Runs.{WritesText, WritesFlushed};
 
 use crate::fault::WordsError;
 use futures_lite::AsyncWrite;
-use futures_lite::future::BlockOn;
+use futures_lite::future::Waits;
 use futures_lite::io::{wait_flush, wait_write_all};
 use std::sync::Wait;
 
 /// Writes all of the text.
 pub fn write<R: Wait, O: AsyncWrite>(
-    on: &mut BlockOn,
+    waits: &mut Waits<'_>,
     rt: &R,
     output: &mut O,
     text: &[u8],
@@ -19,7 +19,7 @@ pub fn write<R: Wait, O: AsyncWrite>(
     ensures written { IfOk result (λ _. WritesText O.writes output.old text.now output.new) }
     ensures failed { IfErr result (λ e. NamesNoLine e) }
 {
-    match wait_write_all(on, rt, output, text) {
+    match wait_write_all(waits, rt, output, text) {
         Ok(Ok(())) => Ok(()),
         Ok(Err(e)) => Err(WordsError::Output(e)),
         Err(_) => Err(WordsError::Memory),
@@ -28,7 +28,7 @@ pub fn write<R: Wait, O: AsyncWrite>(
 
 /// Writes all of the text, and flushes.
 pub fn write_last<R: Wait, O: AsyncWrite>(
-    on: &mut BlockOn,
+    waits: &mut Waits<'_>,
     rt: &R,
     output: &mut O,
     text: &[u8],
@@ -36,8 +36,8 @@ pub fn write_last<R: Wait, O: AsyncWrite>(
     ensures written { IfOk result (λ _. WritesFlushed O.writes output.old text.now output.new) }
     ensures failed { IfErr result (λ e. NamesNoLine e) }
 {
-    write(on, rt, output, text)?;
-    match wait_flush(on, rt, output) {
+    write(waits, rt, output, text)?;
+    match wait_flush(waits, rt, output) {
         Ok(Ok(())) => Ok(()),
         Ok(Err(e)) => Err(WordsError::Output(e)),
         Err(_) => Err(WordsError::Memory),

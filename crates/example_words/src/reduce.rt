@@ -10,7 +10,7 @@ use crate::output::{write, write_last};
 use crate::record::parse_record;
 use crate::sum::Sum;
 use futures_lite::AsyncWrite;
-use futures_lite::future::BlockOn;
+use futures_lite::future::Waits;
 use futures_lite::io::{AsyncBufRead, CountedRead};
 use std::alloc::AllocGlobal;
 use std::sync::Wait;
@@ -21,7 +21,7 @@ use std::sync::Wait;
 ///
 /// The input or the output failed, memory was refused, or a line was refused. The error of a line names the last one read.
 pub fn reduce<R, T, O>(
-    on: &mut BlockOn,
+    waits: &mut Waits<'_>,
     rt: &R,
     reader: &mut T,
     output: &mut O,
@@ -39,17 +39,17 @@ where
     let mut text = Vec::new(rt.alloc());
     let mut number: u64 = 0;
     for _ in rt.forever() {
-        read_line(on, rt, reader, &mut line)?;
+        read_line(waits, rt, reader, &mut line)?;
         text.clear();
         if line.is_empty() {
             sum.finish(&mut text)?;
-            return write_last(on, rt, output, &text);
+            return write_last(waits, rt, output, &text);
         }
         number = number.saturating_add(1);
         if let Err(e) = add_line(&mut sum, &line, &mut text) {
             return Err(WordsError::Line(number, e));
         }
-        write(on, rt, output, &text)?;
+        write(waits, rt, output, &text)?;
     }
     unreachable!()
 }

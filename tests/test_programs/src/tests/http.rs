@@ -82,7 +82,7 @@ where
     };
     let keys = RandomState::new(rt)?;
     Ok(serve_session(
-        &mut on,
+        &mut on.waits(),
         rt,
         &mut reader,
         writer,

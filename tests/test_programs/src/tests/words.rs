@@ -23,7 +23,7 @@ where
     R: Wait + RandomSource + AllocGlobal,
 {
     let (mut on, mut reader, mut output) = (BlockOn::new(rt)?, text, Vec::new(rt.alloc()));
-    Ok(match map(&mut on, rt, &mut reader, &mut output) {
+    Ok(match map(&mut on.waits(), rt, &mut reader, &mut output) {
         Ok(()) => Ok(output),
         Err(e) => Err(e),
     })
@@ -35,7 +35,7 @@ where
     R: Wait + RandomSource + AllocGlobal,
 {
     let (mut on, mut reader, mut output) = (BlockOn::new(rt)?, records, Vec::new(rt.alloc()));
-    Ok(match reduce(&mut on, rt, &mut reader, &mut output) {
+    Ok(match reduce(&mut on.waits(), rt, &mut reader, &mut output) {
         Ok(()) => Ok(output),
         Err(e) => Err(e),
     })
@@ -146,7 +146,7 @@ fn pieces_and_pendings_change_nothing(rt: HostRuntime) -> Result<(), Fail> {
         };
         let (mut on, mut output) = (BlockOn::new(&rt)?, Vec::new(rt.alloc()));
         assert!(rt;
-            map(&mut on, &rt, &mut reader, &mut output).is_ok(),
+            map(&mut on.waits(), &rt, &mut reader, &mut output).is_ok(),
             "cut at {at}"
         );
         assert_eq!(rt; output, whole, "cut at {at}");
@@ -206,7 +206,7 @@ fn an_error_of_the_input_is_returned(rt: HostRuntime) -> Result<(), Fail> {
         return Err(Fail::from("no memory"));
     };
     let (mut on, mut output) = (BlockOn::new(&rt)?, Vec::new(rt.alloc()));
-    match reduce(&mut on, &rt, &mut reader, &mut output) {
+    match reduce(&mut on.waits(), &rt, &mut reader, &mut output) {
         Err(WordsError::Input(e)) => assert_eq!(rt; e.kind(), ErrorKind::ConnectionReset),
         _ => return Err(Fail::from("the input's error is not returned")),
     }
@@ -224,7 +224,7 @@ fn a_pipe_that_nobody_reads_is_told_apart(rt: HostRuntime) -> Result<(), Fail> {
         };
         let mut reader = b"a b c".as_slice();
         let mut on = BlockOn::new(&rt)?;
-        match map(&mut on, &rt, &mut reader, &mut writer) {
+        match map(&mut on.waits(), &rt, &mut reader, &mut writer) {
             Err(e) => assert_eq!(rt; e.is_broken_pipe(), kind == ErrorKind::BrokenPipe),
             Ok(()) => return Err(Fail::from("the output's error is not returned")),
         }
