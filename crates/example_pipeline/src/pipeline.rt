@@ -154,7 +154,7 @@ fn close<R: Wait, O: AsyncWrite>(
     match &error.cause {
         Cause::NotUtf8 | Cause::NotANumber => finish(waits, rt, output, sums, error.line),
         Cause::Overflow | Cause::Memory | Cause::Input(_) => finish_early(
-            on, rt, output, error.line,
+            waits, rt, output, error.line,
         ),
         Cause::Output(_) => Ok(()),
     }

@@ -4,7 +4,7 @@ ghost use Rattle.std.specs.Prelude.{◌≡◌, []};
 use crate::consuming::{collections_are_alike, consumers_are_alike, tries_are_alike};
 use crate::future_properties::{futures_are_alike, futures_are_calm};
 use crate::merges::{
-    clones_have_marks, inner_streams_are_alike, inner_streams_are_calm, merges_are_alike,
+    clones_have_properties, inner_streams_are_alike, inner_streams_are_calm, merges_are_alike,
     merges_are_calm, poll_armed_nest, poll_mapped, poll_mapped_items,
 };
 use crate::sources::{calls_are_alike, calls_are_calm};
@@ -75,7 +75,7 @@ pub fn inner_streams_agree(drained: &Drain<'_, Once<Once<u8>>>) {
     inner_streams_are_alike(&outer, &outer);
     inner_streams_are_calm(&outer, drained);
     let lent = once(&byte);
-    clones_have_marks(&lent, &lent);
+    clones_have_properties(&lent, &lent);
 }
 
 /// A closure that is polled answers the same each time, without a pending; and those that unfold make the same futures.

@@ -110,7 +110,7 @@ where
 {}
 
 /// A future that consumes a calm stream is calm; two that lend their folders are alike where the folders agree.
-pub fn folders_have_marks<'a, S, E>(x: &&'a mut S, y: &&'a mut S, a: &&'a mut E, b: &&'a mut E)
+pub fn folders_have_properties<'a, S, E>(x: &&'a mut S, y: &&'a mut S, a: &&'a mut E, b: &&'a mut E)
 where
     S: SteadyStream + CalmStream,
     E: SteadyFolder<S>,

@@ -63,7 +63,7 @@ where
 {}
 
 /// One of two futures has the properties of that one. A future with a budget is calm if it is calm without.
-pub fn either_has_marks<A, B>(x: &A, y: &A, v: &B, w: &B, left: usize)
+pub fn either_has_properties<A, B>(x: &A, y: &A, v: &B, w: &B, left: usize)
 where
     A: SteadyFuture + CalmFuture,
     B: SteadyFuture<Output = A::Output> + CalmFuture,
@@ -79,7 +79,7 @@ where
 {}
 
 /// What is lent has the properties of what lends it.
-pub fn lent_have_marks<'a, S, E>(x: &&'a mut S, y: &&'a mut S, a: &&'a mut E, b: &&'a mut E)
+pub fn lent_have_properties<'a, S, E>(x: &&'a mut S, y: &&'a mut S, a: &&'a mut E, b: &&'a mut E)
 where
     S: SteadyStream + CalmStream,
     E: SteadyFuture + CalmFuture,

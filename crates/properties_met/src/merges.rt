@@ -62,7 +62,7 @@ where
 
 /// Clones of what alike streams refer to are alike where clones are equal, as those of bytes are; of a calm stream they
 /// are calm.
-pub fn clones_have_marks<'a, T, S>(x: &S, y: &S)
+pub fn clones_have_properties<'a, T, S>(x: &S, y: &S)
 where
     T: Clone + 'a,
     S: SteadyStream<Item = &'a T> + CalmStream,

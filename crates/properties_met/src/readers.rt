@@ -50,7 +50,7 @@ pub fn readers_are_calm<'a, T: BytesLike>(bytes: &'a [u8], t: &T, place: u64, by
 {}
 
 /// Adapters of readers are alike over readers that are alike, and calm over calm ones.
-pub fn adapters_have_marks<'a, R, S>(x: &&'a mut R, y: &&'a mut R, v: &S, w: &S, limit: u64)
+pub fn adapters_have_properties<'a, R, S>(x: &&'a mut R, y: &&'a mut R, v: &S, w: &S, limit: u64)
 where
     R: SteadyRead + CalmRead,
     S: SteadyRead + CalmRead,
@@ -73,7 +73,7 @@ where
 {}
 
 /// Two buffered readers as [`BufReader::new`] makes them are alike over readers that are, and calm over calm ones.
-pub fn buffered_readers_have_marks<R: SteadyRead + CalmRead>(x: &BufReader<R>, y: &BufReader<R>)
+pub fn buffered_readers_have_properties<R: SteadyRead + CalmRead>(x: &BufReader<R>, y: &BufReader<R>)
     requires alike { R.alike (reader_inner x.now) (reader_inner y.now) }
     requires is_calm { R.is_calm (reader_inner x.now) }
     requires empty { (bytes_ahead x.now ≡ []) × (bytes_ahead y.now ≡ []) }
@@ -83,7 +83,7 @@ pub fn buffered_readers_have_marks<R: SteadyRead + CalmRead>(x: &BufReader<R>, y
 {}
 
 /// Journals of readers that are alike are alike, and those of calm ones are calm.
-pub fn journals_have_marks<R: SteadyRead + CalmRead + WriteSpec + Clone>(
+pub fn journals_have_properties<R: SteadyRead + CalmRead + WriteSpec + Clone>(
     x: &Journal<R>,
     y: &Journal<R>,
 )

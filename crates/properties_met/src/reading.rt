@@ -79,7 +79,7 @@ where
 {}
 
 /// Streams that cut what alike readers tell, as `lines` and `split` make them, are alike, and over calm ones calm.
-pub fn pieces_have_marks<R>(x: &Lines<R>, y: &Lines<R>, v: &Split<R>, w: &Split<R>)
+pub fn pieces_have_properties<R>(x: &Lines<R>, y: &Lines<R>, v: &Split<R>, w: &Split<R>)
 where
     R: SteadyRead + CalmRead + CountedRead + AsyncBufRead,
     requires lines { R.alike x.now.reader y.now.reader }
@@ -97,7 +97,7 @@ where
 
 /// Copies of alike readers that have not begun are alike, whatever their writers are. One of a calm reader to a calm writer
 /// is calm.
-pub fn copies_have_marks<R, W>(x: &CopyFuture<R, W>, y: &CopyFuture<R, W>)
+pub fn copies_have_properties<R, W>(x: &CopyFuture<R, W>, y: &CopyFuture<R, W>)
 where
     R: SteadyRead + CalmRead + CountedRead,
     W: AsyncWrite + CalmWrite,

@@ -60,7 +60,7 @@ pub fn writers_are_calm<'a>(
 {}
 
 /// Adapters of writers, as `new` makes the buffered ones, are alike over writers that are alike, and calm over calm ones.
-pub fn adapters_have_marks<'a, W>(
+pub fn adapters_have_properties<'a, W>(
     x: &&'a mut W,
     y: &&'a mut W,
     v: &BufWriter<W>,
@@ -86,7 +86,7 @@ where
 {}
 
 /// Futures of writes are alike, whatever their writers are, and calm over calm ones.
-pub fn writes_have_marks<'a, W>(
+pub fn writes_have_properties<'a, W>(
     x: &&'a mut W,
     y: &&'a mut W,
     bytes: &'a [u8],
@@ -107,7 +107,7 @@ where
 {}
 
 /// Writers behind a budget, which counts what is read, are alike over writers that are alike, and calm over calm ones.
-pub fn budgets_have_marks<W: SteadyWrite + CalmWrite>(x: &W, y: &W, n: usize, m: usize)
+pub fn budgets_have_properties<W: SteadyWrite + CalmWrite>(x: &W, y: &W, n: usize, m: usize)
     requires alike { W.alike x.now y.now }
     requires is_calm { W.is_calm x.now }
     ensures alike { ⟦<Budgeted<W> as SteadyWrite>⟧.alike (record { reader = x.now; budget = n; left = Some n })
@@ -133,7 +133,7 @@ pub fn writers_alone<'a, T: BytesLike>(
 {}
 
 /// Journals of writers that are alike are alike, and those of calm ones are calm.
-pub fn journals_write_with_marks<W: SteadyWrite + CalmWrite + ReadSpec + Clone>(
+pub fn journals_write_with_properties<W: SteadyWrite + CalmWrite + ReadSpec + Clone>(
     x: &Journal<W>,
     y: &Journal<W>,
 )

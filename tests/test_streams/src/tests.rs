@@ -1,5 +1,5 @@
 mod consuming;
 mod futures;
-mod marks;
+mod properties;
 mod merging;
 pub(crate) mod streams;

@@ -49,7 +49,7 @@ impl<T: Write> AsyncWrite for Bridge<T> {
 }
 
 #[test]
-fn readers_and_writers_of_std_have_marks(rt: HostRuntime) -> Result<(), Fail> {
+fn readers_and_writers_of_std_have_properties(rt: HostRuntime) -> Result<(), Fail> {
     let mut reader = Bridge {
         inner: b"ab".as_slice(),
     };

@@ -2,7 +2,7 @@
 use lite_base::{CalmFuture, CalmStream, SteadyFuture, SteadyStream};
 use lite_read::make::{bytes, lines, read_until, split};
 use lite_write::make::{copy, sink};
-use properties_met::reading::{copies_have_marks, pieces_have_marks};
+use properties_met::reading::{copies_have_properties, pieces_have_properties};
 use std::alloc::AllocError;
 use std::test::Fail;
 
@@ -34,11 +34,11 @@ fn what_cuts_a_reader_is_steady_and_calm(rt: HostRuntime) -> Result<(), Fail> {
 }
 
 #[test]
-fn pieces_and_copies_have_marks(rt: HostRuntime) -> Result<(), Fail> {
+fn pieces_and_copies_have_properties(rt: HostRuntime) -> Result<(), Fail> {
     let text: &[u8] = b"ab-";
     let (x, y) = (lines(text, rt.alloc()), lines(text, rt.alloc()));
     let (v, w) = (split(text, rt.alloc(), b'-'), split(text, rt.alloc(), b'-'));
-    pieces_have_marks(&x, &y, &v, &w);
+    pieces_have_properties(&x, &y, &v, &w);
     let (first, second) = (
         copy(rt.alloc(), text, sink()),
         copy(rt.alloc(), text, sink()),
@@ -46,6 +46,6 @@ fn pieces_and_copies_have_marks(rt: HostRuntime) -> Result<(), Fail> {
     let (Ok(one), Ok(other)) = (first, second) else {
         return Err(AllocError.into());
     };
-    copies_have_marks(&one, &other);
+    copies_have_properties(&one, &other);
     Ok(())
 }

@@ -10,7 +10,7 @@ use lite_read::make::{
     read_vectored,
 };
 use nests_agree::reads::reads_agree;
-use properties_met::readers::{buffered_readers_have_marks, journals_have_marks};
+use properties_met::readers::{buffered_readers_have_properties, journals_have_properties};
 use std::alloc::AllocError;
 use std::io::ErrorKind;
 use std::test::Fail;
@@ -94,7 +94,7 @@ fn buffered_readers_and_journals_are_steady_and_calm(rt: HostRuntime) -> Result<
     let (Ok(one), Ok(other)) = (first, second) else {
         return Err(AllocError.into());
     };
-    buffered_readers_have_marks(&one, &other);
+    buffered_readers_have_properties(&one, &other);
     let first: Result<Journal<Cursor<Vec<u8>>>, _> = Journal::new(
         rt.alloc(),
         Cursor::new(Vec::new(rt.alloc())),
@@ -104,7 +104,7 @@ fn buffered_readers_and_journals_are_steady_and_calm(rt: HostRuntime) -> Result<
         return Err(AllocError.into());
     };
     both(&one);
-    journals_have_marks(&one, &other);
+    journals_have_properties(&one, &other);
     Ok(())
 }
 

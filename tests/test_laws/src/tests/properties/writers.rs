@@ -9,7 +9,7 @@ use lite_io_base::{ArmedWrite, CalmWrite, IoSlice, SteadyWrite};
 use lite_mock::{Marks, Order, Takes};
 use lite_write::make::{close, copy, flush, sink, write, write_all, write_vectored};
 use nests_agree::writes::{copies_agree, writes_agree};
-use properties_met::writers::{adapters_have_marks, journals_write_with_marks};
+use properties_met::writers::{adapters_have_properties, journals_write_with_properties};
 use std::alloc::AllocError;
 use std::test::Fail;
 
@@ -77,7 +77,7 @@ fn journals_are_steady_and_calm_writers(rt: HostRuntime) -> Result<(), Fail> {
         return Err(AllocError.into());
     };
     both(&one);
-    journals_write_with_marks(&one, &other);
+    journals_write_with_properties(&one, &other);
     Ok(())
 }
 
@@ -106,7 +106,7 @@ fn buffered_writers_are_steady_and_calm(rt: HostRuntime) -> Result<(), Fail> {
     both(&read);
     let (mut buffer_of, mut other_lent) = (Takes::new(rt.alloc()), Takes::new(rt.alloc()));
     let (x, y) = (&mut buffer_of, &mut other_lent);
-    adapters_have_marks(&x, &y, &one, &other, &read, &other_read);
+    adapters_have_properties(&x, &y, &one, &other, &read, &other_read);
     Ok(())
 }
 

@@ -1,4 +1,4 @@
-use crate::tests::marks::both_future;
+use crate::tests::properties::both_future;
 use futures_lite::stream::{self, CollectFuture, PartitionFuture, TryCollectFuture, UnzipFuture};
 use futures_lite::{Poll, StreamExt};
 use std::test::Fail;

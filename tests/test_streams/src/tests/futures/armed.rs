@@ -4,7 +4,7 @@ ghost use Rattle.futures.specs.Task.{Lasting};
 ghost use Rattle.lite_source.specs.Laws.Pending.{pending_laws};
 ghost use Rattle.lite_source.specs.Pending.{GivesPendings};
 
-use crate::tests::marks::{armed, armed_future};
+use crate::tests::properties::{armed, armed_future};
 use futures::task::{Doorbell, Solo, Source, Waker};
 use futures_lite::future::{self, Either, Ready, YieldNow};
 use futures_lite::laws::ArmedStream;

@@ -1,4 +1,4 @@
-use crate::tests::marks::{both, both_future, calm_future, steady_future};
+use crate::tests::properties::{both, both_future, calm_future, steady_future};
 use lite_base::{Context, Poll};
 use lite_future::{Either, Ready, YieldNow, make as future};
 use lite_source::make::once;

@@ -1,6 +1,6 @@
 use super::guards::{END, Guard, dropped, guards, make_guarded, with_drops};
 use super::text::Text;
-use crate::tests::marks::{both, calm, counted, ok_counted, ranked};
+use crate::tests::properties::{both, calm, counted, ok_counted, ranked};
 use futures_lite::stream::{self, Script};
 use futures_lite::{Context, Poll, StreamExt, future};
 use std::alloc::AllocError;
@@ -296,7 +296,7 @@ fn adapters_are_steady_and_calm(_rt: HostRuntime) -> Result<(), Fail> {
 }
 
 #[test]
-fn adapters_of_several_streams_have_their_marks(_rt: HostRuntime) -> Result<(), Fail> {
+fn adapters_of_several_streams_have_their_properties(_rt: HostRuntime) -> Result<(), Fail> {
     let one = 1u8;
     ranked(&stream::once(1u8).chain(stream::empty()));
     both(&stream::once(&one).cloned());
@@ -317,7 +317,7 @@ fn adapters_of_several_streams_have_their_marks(_rt: HostRuntime) -> Result<(), 
 }
 
 #[test]
-fn adapters_that_go_round_or_stop_have_their_marks(rt: HostRuntime) -> Result<(), Fail> {
+fn adapters_that_go_round_or_stop_have_their_properties(rt: HostRuntime) -> Result<(), Fail> {
     let Ok(round) = stream::once(1u8).cycle() else {
         assert!(rt; false);
         return Ok(());

@@ -1,6 +1,6 @@
 use super::guards::{END, make_guarded, with_drops};
 use super::text::Text;
-use crate::tests::marks::{both, counted, ranked, steady};
+use crate::tests::properties::{both, counted, ranked, steady};
 use futures_lite::{Context, Poll, StreamExt, future, stream};
 use std::alloc::AllocError;
 use std::cell::Cell;

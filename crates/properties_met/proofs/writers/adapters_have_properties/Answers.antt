@@ -1,6 +1,6 @@
 use Rattle.std.proofs.Common.{◌∙◌, sym}
 use Rattle.properties_met.proofs.Held.{none_held}
-use Rattle.properties_met.proofs.writers.adapters_have_marks.Goals as goal
+use Rattle.properties_met.proofs.writers.adapters_have_properties.Goals as goal
 
 pub returns-clause-buf_writer : goal.returns-clause-buf_writer
 returns-clause-buf_writer g c =
