@@ -1,5 +1,5 @@
 mod consuming;
 mod futures;
-mod properties;
 mod merging;
+mod properties;
 pub(crate) mod streams;

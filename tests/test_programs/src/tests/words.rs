@@ -35,10 +35,12 @@ where
     R: Wait + RandomSource + AllocGlobal,
 {
     let (mut on, mut reader, mut output) = (BlockOn::new(rt)?, records, Vec::new(rt.alloc()));
-    Ok(match reduce(&mut on.waits(), rt, &mut reader, &mut output) {
-        Ok(()) => Ok(output),
-        Err(e) => Err(e),
-    })
+    Ok(
+        match reduce(&mut on.waits(), rt, &mut reader, &mut output) {
+            Ok(()) => Ok(output),
+            Err(e) => Err(e),
+        },
+    )
 }
 
 // Returns what was written by a run that succeeded.

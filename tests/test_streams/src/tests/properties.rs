@@ -1,6 +1,7 @@
 //! Each type that carries a mark is asked for it by the bound alone.
 use lite_base::{
-    ArmedFuture, ArmedStream, CalmFuture, CalmStream, Counted, OkCounted, SteadyFuture, SteadyStream,
+    ArmedFuture, ArmedStream, CalmFuture, CalmStream, Counted, OkCounted, SteadyFuture,
+    SteadyStream,
 };
 
 pub(crate) fn steady<S: SteadyStream>(stream: &S) {

@@ -46,7 +46,13 @@ fn a_writer_that_takes_nothing_fails_to_write_buffered_data(rt: HostRuntime) -> 
 fn a_position_below_zero_is_called_negative(rt: HostRuntime) -> Result<(), Fail> {
     let mut cursor = Cursor::new(b"ab".as_slice());
     match future::block_on(&rt, cursor.seek(SeekFrom::Current(-1)))? {
-        Err(e) => assert!(rt; says(&rt, &e, "invalid seek to a negative or overflowing position")?),
+        Err(e) => assert!(rt;
+            says(
+                &rt,
+                &e,
+                "invalid seek to a negative or overflowing position"
+            )?
+        ),
         Ok(_) => return Err(Fail::from("the position is below zero")),
     }
     Ok(())
