@@ -73,7 +73,10 @@ where
 {}
 
 /// Two buffered readers as [`BufReader::new`] makes them are alike over readers that are, and calm over calm ones.
-pub fn buffered_readers_have_properties<R: SteadyRead + CalmRead>(x: &BufReader<R>, y: &BufReader<R>)
+pub fn buffered_readers_have_properties<R: SteadyRead + CalmRead>(
+    x: &BufReader<R>,
+    y: &BufReader<R>,
+)
     requires alike { R.alike (reader_inner x.now) (reader_inner y.now) }
     requires is_calm { R.is_calm (reader_inner x.now) }
     requires empty { (bytes_ahead x.now ≡ []) × (bytes_ahead y.now ≡ []) }
