@@ -112,7 +112,6 @@ where
         "close" => texts::close(alloc, cx, n),
         "buf_writer" => texts::buf_writer(alloc, cx, n),
         "values" => codecs::values(alloc, cx, n),
-        "lent_values" => codecs::lent_values(alloc, cx, n),
         "values_by_hand" => codecs::values_by_hand(alloc, cx, n),
         "take_body" => codecs::chunks(alloc, n),
         "served_lines" => codecs::served_lines(rt, n),

@@ -21,7 +21,7 @@ const FOLDS: &[(&str, u64, &[u64])] = &[
 
 /// Cases, their sizes, and their numbers: of texts all bytes that are read, of writers all that are written, of futures
 /// all values.
-const NUMBERS: [(&str, u64, u64); 69] = [
+const NUMBERS: [(&str, u64, u64); 68] = [
     ("made_noise", 600, 600),
     ("made_numbers", 6, 6),
     ("made_text", 6, 96),
@@ -41,7 +41,6 @@ const NUMBERS: [(&str, u64, u64); 69] = [
     ("made_values", 6, 120),
     ("made_chunks", 6, 132),
     ("values", 1000, 16000),
-    ("lent_values", 1000, 16000),
     ("values_by_hand", 1000, 16000),
     ("take_body", 1000, 16000),
     ("served_lines", 1000, 16000),

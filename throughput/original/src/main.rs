@@ -115,7 +115,7 @@ fn computed_of_others(cx: &mut Context<'_>, name: &str, n: u64) -> Option<u64> {
         "flush" => texts::flush(cx, n),
         "close" => texts::close(cx, n),
         "buf_writer" => texts::buf_writer(cx, n),
-        "values" | "values_by_hand" | "lent_values" => codecs::values_by_hand(cx, n),
+        "values" | "values_by_hand" => codecs::values_by_hand(cx, n),
         "take_body" => codecs::chunks(n),
         "served_lines" => codecs::served_lines(n),
         "journal" => journals::journal(cx, n),
