@@ -38,18 +38,21 @@ fn all_are_written_while_replies_are_read(rt: HostRuntime) -> Result<(), Fail> {
     let input = encoded(rt.alloc(), &[b"a", b"b"])?;
     let (mut written, mut out) = (Vec::new(rt.alloc()), BytesMut::new(rt.alloc()));
     let mut codec = CODEC;
-    let replies = FramedRead::new(rt.alloc(), input.as_slice(), CODEC);
+    let mut replies = FramedRead::new(rt.alloc(), input.as_slice(), CODEC).take(2);
     let requests = send_all(
         &mut written,
         &mut codec,
         texts(rt.alloc(), &["one", ""])?,
         &mut out,
     );
-    let (sent, came) = future::block_on(&rt, future::zip(requests, replies.take(2).count()))?;
-    if let Err(e) = sent {
-        return Err(refused(e));
+    let counted = replies.try_fold(
+        0,
+        |count: usize, _frame: BytesMut| Ok::<usize, FrameError>(count + 1),
+    );
+    match future::block_on(&rt, future::zip(requests, counted))? {
+        (Ok(()), Ok(came)) => assert_eq!(rt; came, 2),
+        (Err(e), _) | (_, Err(e)) => return Err(refused(e)),
     }
-    assert_eq!(rt; came, 2);
     assert_eq!(rt; written.as_slice(), b"\0\0\0\x03one\0\0\0\0".as_slice());
     Ok(())
 }

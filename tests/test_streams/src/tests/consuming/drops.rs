@@ -27,6 +27,28 @@ where
     Ok((before, drops.get()))
 }
 
+/// The same of a future that collects. `Err` if its collection was refused memory.
+fn dropped_by_collecting<R, F, C, E>(
+    rt: &R,
+    drops: &Cell<u8>,
+    future: F,
+) -> Result<(u8, u8), AllocError>
+where
+    R: Wait + RandomSource + AllocGlobal,
+    F: Future<Output = Result<C, E>> + Drop,
+    C: Drop,
+    E: Drop,
+    requires { F.can_poll future }
+{
+    drops.set(0);
+    let Ok(collection) = BlockOn::new(rt)?.block_on(rt, future)? else {
+        return Err(AllocError);
+    };
+    let before = drops.get();
+    drop(collection);
+    Ok((before, drops.get()))
+}
+
 #[test]
 fn futures_that_take_their_stream_drop_what_they_do_not_return(
     rt: HostRuntime,
@@ -46,12 +68,12 @@ fn futures_that_take_their_stream_drop_what_they_do_not_return(
             &drops,
             stream::iter(items()?).for_each(|_x: Guard<'_>| ()),
         )?,
-        dropped(
+        dropped_by_collecting(
             &rt,
             &drops,
             stream::iter(items()?).collect::<Vec<Guard<'_>>>(rt.alloc()),
         )?,
-        dropped(
+        dropped_by_collecting(
             &rt,
             &drops,
             stream::iter(items()?).collect::<VecDeque<Guard<'_>>>(rt.alloc()),
@@ -103,7 +125,7 @@ fn a_map_drops_each_value_that_it_replaces(rt: HostRuntime) -> Result<(), Fail> 
         .enumerate()
         .map(|(n, guard): (usize, Guard<'_>)| (n % 2, guard));
     let collected = pairs.collect::<BTreeMap<usize, Guard<'_>>>(rt.alloc());
-    assert_eq!(rt; dropped(&rt, &drops, collected)?, (3, 5));
+    assert_eq!(rt; dropped_by_collecting(&rt, &drops, collected)?, (3, 5));
     Ok(())
 }
 
