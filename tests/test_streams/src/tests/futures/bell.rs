@@ -57,7 +57,10 @@ impl Bell {
     pub(super) fn ring<R: Wait>(&self, rt: &R) {
         let mut state = self.shared.state.lock(rt);
         state.left = state.left.saturating_sub(1);
-        state.waiting = None;
+        let waiting = state.waiting.take();
+        // A poll that finds the lock taken yields, so the task is woken once the lock is free.
+        drop(state);
+        drop(waiting);
     }
 
     /// Rings each time that something waits for it, until it is ready.
