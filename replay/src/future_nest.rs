@@ -26,11 +26,7 @@ pub(crate) fn answered(
     words: &mut Words<'_>,
     answers: &mut Answers,
 ) -> Result<(), Fault> {
-    let mut nest = Nest::build(alloc, words)?;
-    match answers.finish(&mut nest, cx)? {
-        Some(value) => Ok(answers.number(value)?),
-        None => Ok(()),
-    }
+    Ok(until_value(&mut Nest::build(alloc, words)?, cx, answers)?)
 }
 
 /// Polls what is lent of a future until its value.
@@ -40,11 +36,7 @@ pub(crate) fn lent(
     words: &mut Words<'_>,
     answers: &mut Answers,
 ) -> Result<(), Fault> {
-    let mut nest = Nest::build(alloc, words)?;
-    match answers.finish(&mut &mut nest, cx)? {
-        Some(value) => Ok(answers.number(value)?),
-        None => Ok(()),
-    }
+    Ok(until_value(&mut &mut Nest::build(alloc, words)?, cx, answers)?)
 }
 
 /// Polls a function that polls a future until its value.
@@ -55,8 +47,16 @@ pub(crate) fn by_function(
     answers: &mut Answers,
 ) -> Result<(), Fault> {
     let mut nest = Nest::build(alloc, words)?;
-    match answers.finish(&mut future::poll_fn(|cx| nest.poll(cx)), cx)? {
-        Some(value) => Ok(answers.number(value)?),
+    Ok(until_value(&mut future::poll_fn(|cx| nest.poll(cx)), cx, answers)?)
+}
+
+fn until_value<F: Future<Output = i64>>(
+    future: &mut F,
+    cx: &mut Context<'_>,
+    answers: &mut Answers,
+) -> Result<(), AllocError> {
+    match answers.finish(future, cx)? {
+        Some(value) => answers.number(value),
         None => Ok(()),
     }
 }
