@@ -1,4 +1,4 @@
-"""How docs/api prints contracts: without what only serves the search for proofs, and with a sentence for each clause of a form that has a rule."""
+"""How the reference prints contracts: without what only serves the search for proofs, and with a sentence for each clause of a form that has a rule."""
 import re
 
 OPEN, CLOSED = "([{⟦", ")]}⟧"
@@ -77,7 +77,7 @@ def for_after(text, found):
 
 
 def printed(text):
-    """Returns a contract, or a source with contracts, as docs/api prints it."""
+    """Returns a contract, or a source with contracts, as the reference prints it."""
     for form, change in ((WRITTEN_BACK, without_clause), (AFTERWARDS, for_after), (OF_ITEMS, for_items), (FOUND_BY, for_fact)):
         text = rewritten(text, form, change)
     return MARKED.sub("", text)

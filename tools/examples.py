@@ -123,7 +123,7 @@ def proofs():
     files, parts = {}, {it: [part for part in PROVED if PROVED[part] == it and functions[part]] for it in PROVED.values()}
     for crate, there in parts.items():
         if there:
-            about = "//! Functions with clauses in the examples of doc comments.\n#![tactic(auto)]\n\n"
+            about = "//! Written by tools/documents: the functions with clauses in the examples of doc comments.\n#![tactic(auto)]\n\n"
             files[f"{crate}/src/lib.rt"] = about + "".join(f"pub mod {it};\n" for it in sorted(there))
         for part in there:
             files[f"{crate}/src/{part}.rt"] = text_of(part, functions[part], merged(uses[part]))
@@ -134,7 +134,7 @@ def text_of(part, functions, uses):
     """Returns a module of a crate of proofs: these functions, behind these imports and what else they name."""
     text = "\n".join(functions)
     told = f"in the examples of the methods of {ABOUT[part]}" if part in ABOUT else f"in the examples of `futures_lite::{part}`"
-    return laid_out(f"//! The functions with clauses {told}.\n{imports(text, uses)}{uses}\n{text}")
+    return laid_out(f"//! Written by tools/documents: the functions with clauses {told}.\n{imports(text, uses)}{uses}\n{text}")
 
 
 def laid_out(text):

@@ -1,4 +1,4 @@
-"""The files that are generated, whole or in part."""
+"""What is generated: files that git has, whole or in part, and the reference, which it has not."""
 import glob
 import os
 import re
@@ -7,18 +7,17 @@ import adapters
 import examples
 import lookup
 import markers
-import original_examples
 import originals
-import pictures
 import properties
 import speed
 import vocabulary
-from reference import Reference
+from reference import INDEX, Reference
 from repository import TOP, files_of, read_text
+from sources import REFERENCE
 from words import WRITTEN
 
 # The folders in which every file is generated.
-WHOLE = ("docs/api", "docs/pictures", *(f"crates/{it}/src" for it in dict.fromkeys(examples.PROVED.values())))
+WHOLE = (REFERENCE, *(f"crates/{it}/src" for it in dict.fromkeys(examples.PROVED.values())))
 
 # The list of crates; the count of functions that may wait in a line of it; and such a function.
 CRATES, COUNT, WAITS = "crates.txt", r"(?m)^({} may_wait=)\d+", re.compile(r"\bfn \w+<[^{]*\bWait\b")
@@ -54,13 +53,16 @@ def indexes():
                 yield os.path.relpath(path, TOP), indexed(read_text(path) if os.path.isfile(path) else "", modules)
 
 
-def files():
-    """Yields the path of each file that has generated text, and what it has to be."""
+def reference():
+    """Yields the path of each file of the reference, which git has not, and its text."""
     yield from Reference().pages()
-    yield from indexes()
     yield speed.PLOT, speed.plot()
-    yield pictures.FILE, pictures.by_item()[pictures.SHOWN].svg()
-    yield original_examples.PAGE, original_examples.page()
+
+
+def files():
+    """Yields the path of each file in git that has generated text, and what it has to be."""
+    yield INDEX, Reference().index()
+    yield from indexes()
     proofs = examples.proofs()
     for file, text in proofs.items():
         yield f"crates/{file}", text
@@ -85,11 +87,10 @@ def count_words(text):
     return sum(bool(re.search(r"\w", it)) for it in text.split())
 
 
-def word_counts(pages):
-    """Returns how many words of these pages tools write, and how many a hand wrote, its code left out."""
-    texts = [read_text(f"{TOP}/{it}") for it in pages]
-    parts = [("", it) if it.startswith(WRITTEN) else (markers.outside(it), markers.inside(it)) for it in texts]
-    return sum(count_words(it) for _, it in parts), sum(count_words(markers.without_code(it)) for it, _ in parts)
+def words_by_hand(pages):
+    """Returns how many words of these pages a hand wrote, their code left out."""
+    texts = [it for it in (read_text(f"{TOP}/{page}") for page in pages) if not it.startswith(WRITTEN)]
+    return sum(count_words(markers.without_code(markers.outside(it))) for it in texts)
 
 
 def stale(there):
@@ -99,11 +100,12 @@ def stale(there):
 
 
 def faults():
-    """Yields each file that is not what it has to be, each in the folders that nothing writes, and what docs/api does not explain."""
+    """Yields each file in git that is not what it has to be, each in its folders that nothing writes, and what the reference does not explain."""
     yield from Reference().faults()
     there = dict(files())
     for path, text in there.items():
         if not os.path.isfile(f"{TOP}/{path}") or read_text(f"{TOP}/{path}") != text:
             yield path, "it is not what tools/documents writes"
     for path in stale(there):
-        yield path, "tools/documents writes no such file"
+        if not path.startswith(REFERENCE):
+            yield path, "tools/documents writes no such file"

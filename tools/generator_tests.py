@@ -1,4 +1,4 @@
-"""Tests of the generator of docs/api, over sources of their own. `tools/lists` runs them."""
+"""Tests of the generator of the reference, over sources of their own. `tools/lists` runs them."""
 import re
 import unittest
 import unittest.mock
@@ -220,7 +220,7 @@ class TwoModules(unittest.TestCase):
         self.pages = dict(Reference(self.sources).pages())
 
     def entry(self, module, heading):
-        pages = [text for file, text in self.pages.items() if file.startswith(f"docs/api/{module}/")]
+        pages = [text for file, text in self.pages.items() if file.startswith(f"out/reference/{module}/")]
         found = [it.partition(f"\n## {heading}\n") for it in pages]
         return "".join(it[2].partition("\n## ")[0] for it in found)
 
@@ -262,7 +262,7 @@ class TwoModules(unittest.TestCase):
 
     def test_an_item_of_no_group_is_named(self):
         told = [what for _, what in Reference(self.sources).faults() if "fits no group" in what]
-        self.assertEqual(told, ["`future::stray` fits no group of docs/api (GROUPS in tools/reference.py)"])
+        self.assertEqual(told, ["`future::stray` fits no group of the index (GROUPS in tools/reference.py)"])
 
     def test_a_type_with_a_model_names_the_fields_of_the_model(self):
         self.assertIn("Fields in contracts: `calls: ℕ`, `bytes: ℕ`, `made: List Note`. They are those of", self.entry("future", "struct `Or`"))
@@ -297,15 +297,9 @@ class TwoModules(unittest.TestCase):
         self.assertNotIn("In the signature", self.entry("future", "fn `or`"))
 
     def test_a_page_has_a_call_and_the_type_that_it_returns(self):
-        self.assertEqual(self.headings("docs/api/stream/or.md"), ["fn `or`", "fn `swap`", "struct `Or`", "method `Or::first`", "method `Or::or`"])
-        self.assertEqual(self.headings("docs/api/stream/count.md"), ["fn `count`", "type `CountFuture`"])
-        self.assertEqual(self.headings("docs/api/future/other.md"), ["trait `Other`"])
-
-    def test_the_index_of_modules_has_all_names(self):
-        told = self.pages["docs/api/README.md"].partition("\n## All names\n\n")[2]
-        for link in ("[`future::or`](future/or.md#fn-or)", "[`stream::or`](stream/or.md#fn-or)", "[`future::Or`](future/or.md#struct-or)"):
-            self.assertIn(link, told)
-        self.assertNotIn("Or::first", told)
+        self.assertEqual(self.headings("out/reference/stream/or.md"), ["fn `or`", "fn `swap`", "struct `Or`", "method `Or::first`", "method `Or::or`"])
+        self.assertEqual(self.headings("out/reference/stream/count.md"), ["fn `count`", "type `CountFuture`"])
+        self.assertEqual(self.headings("out/reference/future/other.md"), ["trait `Other`"])
 
     def test_a_definition_that_pages_share_stands_with_its_module_and_links_to_others(self):
         every = Reference(self.sources).every
@@ -316,17 +310,17 @@ class TwoModules(unittest.TestCase):
 
     def test_a_definition_that_one_page_needs_stands_on_that_page_alone(self):
         word = Word("Reading", "lite_read", "Texts", "It says.")
-        pages = Words({("lite_read", "Texts", "Reading"): word}, {"docs/api/io/a.md": [word, word]}, {})
+        pages = Words({("lite_read", "Texts", "Reading"): word}, {"out/reference/io/a.md": [word, word]}, {})
         self.assertTrue(pages.is_alone(word))
-        self.assertEqual(pages.told_alone(word, "docs/api/io/a.md"), "[`Reading`](../../../crates/lite_read/specs/Texts.antt): It says.")
+        self.assertEqual(pages.told_alone(word, "out/reference/io/a.md"), "[`Reading`](../../../crates/lite_read/specs/Texts.antt): It says.")
         self.assertNotIn("lite_read", pages.page())
 
     def test_a_definition_that_another_names_has_a_place_to_link_to(self):
         named, naming = Word("Named", "lite_read", "Texts", "It says."), Word("Naming", "lite_read", "Texts", "As `Named`.")
         every = {("lite_read", "Texts", it.name): it for it in (named, naming)}
-        pages = Words(every, {"docs/api/io/a.md": [named, naming]}, {})
+        pages = Words(every, {"out/reference/io/a.md": [named, naming]}, {})
         self.assertEqual([pages.is_alone(it) for it in (named, naming)], [False, True])
-        self.assertIn("As [`Named`](../words.md#named).", pages.told_alone(naming, "docs/api/io/a.md"))
+        self.assertIn("As [`Named`](../words.md#named).", pages.told_alone(naming, "out/reference/io/a.md"))
 
     def test_words_that_differ_in_their_case_have_anchors_of_their_own(self):
         every = {("lite_read", "Texts", it): Word(it, "lite_read", "Texts", "It says.") for it in ("Reading", "reading")}
@@ -338,20 +332,25 @@ class TwoModules(unittest.TestCase):
         told = {"stream::or": ["laws::collect_or", "guide/21-codec.md", "future::or"]}
         with unittest.mock.patch("see_also.targets", lambda: told):
             pages = dict(Reference(self.sources).pages())
-        shown = " ".join(pages["docs/api/stream/or.md"].split())
-        codec = f"[{see_also.title_of('guide/21-codec.md')}](../../guide/21-codec.md)"
+        shown = " ".join(pages["out/reference/stream/or.md"].split())
+        codec = f"[{see_also.title_of('guide/21-codec.md')}](../../../docs/guide/21-codec.md)"
         self.assertIn(f"See also: [`laws::collect_or`](../laws/collect_or.md#fn-collect_or), {codec}, [`future::or`](../future/or.md#fn-or).", shown)
 
     def test_a_link_of_the_list_to_nothing_is_named(self):
         with unittest.mock.patch("see_also.targets", lambda: {"stream::or": ["laws::none", "guide/none.md"]}):
             self.assertEqual([what for _, what in see_also.faults({"stream::or"})], ["there is no laws::none", "there is no guide/none.md"])
 
-    def test_an_index_has_each_call_with_a_sentence_and_its_type(self):
-        told = self.pages["docs/api/stream/README.md"]
-        self.assertIn("- [`count`](count.md#fn-count): Returns a future of the number of items.\n- ", told.replace("\n\n", "\n"))
-        self.assertIn("- [`or`](or.md#fn-or): Returns a stream of both: the items of each.\n", told)
-        self.assertIn("- [`Or`](or.md#struct-or): The stream of both. With [`first`](or.md#method-orfirst) and [`or`](or.md#method-oror).\n", told)
-        self.assertIn("- Types of results: [`CountFuture`](count.md#type-countfuture).\n", told)
+    def test_an_index_has_a_line_for_each_item_with_a_sentence(self):
+        told = self.pages["out/reference/README.md"].partition("\n## `futures_lite::stream`\n")[2]
+        self.assertIn("\n- [`count`](stream/count.md#fn-count): Returns a future of the number of items.\n", told)
+        self.assertIn("\n- [`CountFuture`](stream/count.md#type-countfuture): A future of the number of items.\n", told)
+        self.assertIn("\n- [`or`](stream/or.md#fn-or): Returns a stream of both: the items of each.\n", told)
+        self.assertIn("\n- [`Or`](stream/or.md#struct-or): The stream of both.\n  - [`Or::first`](stream/or.md#method-orfirst): Returns the first stream of an `or`.\n", told)
+
+    def test_the_index_of_docs_leads_to_sources(self):
+        told = Reference(self.sources).index().partition("\n## `futures_lite::stream`\n")[2]
+        self.assertIn("\n- [`or`](../crates/lite_stream/src/make.rt): Returns a stream of both: the items of each.\n", told)
+        self.assertIn("\n- [`Or`](../crates/lite_stream/src/or.rt): The stream of both.\n  - [`Or::first`](../crates/lite_stream/src/or.rt): Returns", told)
 
     def test_a_word_of_a_contract_that_nothing_explains_is_named(self):
         told = [what for _, what in Reference(self.sources).faults() if "`stream::Or::or`" in what]
@@ -359,13 +358,13 @@ class TwoModules(unittest.TestCase):
         self.assertEqual(words, ["Strange", "unheard", "unknown"])
 
     def test_a_word_that_no_entry_explains_is_below_the_entries(self):
-        told = self.words("docs/api/stream/or.md")
+        told = self.words("out/reference/stream/or.md")
         for word in ("IfOk", "length"):
             self.assertIn(f"[`{word}`](../words.md#{word.lower()})", told)
-            self.assertIn(f"\n### `{word}`\n\n", self.pages["docs/api/words.md"])
+            self.assertIn(f"\n### `{word}`\n\n", self.pages["out/reference/words.md"])
         for word in ("size", "first", "n", "it", "S", "Item", "Self"):
             self.assertNotIn(f"[`{word}`]", told)
-        self.assertIn("[`Item`]", self.words("docs/api/stream/count.md"))
+        self.assertIn("[`Item`]", self.words("out/reference/stream/count.md"))
 
     def test_an_item_without_an_example_is_named(self):
         told = [what for _, what in examples.faults(self.sources)]

@@ -1,4 +1,4 @@
-"""The words of contracts: those that an entry of docs/api does not explain by itself, and what the table of its page says of them."""
+"""The words of contracts: those that an entry of the reference does not explain by itself, and what the table of its page says of them."""
 import functools
 import re
 

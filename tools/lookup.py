@@ -147,18 +147,11 @@ def own_crates():
     return [it for it in crates_in(TOP) if it not in libraries() and not it.startswith(REPEATED)]
 
 
-@functools.cache
-def headings(page):
-    """Returns the lines of a page of docs/api, which a copy of the library lacks."""
-    return set(read_text(f"{TOP}/{page}").splitlines()) if os.path.isfile(f"{TOP}/{page}") else set()
-
-
-def entries_of_item(item, at, page="", reach=0):
-    """Yields the entry of a public item of a crate's module, which is named as callers name it, and those of its variants; with its page of docs/api, if
-    there is one."""
+def entries_of_item(item, at, reach=0):
+    """Yields the entry of a public item of a crate's module, which is named as callers name it, and those of its variants."""
     crate, *inner = at.split("::")
     found = {"head": item.head, "says": first_sentence(item.says) if item.says else "", "comment": item.says, "contract": [*item.asks, *item.gives]}
-    found["places"] = [f"{page}#{item.anchor}"] * (f"## {item.heading}" in headings(page)) + [f"{item.path}:{item.line}"]
+    found["places"] = [f"{item.path}:{item.line}"]
     variants = [it.strip() for it in item.variants if it.strip() and not it.strip().startswith("//")]
     found["body"] = [*(" ".join(it.split()) for it in (*item.asks, *item.gives)), *variants]
     declared, title = f"use Rattle.{'.'.join([crate, 'specs.declared', *inner, item.name])}", f"{at}::{item.title}"
@@ -188,7 +181,7 @@ def sources_of(crates):
 def items_of_library():
     """Returns the public items of the facade and of the crates beside it."""
     every = sources_of(libraries())
-    found = [entry for module in MODULES for it in every.items_of(module).values() for entry in entries_of_item(it, called(module), every.page_of(it, module))]
+    found = [entry for module in MODULES for it in every.items_of(module).values() for entry in entries_of_item(it, called(module))]
     found += [it for module in MODULES for it in passed_from_kit(every, every.source_of(module), called(module))]
     root = every.by_module.get((FACADE, ()))
     if root:

@@ -21,15 +21,15 @@ LOOKED_UP = {
     "ItemsAfter": ("use Rattle.futures_lite.specs.Own.{ItemsAfter}", "ItemsAfter : {S A : Type 0} → (S → List A → Type 0) → Answer A → S →"),
     "UnfoldsInto": ("use Rattle.futures_lite.specs.Lists.{UnfoldsInto}", "UnfoldsInto {F S V O B : Type 0} (call : Mut F (S × Unit {0}) V)"),
     "ComesBack": ("use Rattle.framed.specs.RoundTrip.{ComesBack}", "ComesBack {C D X V E : Type 0} (encodes : C → X → List ℕ → C → Type 0)"),
-    "RoundTrip": ("framed::RoundTrip: trait", "ghost readable: { Self → List X → Self.Decoder → Type 0 };", "docs/api/framed/round_trip.md#trait-roundtrip"),
+    "RoundTrip": ("framed::RoundTrip: trait", "ghost readable: { Self → List X → Self.Decoder → Type 0 };", "crates/framed/src/"),
     "gives_headed": ("use Rattle.framed.specs.Heads.{gives_headed}", "gives_headed {C : Type 0} (f : HeadForm C) : Gives C Filled FrameError"),
     "FrameStep": ("use Rattle.framed.specs.Frames.{FrameStep}", "FrameStep {T D X E : Type 0} (gives : Gives D X E)"),
     "taken_both": ("use Rattle.futures_lite.specs.Laws.Told.{taken_both}",),
     "WriteMark.closed": ("use Rattle.futures_lite.specs.Marks.{WriteMark}", "WriteMark.closed : WriteMark"),
     "RoundTripLaws.back": ("RoundTripLaws::back: field of RoundTripLaws", "The frame of an item comes back as the item, whatever follows it."),
-    "CutOff": ("use Rattle.framed.specs.declared.FrameError.TheVariants.{CutOff}", "docs/api/framed/frame_error.md#enum-frameerror"),
+    "CutOff": ("use Rattle.framed.specs.declared.FrameError.TheVariants.{CutOff}", "crates/framed/src/"),
     "EndsForEver": ("EndsForEver: word of contracts, of its file alone", "EndsForEver [] = ⊤"),
-    "nth": ("futures_lite::stream::StreamExt::nth: method", "fn nth(&mut self, n: usize)", "docs/api/stream/nth.md#method-streamextnth"),
+    "nth": ("futures_lite::stream::StreamExt::nth: method", "fn nth(&mut self, n: usize)", "crates/futures_lite/src/stream.rt:"),
     "IfOk": ("use Rattle.std.specs.Prelude.{IfOk}", "`IfOk r (λ v. B)`: B holds if `r` is `Ok(v)`."),
 }
 # Words that a newcomer asks for, and the page that answers.
@@ -111,7 +111,7 @@ class LookUps(unittest.TestCase):
 
     def test_each_place_of_a_name_has_it(self):
         for name in ("told_counts", "Runs", "ComesBack", "RoundTrip", "gives_headed", "nth", "EndsForEver"):
-            places = re.findall(r"^  (?:docs/\S+ )?(crates/\S+):(\d+)$", "\n".join(self.whole(name)), re.M)
+            places = re.findall(r"^  (crates/\S+):(\d+)$", "\n".join(self.whole(name)), re.M)
             self.assertTrue(places)
             for path, line in places:
                 self.assertIn(name, read_text(f"{TOP}/{path}").splitlines()[int(line) - 1])

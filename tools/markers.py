@@ -4,13 +4,8 @@ import re
 from repository import stop
 
 
-ANY = re.compile(r"<!-- begin [^>]* -->(.*?)<!-- end [^>]* -->", re.S)
+ANY = re.compile(r"<!-- begin [^>]* -->.*?<!-- end [^>]* -->", re.S)
 CODE = re.compile(r"^```.*?^```$", re.M | re.S)
-
-
-def inside(text):
-    """Returns the parts of a text that tools write."""
-    return "\n".join(ANY.findall(text))
 
 
 def outside(text):

@@ -33,23 +33,17 @@ def sources():
     return Sources()
 
 
-def link_to(item):
-    """Returns a link from a page in docs/ to the entry of an item."""
-    return sources().link_to(item, PAGE, f"`{item.title}`")
-
-
 def tables():
     """Returns of each module, by the name of its marker, the table of what differs, and the names that are as in the original."""
     found = {}
     for module, title, note in lines():
         if module:
-            item = sources().items_of(module).get(title)
-            found.setdefault(module, []).append((link_to(item) if item else f"`{title}`", note))
+            found.setdefault(module, []).append((f"`{title}`", note))
     return {module: part(rows) for module, rows in found.items()}
 
 
 def part(rows):
-    """Returns the table of the names that have a note, each a link if it is here, and the names without one."""
+    """Returns the table of the names that have a note, and the names without one."""
     told = [f"| {name} | {note} |" for name, note in rows if note]
     same = wrapped(f"The same as there: {', '.join(name for name, note in rows if not note)}.")
     return "\n".join(["\n\n| futures-lite | What differs |", "|---|---|", *told, "", f"{same}\n\n"])
@@ -61,7 +55,7 @@ def added():
     found = {}
     for module in ("future", "stream", "io"):
         items = [it for title, it in sources().items_of(module).items() if not it.owner and (module, title) not in there]
-        found[f"{module} added"] = f"\n{wrapped(', '.join(map(link_to, items)))}\n"
+        found[f"{module} added"] = f"\n{wrapped(', '.join(f'`{it.title}`' for it in items))}\n"
     return found
 
 

@@ -1,4 +1,5 @@
-"""The pages of docs/api: for each public item its signature, its comment, an example, its contract and a table of polls, by its module and its title."""
+"""The reference: for each public item its signature, its comment, an example, its contract and a table of polls, by its module and its title. And the
+index of docs/, which has a line for each item."""
 import functools
 import itertools
 import os
@@ -12,7 +13,7 @@ from contracts import clauses_of, in_a_row, sentences
 from examples import CLAUSES, GHOST
 from legend import FIELDS, LEGEND, NAME, PHASES, WITH_MEANING, arguments, fields, legend, members, text_of, unexplained
 from repository import FACADE, TOP, read_text, version
-from sources import EXTENSIONS, LINKED, MAKERS, MODULES, Sources, called, first_sentence, head_of_impl, plain, relative
+from sources import EXTENSIONS, LINKED, MAKERS, MODULES, REFERENCE, Sources, called, first_sentence, head_of_impl, plain, relative
 from vocabulary import PLAIN, WIDTH, Word, bullet, cited, definitions, imported, libraries, wrapped
 from words import PAGE as WORDS, WRITTEN, Words
 
@@ -21,7 +22,8 @@ WRITES_BACK = re.compile(r"^ensures\* (\w+) .*record self\.old \{ (\w+) = (recor
 AFTERWARDS = re.compile(r"^ensures\* (\w+) .*\(Afterwards ", re.S)
 IMPL = re.compile(r"^impl\b(?P<types>[^{]*?)\s(?P<trait>\w+)(?:<[^{]*?>)?\s+for\s+(?P<type>\w+)", re.M)
 ALIAS = re.compile(r"type \w+(?:<.*?>)? = (?P<type>\w+)(?P<arguments><.*>)?")
-INDEX = "docs/api/README.md"
+# The first page of the reference, and the index that git has.
+FIRST, INDEX = f"{REFERENCE}/README.md", "docs/INDEX.md"
 TRAITS = "Traits"
 # The groups of a page, with where the code of their items stands, or the item in a file; the longest path decides.
 GROUPS = {
@@ -77,7 +79,7 @@ ABOUT_EXAMPLES = (
     "An example is the body of a function `fn example(rt: HostRuntime) -> Result<(), Fail>`: `rt` is the runtime that `main` is given, `Poll` is `futures_lite::Poll`, and `?` returns"
     " an allocation failure or an I/O error. `tools/tests` runs each of them. A function of an example that has an `ensures` is proved with no proof"
     " file, in a crate that begins with `#![tactic(auto)]`. It needs the imports of that crate, as those of"
-    " [proved_examples_others](../../crates/proved_examples_others/src/io.rt)."
+    f" [proved_examples_others]({relative(INDEX, 'crates/proved_examples_others/src/io.rt')})."
 )
 
 
@@ -87,15 +89,9 @@ def laid_out(comment):
     return "\n\n".join(f"**{it.removeprefix('# ')}**" if it.startswith("# ") else it if re.match(r"[-*|`\d]", it) else wrapped(it) for it in parts)
 
 
-ABOUT_MARKS = (
-    "`Result` names the type that a call returns. A property is a trait that states something of a type. A type's entry has the impl"
-    " of each of its properties, whose bounds the type's arguments must meet. The entry of a property says what it means, and"
-    " [TABLES](../TABLES.md#which-properties-a-type-has) which types lack it. In a table of polls `P` is `Pending`, and `E` the end of the"
-    " stream. Several results in a cell came in one poll, and in an empty cell the source was not polled."
-)
 # Words that stand in most contracts, so that no page lists them.
 IN_MOST = ("requires", "ensures", "result", "Self", "record", "entry", "old", "new", "now")
-# How a contract is read.
+# How a contract is read, in a source or in the reference.
 ABOUT_CONTRACTS = "\n".join(
     map(
         bullet,
@@ -105,8 +101,24 @@ ABOUT_CONTRACTS = "\n".join(
             " that is not named, and `{A = T}` says which type an argument of a definition is.",
             "`[]`, `x ∷ xs` and `xs ++ ys` are lists, and `λ x. e` is a function. `p.0` and `p.1` are the parts of a pair.",
             "`T.run` is a member of the type `T`, by a trait that it has. `F.FnMut` is the contract of the closures of the type `F`.",
-            f"[These words]({relative(INDEX, WORDS)}) stand in most contracts: {', '.join(f'`{it}`' for it in IN_MOST)}.",
-            "What only guides the search for proofs is left out: words that are always true, as `Seen`, and where a search begins. The source has it. A"
+            "In a source a contract also has what only guides the search for proofs: words that are always true, as `Seen`, and where a search begins.",
+        ),
+    )
+)
+# How an entry of the reference is read.
+ABOUT_MARKS = (
+    "`Result` names the type that a call returns. A property is a trait that states something of a type. A type's entry has the impl"
+    " of each of its properties, whose bounds the type's arguments must meet. The entry of a property says what it means, and"
+    f" [TABLES]({relative(FIRST, 'docs/TABLES.md', 'which-properties-a-type-has')}) which types lack it. In a table of polls `P` is `Pending`, and `E` the"
+    " end of the stream. Several results in a cell came in one poll, and in an empty cell the source was not polled."
+)
+ABOUT_ENTRIES = "\n".join(
+    map(
+        bullet,
+        (
+            f"[The index of `docs/`]({relative(FIRST, INDEX, 'how-to-read-a-contract')}) has the signs, and says how an example is run.",
+            f"[These words]({relative(FIRST, WORDS)}) stand in most contracts: {', '.join(f'`{it}`' for it in IN_MOST)}.",
+            "What only guides the search for proofs is left out. A"
             " clause on what is written through a reference is a sentence below the contract.",
             "A sentence under \"In words\" says what a clause says. In it, the items of a stream are those before its end, if it ends, and the value of a"
             " future is what a wait for it returns, if it returns `Ok`. `bytes` are those that a reader will give, and `kept` those that a writer keeps.",
@@ -115,21 +127,15 @@ ABOUT_CONTRACTS = "\n".join(
         ),
     )
 )
-# The parts of the index: how entries are read.
-ABOUT = f"""## How to read an entry
-
-{wrapped(ABOUT_EXAMPLES)}
-
-{wrapped(ABOUT_MARKS)}
-
-In a contract:
-
-{ABOUT_CONTRACTS}
-"""
+ABOUT_INDEX = (
+    f"This page names each public item of version {version()}, with the first sentence of its doc comment. The link leads to the source that has the rest of"
+    f" the comment, the example and the contract. `tools/documents` writes these, with each contract also in words, as a page for each item or family:"
+    f" `{FIRST}` is the first of them, and `{WORDS}` has the words of contracts."
+)
 
 
 class Page:
-    """A page of docs/api: its module, its file, and the items that have an entry there."""
+    """A page of the reference: its module, its file, and the items that have an entry there."""
 
     def __init__(self, module, file):
         self.module, self.file, self.items = module, file, []
@@ -276,17 +282,17 @@ class Reference:
                         yield f"{item.path}:{item.line}", f"nothing explains the word {word} of the contract of `{module}::{title}`; {LEGEND} may"
         for word in legend():
             if word not in used:
-                yield LEGEND, f"no contract of docs/api has the word {word}"
+                yield LEGEND, f"no contract of a public item has the word {word}"
 
     def faults_of_item(self, item, module):
         """Yields what an item's entry, or the index of a module, would lack."""
         if not self.group(item, module):
-            yield f"`{module}::{item.title}` fits no group of docs/api (GROUPS in tools/reference.py)"
+            yield f"`{module}::{item.title}` fits no group of the index (GROUPS in tools/reference.py)"
         for trait in self.properties_of(item) if is_type(item) else ():
             if not self.heads.get((trait, self.based(item))):
                 yield f"the impl of {trait} for `{module}::{item.name}` is not found"
         if any("(Lends" in it and not WRITES_BACK.search(it) for it in item.gives):
-            yield f"docs/api does not say what is written through the result of `{module}::{item.title}`"
+            yield f"the reference does not say what is written through the result of `{module}::{item.title}`"
 
     def pages_with(self, item):
         """Returns the modules on whose pages an item has an entry."""
@@ -553,34 +559,32 @@ class Reference:
 
     def page(self, page):
         """Returns the text of a page."""
-        index, about = page.link(index_of(page.module), "Index"), page.link(INDEX, "Legend", "how-to-read-an-entry")
+        index, about = page.link(FIRST, "Index", anchor_of_module(page.module)), page.link(FIRST, "Legend", "how-to-read-an-entry")
         parts = [WRITTEN.rstrip(), f"# `{called(page.module)}`: {page.name}", f"{index}. {about}."]
         parts += [self.entry(it, page) for it in page.items]
         words = list(self.legend_of(page))
         return "\n\n".join([*parts, *(["## Words", *words] if words else [])]) + "\n"
 
-    def listed(self, item, page):
-        """Returns an item's line in the index of its module, with its methods."""
-        says = f"{self.link_from(page, item, f'`{item.title}`')}{': ' if item.says else ''}{first_sentence(item.says)}"
-        parts = [self.link_from(page, it, f"`{it.name}`") for it in self.parts_of(item, page.module)]
-        return bullet(f"{says} With {in_a_row(parts)}." if parts else says)
+    def listed(self, item, module, link):
+        """Yields an item's line in an index, and below it those of its methods."""
+        for it in (item, *self.parts_of(item, module)):
+            says = first_sentence(it.says) if it.says else ""
+            yield f"{'  ' * (it is not item)}- {link(it, f'`{it.title}`')}{': ' if says else ''}{says}"
 
     def parts_of(self, item, module):
         """Returns the methods of a type, and the methods and types of a trait, that have entries."""
         is_of_any = item.name in EXTENSIONS
         return [] if is_of_any else sorted((it for it in self.shown(module) if it.owner is item), key=in_order)
 
-    def index_of(self, module):
-        """Returns the index of a module: its items by their groups, a call in the place that the original's documentation has for it."""
-        page = Page(module, index_of(module))
-        parts = [WRITTEN.rstrip(), f"# `{called(module)}`", self.about(module), *self.more_about(module, page)]
-        for name, items in self.groups(module).items():
-            whole = [it for it in items if not (it.owner and it.owner.name not in EXTENSIONS)]
-            results = [it for it in whole if is_type(it) and MAKERS.search(it.says) and not self.parts_of(it, module)]
-            lines = [self.listed(it, page) for it in whole if it not in results]
-            lines += [bullet(f"Types of results: {', '.join(self.link_from(page, it, f'`{it.name}`') for it in results)}.")] if results else []
-            parts += [f"## {name}", "\n".join(lines)] if lines else []
-        return "\n\n".join(parts) + "\n"
+    def listed_by_module(self, file, link):
+        """Yields the parts of an index: the items of each module by their groups, a call in the place that the original's documentation has for it."""
+        for module in filter(self.sources.items_of, MODULES):
+            page = Page(module, file)
+            yield from (f"## `{called(module)}`", self.about(module), *self.more_about(module, page))
+            for name, items in self.groups(module).items():
+                whole = [it for it in items if not (it.owner and it.owner.name not in EXTENSIONS)]
+                lines = [line for it in whole for line in self.listed(it, module, functools.partial(link, page))]
+                yield from (f"### {name}", "\n".join(lines)) if lines else ()
 
     def about(self, module):
         """Returns what a module says of itself."""
@@ -593,34 +597,27 @@ class Reference:
             yield wrapped(re.sub(r"(\w+ \d+) \(`(docs/[^`]+)`\)", lambda found: page.link(found[2], found[1]), " ".join(it.split())))
 
     def index(self):
-        """Returns the page that lists the modules, and says how entries are read."""
-        rows = [f"[`{called(module)}`]({relative(INDEX, index_of(module))}): {self.about(module)}" for module in filter(self.sources.items_of, MODULES)]
-        rows.append(f"[Words of contracts]({relative(INDEX, WORDS)}): their definitions.")
-        listed = "\n".join(map(bullet, rows))
-        names = "\n\n".join(["## All names", *self.all_names()])
-        return f"{WRITTEN}\n# {FACADE} {version()}\n\nThe public items, each with its contract, by their modules:\n\n{listed}\n\n{ABOUT}\n{names}\n"
+        """Returns the index of docs/, whose links lead to sources."""
+        parts = [WRITTEN.rstrip(), "# Index", wrapped(ABOUT_INDEX), "## How to read a contract", ABOUT_CONTRACTS, wrapped(ABOUT_EXAMPLES)]
+        return "\n\n".join([*parts, *self.listed_by_module(INDEX, lambda page, item, text: page.link(item.path, text))]) + "\n"
 
-    def all_names(self):
-        """Yields links to all calls, types and traits, but methods of types and of traits, in the order of their names: a paragraph for each letter."""
-        page = Page("", INDEX)
-        items = [(it, module) for module in MODULES for it in self.shown(module) if not it.owner or it.owner.name in EXTENSIONS]
-        items.sort(key=lambda it: (it[0].name.lower(), it[1], it[0].title))
-        for _, there in itertools.groupby(items, key=lambda it: it[0].name[0].lower()):
-            yield wrapped(", ".join(page.link(self.sources.page_of(it, module), f"`{module}::{it.title}`", it.anchor) for it, module in there))
+    def first_page(self):
+        """Returns the first page of the reference, which says how entries are read, and lists them."""
+        parts = [WRITTEN.rstrip(), f"# {FACADE} {version()}", "## How to read an entry", wrapped(ABOUT_MARKS), ABOUT_ENTRIES]
+        return "\n\n".join([*parts, *self.listed_by_module(FIRST, self.link_from)]) + "\n"
 
     def pages(self):
-        """Yields the path of each page, and its text."""
-        yield INDEX, self.index()
+        """Yields the path of each page of the reference, and its text."""
+        yield FIRST, self.first_page()
         for module in filter(self.sources.items_of, MODULES):
-            yield index_of(module), self.index_of(module)
             for file, page in self.pages_of(module).items():
                 yield file, self.page(page)
         yield WORDS, self.words.page()
 
 
-def index_of(module):
-    """Returns the file of a module's index."""
-    return f"docs/api/{module}/README.md"
+def anchor_of_module(module):
+    """Returns the anchor of a module's heading in an index."""
+    return called(module).replace(":", "")
 
 
 def in_order(item):

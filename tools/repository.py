@@ -14,7 +14,7 @@ TOP = os.path.dirname(os.path.dirname(os.path.abspath(__file__)))
 # The folders of a crate that its proof reads.
 PARTS = ("src", "specs", "proofs")
 FACADE = "futures_lite"
-# Crates that stand on the facade, and that users list beside it. Each has a page in docs/api.
+# Crates that stand on the facade, and that users list beside it. Each has a part of docs/INDEX.md.
 BESIDE = ("framed", "compat")
 # The crates of tests stand below one folder, with their lines. What they share stands there too, so that no gate proves it.
 TESTS, TEST_LINES = "tests", "tests/lines.txt"

@@ -1,4 +1,4 @@
-"""Links below the entries of docs/api, from tools/see-also.txt: to items that a reader may want next, and to pages of docs/."""
+"""Links below the entries of the reference, from tools/see-also.txt: to items that a reader may want next, and to pages of docs/."""
 import functools
 import os
 

@@ -12,6 +12,10 @@ from vocabulary import libraries, snake
 MODULES = ("future", "stream", "io", "laws", *BESIDE)
 
 
+# The folder of the reference, which tools/documents writes and git has not.
+REFERENCE = "out/reference"
+
+
 def relative(here, to, anchor=""):
     """Returns how a link in a file names another file, or a heading of one; of the file itself the heading alone."""
     file = "" if here == to else os.path.relpath(to, os.path.dirname(here))
@@ -70,7 +74,7 @@ class Item:
 
     @property
     def heading(self):
-        """The heading of the item's entry in docs/api."""
+        """The heading of the item's entry in the reference."""
         return f"{'method' if self.owner and self.kind == 'fn' else self.kind} `{self.title}`"
 
     @property
@@ -318,12 +322,8 @@ class Sources:
         return made if made and MAKERS.search(made.says) and self.items_of(module).get(made.name) is made else item
 
     def page_of(self, item, module):
-        """Returns the page of docs/api that has an item's entry: that of the call, of the type or of the trait that the item belongs to."""
+        """Returns the page of the reference that has an item's entry: that of the call, of the type or of the trait that the item belongs to."""
         name = snake(self.home(item, module).name)
         short = name.removesuffix("_future")
         is_of_call = any(it.kind == "fn" and it.name == short for it in self.items_of(module).values())
-        return f"docs/api/{module}/{short if is_of_call else name}.md"
-
-    def link_to(self, item, here, text):
-        """Returns a link from a file to the entry of an item of the module that was looked through last."""
-        return f"[{text}]({relative(here, self.page_of(item, item.module), item.anchor)})"
+        return f"{REFERENCE}/{module}/{short if is_of_call else name}.md"

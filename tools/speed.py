@@ -1,4 +1,4 @@
-"""The tables and the plot of docs/SPEED.md, from throughput/measured.txt and throughput/large.txt.
+"""The tables of docs/SPEED.md and a plot of them, from throughput/measured.txt and throughput/large.txt.
 
 A line there is a case, its size N, the instructions of a run at N and at 10 N, those that making its bytes takes for each item, and the
 instructions of an item in the two builds of the original, without those of its bytes. `tools/throughput FOLDER --measure` writes all but the
@@ -10,8 +10,9 @@ import math
 import textwrap
 
 from repository import TOP, read_text
+from sources import REFERENCE
 
-PAGE, FILE, PLOT = "docs/SPEED.md", f"{TOP}/throughput/measured.txt", "docs/pictures/speed.svg"
+PAGE, FILE, PLOT = "docs/SPEED.md", f"{TOP}/throughput/measured.txt", f"{REFERENCE}/speed.svg"
 HEAD = "| Case | here | original | original, LTO |\n|---|---|---|---|\n"
 BAR, STEP, LABEL, WIDTH = 6, 18, 170, 420
 BUILD = "# The original's columns are of one build: "

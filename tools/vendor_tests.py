@@ -232,6 +232,7 @@ class Taking(InAFolder):
         there = read(self.folder)
         self.assertEqual(there[f"docs/{FACADE}/README.md"], "[rules](RULES.md), [code](../../crates/low/src/lib.rt)\n")
         self.assertEqual(there[f"docs/{FACADE}/RULES.md"], "[top](README.md)\n")
+        self.assertIn("[TABLES](../TABLES.md#which", there[f"docs/{FACADE}/reference/README.md"])
         self.be({**SECOND, "docs/RULES.md": "Other rules.\n"})
         self.vendor(self.folder, "--update")
         self.assertEqual(read(self.folder)[f"docs/{FACADE}/RULES.md"], "Other rules.\n")

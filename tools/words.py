@@ -1,4 +1,4 @@
-"""The words of contracts in docs/api. A definition that one page alone needs is told on that page. The others have docs/api/words.md: first the words
+"""The words of contracts in the reference. A definition that one page alone needs is told on that page. The others have a page of words: first the words
 of std and of the language, then those of each crate."""
 import collections
 import functools
@@ -6,11 +6,11 @@ import itertools
 import re
 
 from repository import FACADE, TOP, read_text
-from sources import relative
+from sources import REFERENCE, relative
 from vocabulary import PAGE as GLOSSARY, about_crate, bullet, imported, libraries, module_for_programs, wrapped
 
-PAGE = "docs/api/words.md"
-# What a page of docs/api begins with.
+PAGE = f"{REFERENCE}/words.md"
+# What a page begins with that is generated whole.
 WRITTEN = "<!--written by tools/documents-->\n"
 NAMED = re.compile(r"`([\w'-]+)`")
 ABOUT_STD = "Words of std, of the language and of the traits of the library, as contracts and the clauses of examples have them."

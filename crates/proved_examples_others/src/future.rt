@@ -1,4 +1,4 @@
-//! The functions with clauses in the examples of `futures_lite::future`.
+//! Written by tools/documents: the functions with clauses in the examples of `futures_lite::future`.
 ghost use Rattle.std.specs.Prelude.{◌≡◌, Err, IfOk, None, Some};
 
 use futures_lite::{Context, FutureExt, Poll, future};

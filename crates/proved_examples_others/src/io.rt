@@ -1,4 +1,4 @@
-//! The functions with clauses in the examples of `futures_lite::io`.
+//! Written by tools/documents: the functions with clauses in the examples of `futures_lite::io`.
 ghost use Rattle.std.specs.Prelude.{◌≡◌, ◌≤◌, ◌+◌, ◌++◌, IfOk, IsOk, Ok, length, map, replicate, string_bytes, take};
 ghost use Rattle.std.specs.List.{slice_get};
 ghost use Rattle.futures_lite.specs.Lines.{byte_lines, byte_pieces, through_first};

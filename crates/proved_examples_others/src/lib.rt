@@ -1,4 +1,4 @@
-//! Functions with clauses in the examples of doc comments.
+//! Written by tools/documents: the functions with clauses in the examples of doc comments.
 #![tactic(auto)]
 
 pub mod future;

@@ -1,4 +1,4 @@
-//! The functions with clauses in the examples of `futures_lite::stream`.
+//! Written by tools/documents: the functions with clauses in the examples of `futures_lite::stream`.
 ghost use Rattle.std.specs.Prelude.{◌≡◌, ◌-◌, ◌∷◌, [], IfOk, None, Ok, Some, replicate};
 ghost use Rattle.std.specs.List.{range_with_len};
 

@@ -1,4 +1,4 @@
-//! The functions with clauses in the examples of the methods of `StreamExt` that return a stream.
+//! Written by tools/documents: the functions with clauses in the examples of the methods of `StreamExt` that return a stream.
 ghost use Rattle.std.specs.Prelude.{◌≡◌, ◌==◌, ◌%◌, ◌/◌, ◌*◌, ◌+◌, ◌++◌, ◌^◌, ◌∷◌, [], if◌then◌else◌, IfOk, None, Ok, Some, drop, flat_map, map, nat_lt, take};
 ghost use Rattle.std.specs.List.{filter, filter_map, prefix_len, slice_get, zip};
 ghost use Rattle.futures_lite.specs.Lists.{map_while, scan};

@@ -1,4 +1,4 @@
-//! The functions with clauses in the examples of the methods of `StreamExt` that consume a stream.
+//! Written by tools/documents: the functions with clauses in the examples of the methods of `StreamExt` that consume a stream.
 ghost use Rattle.std.specs.Prelude.{◌≡◌, ◌==◌, ◌%◌, ◌/◌, ◌+◌, ◌^◌, ◌∷◌, [], if◌then◌else◌, Err, IfOk, None, Ok, Some, length, map, nat_lt, not};
 ghost use Rattle.std.specs.List.{filter, filter_map, find, fold, list_all, list_any, position, slice_get};
 ghost use Rattle.futures_lite.specs.Uses.{first_error, try_fold};
