@@ -54,7 +54,7 @@ def errors_in(log):
 
 def stop(why):
     """Ends the tool with one line on standard error."""
-    print(f"tools/{os.path.basename(sys.argv[0])}: {why}", file=sys.stderr)
+    print(f"{os.path.relpath(os.path.realpath(sys.argv[0]), os.path.realpath(TOP))}: {why}", file=sys.stderr)
     sys.exit(2)
 
 
