@@ -1,11 +1,12 @@
-"""A copy of the library in another repository: what was copied there, what its user changed since, and how other texts take its place.
+"""A copy of the library in another repository: what was copied there, and how other texts take its place.
 
 A thing is a file, by its path from the top of that repository, or a line of its crates.txt, by `crates.txt: NAME`. The record beside the facade has
-the sum of each. A sum tells a text that was copied, which may be replaced, from a text of the user, which may not.
+the sum of each, so that a text which only its user changed is told from one that this version changed. What an update replaces, git has there.
 """
 import hashlib
 import os
 import shutil
+import subprocess
 
 from repository import FACADE, PARTS, TOP, Crate, crates_in, files_of, read_text
 
@@ -15,8 +16,6 @@ LINES, LINE = "crates.txt", "crates.txt: "
 HEAD = f"# {FACADE} and the libraries below it, lowest first.\n"
 # What proofs, builds and tools leave.
 IGNORED = ("/crates/*/out/", "__pycache__/")
-# The folder in which a change is laid out before it is made.
-ROOM = ".vendor-part"
 
 
 def sum_of_text(text):
@@ -44,42 +43,30 @@ def as_thing(line):
 
 
 class Change:
-    """What has to be done so that a copy has the wanted things: the names of those that it lacks, that are replaced and that go. `kept` are texts of
-    the user in the place of things that are wanted as they were copied; `others` are those in the place of things that have changed."""
+    """What has to be done so that a copy has the wanted things: the names of those that it lacks, that are replaced and that go. `changed` are those of
+    these which the user had changed, `kept` those that the user alone changed, and `others` those of the user by the name of a wanted one."""
 
     def __init__(self, copy, wanted):
-        self.wanted, self.old = wanted, copy.sums
-        self.missing, self.replaced, self.removed, self.kept, self.others = [], [], [], [], []
+        self.wanted, self.missing, self.replaced, self.removed = wanted, [], [], []
+        self.changed, self.kept, self.others = [], [], []
         there = copy.there({*wanted, *copy.sums})
         for name in sorted({*wanted, *copy.sums}):
             new, now = (sum_of_text(it[name]) if name in it else None for it in (wanted, there))
-            if (kind := self.kind_of(new, copy.sums.get(name, set()), now)) is not None:
-                kind.append(name)
-        self.add_files_of_the_user(copy)
+            old = copy.sums.get(name)
+            if now == new:
+                continue
+            kind = self.missing if now is None else self.others if old is None else self.kept if new == old else self.replaced if new else self.removed
+            kind.append(name)
+            if now not in (None, old) and kind in (self.replaced, self.removed):
+                self.changed.append(name)
+        # (a crate that no version copied is the user's)
+        crates = {it.split("/")[1] for it in wanted if it.startswith("crates/")} - {it.split("/")[1] for it in copy.sums if it.startswith("crates/")}
+        files = (f"crates/{name}/{part}/{it}" for name in sorted(crates) for part in PARTS for it in files_of(f"{copy.folder}/crates/{name}/{part}"))
+        self.others += [it for it in files if it not in wanted]
 
-    def kind_of(self, new, old, now):
-        """Returns the list that a thing belongs to, by its sums in this version, as it was copied and as it is; None where nothing is to be done."""
-        if now == new:
-            return None
-        if now is None:
-            return self.missing
-        if now in old:
-            return self.replaced if new else self.removed
-        # (a copy that was cut off may have either of two texts)
-        return self.kept if old == {new} else self.others
-
-    def add_files_of_the_user(self, copy):
-        """Names the files in crates of the library that no version copied. A crate that was not copied at all is the user's."""
-        crates = {tuple(it.split("/")[:2]) for it in {*self.wanted, *self.old} if it.startswith("crates/")}
-        ours = {it.split("/")[1] for it in self.old if it.startswith("crates/")}
-        for _, crate in sorted(crates):
-            for part in PARTS:
-                files = (f"crates/{crate}/{part}/{it}" for it in files_of(f"{copy.folder}/crates/{crate}/{part}"))
-                (self.kept if crate in ours else self.others).extend(it for it in files if it not in self.wanted and it not in self.old)
-
-    def is_over_copied(self):
-        """Whether it takes away something that was copied."""
-        return bool(self.replaced or self.removed)
+    def files(self):
+        """Returns the files that are replaced or removed."""
+        return sorted({LINES if it.startswith(LINE) else it for it in [*self.replaced, *self.removed]})
 
     def lines(self, text):
         """Returns the text of crates.txt after the change. A comment stays where it is."""
@@ -104,19 +91,15 @@ class Copy:
     def __init__(self, folder):
         self.folder, self.version, self.taken, self.sums = folder, None, [], {}
         if os.path.isfile(f"{folder}/{RECORD}"):
-            self.read(read_text(f"{folder}/{RECORD}"))
-
-    def read(self, text):
-        head, *rows = text.splitlines()
-        self.version, _, taken = head.removeprefix(f"# {FACADE} ").partition(": ")
-        self.taken = taken.split()
-        for row in rows:
-            if row.startswith(f"# {LINE}"):
-                name, line = as_thing(row.removeprefix(f"# {LINE}"))
-                self.sums.setdefault(name, set()).add(sum_of_text(line))
-            elif not row.startswith("#"):
+            head, *rows = read_text(f"{folder}/{RECORD}").splitlines()
+            self.version, _, taken = head.removeprefix(f"# {FACADE} ").partition(": ")
+            self.taken = taken.split()
+            for row in rows:
                 sum, _, name = row.partition("  ")
-                self.sums.setdefault(name, set()).add(sum)
+                if row.startswith(f"# {LINE}"):
+                    name, line = as_thing(row.removeprefix(f"# {LINE}"))
+                    sum = sum_of_text(line)
+                self.sums[name] = sum
 
     def there(self, names):
         """Returns the texts of those things that the folder has."""
@@ -124,6 +107,14 @@ class Copy:
         if os.path.isfile(f"{self.folder}/{LINES}"):
             found |= dict(as_thing(it.line) for it in crates_in(self.folder).values())
         return {name: text for name, text in found.items() if text is not None}
+
+    def not_in_git(self, files):
+        """Returns those of the files whose texts git has not; None if it has nothing, since the folder is in no repository."""
+        if not files:
+            return []
+        words = ["git", "-C", self.folder, "status", "--porcelain", "--untracked-files=all", "--ignored", "--", *files]
+        ran = subprocess.run(words, capture_output=True, encoding="utf-8")
+        return None if ran.returncode else [it[3:] for it in ran.stdout.splitlines()]
 
     def text_of(self, file):
         return read_text(f"{self.folder}/{file}") if os.path.isfile(f"{self.folder}/{file}") else ""
@@ -136,42 +127,31 @@ class Copy:
         return text + gap * bool(lacks) + "".join(f"{it}\n" for it in lacks)
 
     def make(self, change, record):
-        """Makes the change. All is laid out beside first; then it is moved into its place, a file at a time, and what goes is removed.
+        """Makes the change, a file at a time, and the record last, so that the next run goes on with one that was cut off."""
+        for name in (it for it in [*change.missing, *change.replaced] if not it.startswith(LINE)):
+            self.put(name, change.wanted[name])
+        for name, text in ((LINES, change.lines(self.text_of(LINES))), (".gitignore", self.ignored())):
+            if text != self.text_of(name):
+                self.put(name, text.encode())
+        self.remove(change)
+        if record != self.text_of(RECORD):
+            self.put(RECORD, record.encode())
 
-        While that lasts the record has the sums of before and of after, so that a run that was cut off is gone on with."""
-        texts = {it: change.wanted[it] for it in [*change.missing, *change.replaced] if not it.startswith(LINE)}
-        lists = {LINES: change.lines(self.text_of(LINES)), ".gitignore": self.ignored()}
-        texts |= {it: text.encode() for it, text in lists.items() if text != self.text_of(it)}
-        room = f"{self.folder}/{ROOM}"
-        # (a run that was killed left it)
-        shutil.rmtree(room, ignore_errors=True)
-        if not (texts or change.removed) and self.text_of(RECORD) == record:
-            return
-        try:
-            lay_out(room, {**texts, RECORD: record.encode(), f"{RECORD}.both": self.joined(record).encode()})
-            for place in {os.path.dirname(f"{self.folder}/{it}") for it in [RECORD, *texts]}:
-                os.makedirs(place, exist_ok=True)
-            os.replace(f"{room}/{RECORD}.both", f"{self.folder}/{RECORD}")
-            for file in texts:
-                os.replace(f"{room}/{file}", f"{self.folder}/{file}")
-            self.remove(change)
-            os.replace(f"{room}/{RECORD}", f"{self.folder}/{RECORD}")
-        finally:
-            shutil.rmtree(room, ignore_errors=True)
-
-    def joined(self, record):
-        """Returns the record of a copy that is being made: what was there, and what will be."""
-        head, *rows = record.splitlines()
-        name, _, taken = head.partition(": ")
-        versions = dict.fromkeys([*(self.version or "nothing").split(" or "), name.removeprefix(f"# {FACADE} ")])
-        old = self.text_of(RECORD).splitlines()[1:]
-        return "".join(f"{row}\n" for row in [f"# {FACADE} {' or '.join(versions)}: {taken}", *dict.fromkeys([*rows, *old])])
+    def put(self, file, text):
+        """Writes a file at once, so that none is there in part; one that stands here by its path may be run as here."""
+        path = f"{self.folder}/{file}"
+        os.makedirs(os.path.dirname(path), exist_ok=True)
+        with open(f"{path}.part", "wb") as to:
+            to.write(text)
+        if os.path.isfile(f"{TOP}/{file}"):
+            shutil.copymode(f"{TOP}/{file}", f"{path}.part")
+        os.replace(f"{path}.part", path)
 
     def remove(self, change):
         """Removes what goes, and the folders that are empty then; of a crate that goes also what was built of it."""
+        gone = [it for it in self.sums if it not in change.wanted and not it.startswith(LINE)]
         for name in (it for it in change.removed if not it.startswith(LINE)):
             os.remove(f"{self.folder}/{name}")
-        gone = [it for it in change.old if it not in change.wanted and not it.startswith(LINE)]
         for at in map(os.path.dirname, gone):
             while at and os.path.isdir(f"{self.folder}/{at}") and not os.listdir(f"{self.folder}/{at}"):
                 os.rmdir(f"{self.folder}/{at}")
@@ -179,17 +159,6 @@ class Copy:
         for crate in {"/".join(it.split("/")[:2]) for it in gone if it.startswith("crates/")}:
             if os.path.isdir(f"{self.folder}/{crate}") and os.listdir(f"{self.folder}/{crate}") == ["out"]:
                 shutil.rmtree(f"{self.folder}/{crate}")
-
-
-def lay_out(room, texts):
-    """Writes files into a folder; one that stands here by its path may be run as here."""
-    for place in {os.path.dirname(f"{room}/{it}") for it in texts}:
-        os.makedirs(place, exist_ok=True)
-    for file, text in texts.items():
-        with open(f"{room}/{file}", "wb") as to:
-            to.write(text)
-        if os.path.isfile(f"{TOP}/{file}"):
-            shutil.copymode(f"{TOP}/{file}", f"{room}/{file}")
 
 
 def record_of(version, taken, wanted):

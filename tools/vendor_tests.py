@@ -9,7 +9,7 @@ import tempfile
 import time
 import unittest
 
-from copies import LINES, ROOM, Change, Copy, as_thing, record_of
+from copies import LINES, Change, Copy, as_thing, record_of
 from repository import BESIDE, FACADE, TOP, files_of, read_text
 from tool_tests import failures
 
@@ -50,8 +50,15 @@ def write(top, texts):
 
 
 def read(top):
-    """Returns the texts below a folder, but for what a run that was killed laid out there."""
-    return {file: read_text(f"{top}/{file}") for file in files_of(top) if not file.startswith(f"{ROOM}/")}
+    """Returns the texts below a folder, but for what git has there."""
+    return {file: read_text(f"{top}/{file}") for file in files_of(top) if not file.startswith(".git/")}
+
+
+def commit(top):
+    """Lets git have what is below a folder."""
+    who = ["-c", "user.name=A user", "-c", "user.email=user@example.org"]
+    for words in (["init", "-q"], ["add", "-A"], [*who, "commit", "-q", "--allow-empty", "-m", "All"]):
+        subprocess.run(["git", "-C", top, *words], check=True, capture_output=True)
 
 
 class InAFolder(unittest.TestCase):
@@ -85,7 +92,7 @@ class Taking(InAFolder):
         """Begins the tool, which an interrupt ends also if a shell began these tests in the background."""
         words = [sys.executable, f"{self.room}/library/tools/vendor", *words]
         how = {"stdout": subprocess.PIPE, "stderr": subprocess.PIPE, "encoding": "utf-8", "preexec_fn": interruptible}
-        return subprocess.Popen(words, env={"PATH": f"{self.room}/bin", "PYTHONDONTWRITEBYTECODE": "1"}, **how)
+        return subprocess.Popen(words, env={"PATH": f"{self.room}/bin:/usr/bin:/bin", "PYTHONDONTWRITEBYTECODE": "1"}, **how)
 
     def vendor(self, *words, status=0):
         """Runs the tool, which has to end so; returns what it says."""
@@ -119,7 +126,6 @@ class Taking(InAFolder):
     def test_a_second_run_does_nothing(self):
         self.vendor(self.folder)
         times = {it: os.stat(f"{self.folder}/{it}").st_mtime_ns for it in files_of(self.folder)}
-        write(self.folder, {f"{ROOM}/left": "by a run that was killed at its end"})
         for words in ([], ["--update"]):
             self.assertIn(": 0 files and lines copied, 0 replaced, 0 removed\n", self.vendor(self.folder, *words))
         self.assertEqual({it: os.stat(f"{self.folder}/{it}").st_mtime_ns for it in files_of(self.folder)}, times)
@@ -129,6 +135,7 @@ class Taking(InAFolder):
         self.vendor(self.folder)
         write(self.folder, {"crates/old/out/built": "", "crates/low/out/built": ""})
         write(self.folder, {LINES: read_text(f"{self.folder}/{LINES}").replace("std\n", "std # first\n").replace("old: low\n", "old: low # second\n")})
+        commit(self.folder)
         before = read(self.folder)
         self.be(SECOND)
         self.assertIn(f"{self.folder} has version 1.0.0; --update puts version 1.1.0 in its place", self.vendor(self.folder, status=2))
@@ -146,29 +153,37 @@ class Taking(InAFolder):
         self.assertEqual(there, fresh)
         self.assertFalse(os.path.exists(f"{self.folder}/crates/old"))
 
-    def test_a_change_of_the_user_stays(self):
+    def test_a_text_that_git_has_not_is_not_replaced(self):
         self.vendor(self.folder)
         self.be(SECOND)
-        write(self.folder, {"crates/low/src/lib.rt": "mine\n", "crates/low/src/mine.rt": "mine\n"})
         before = read(self.folder)
-        told = self.vendor(self.folder, "--update", status=2)
-        self.assertTrue(told.endswith("; move them away and run this again: crates/low/src/lib.rt\n"), told)
-        self.assertEqual(read(self.folder), before)
-        # (what this version does not change is kept)
-        os.remove(f"{self.folder}/crates/low/src/lib.rt")
-        write(self.folder, {"crates/low/src/stays.rt": "mine\n"})
+        self.assertIn("is in no git repository", self.vendor(self.folder, "--update", status=2))
+        commit(self.folder)
+        changed = {"crates/low/src/lib.rt": "mine\n", "crates/old/src/lib.rt": "mine\n"}
+        write(self.folder, changed)
+        self.assertTrue(self.vendor(self.folder, "--update", status=2).endswith(f"; commit them and run this again: {', '.join(changed)}\n"))
+        self.assertEqual(read(self.folder), {**before, **changed})
+        commit(self.folder)
         told = self.vendor(self.folder, "--update")
-        kept = [f"kept as you have it: crates/low/src/{it}.rt\n" for it in ("stays", "mine")]
-        self.assertIn("".join(kept), told)
+        self.assertIn("".join(f"you had changed it, and git has your text: {it}\n" for it in changed), told)
+        self.assertEqual(read(self.folder)["crates/low/src/lib.rt"], "two\n")
+
+    def test_what_the_user_alone_changed_is_kept(self):
+        self.vendor(self.folder)
+        write(self.folder, {"crates/low/src/stays.rt": "mine\n", "crates/low/src/mine.rt": "mine\n"})
+        commit(self.folder)
+        self.be(SECOND)
+        self.assertIn("kept as you have it: crates/low/src/stays.rt\n", self.vendor(self.folder, "--update"))
         there = read(self.folder)
         self.assertEqual([there[f"crates/low/src/{it}.rt"] for it in ("lib", "mine", "stays", "comes")], ["two\n", "mine\n", "mine\n", "comes\n"])
 
-    def test_a_line_and_a_dropped_file_of_the_user_stay(self):
+    def test_a_file_by_the_name_of_a_new_one_stays(self):
         self.vendor(self.folder)
-        self.be(SECOND)
-        write(self.folder, {"crates/old/src/lib.rt": "mine\n", LINES: read_text(f"{self.folder}/{LINES}").replace("low may_wait=1", "low may_wait=7")})
+        write(self.folder, {"crates/low/src/comes.rt": "mine\n"})
+        commit(self.folder)
         before = read(self.folder)
-        self.assertTrue(self.vendor(self.folder, "--update", status=2).endswith(": crates.txt: low, crates/old/src/lib.rt\n"))
+        self.be(SECOND)
+        self.assertTrue(self.vendor(self.folder, "--update", status=2).endswith(": crates/low/src/comes.rt\n"))
         self.assertEqual(read(self.folder), before)
 
     def test_a_crate_by_a_name_of_the_library_stays(self):
@@ -181,6 +196,7 @@ class Taking(InAFolder):
     def test_the_facade_may_be_taken_alone_and_a_crate_beside_it_later(self):
         self.vendor(self.folder, FACADE)
         self.assertFalse(os.path.exists(f"{self.folder}/crates/{ABOVE}"))
+        commit(self.folder)
         self.be(SECOND)
         self.vendor(self.folder, "--update")
         self.assertFalse(os.path.exists(f"{self.folder}/crates/{ABOVE}"))
@@ -195,6 +211,7 @@ class Taking(InAFolder):
         self.assertIn(f"{told}{ABOVE}\n", self.vendor(self.folder))
         self.be_proved(self.folder, ABOVE)
         self.assertNotIn(told, self.vendor(self.folder))
+        commit(self.folder)
         # (a newer version of one crate alone, which nobody proved)
         self.be({**FIRST, "VERSION": "1.1.0", f"crates/{ABOVE}/src/lib.rt": "other frames\n"})
         self.assertIn(f"{told}{ABOVE}\n", self.vendor(self.folder, "--update"))
@@ -225,7 +242,6 @@ class Taking(InAFolder):
             time.sleep(0.01)
         ran.send_signal(signal.SIGINT)
         self.assertEqual((ran.communicate(), ran.returncode), (("", ""), 128 + signal.SIGINT))
-        self.assertFalse(os.path.exists(f"{self.folder}/{ROOM}"))
 
     def test_pages_are_taken_and_updated_with_links_that_lead_somewhere(self):
         self.vendor(self.folder, "--docs")
@@ -233,6 +249,7 @@ class Taking(InAFolder):
         self.assertEqual(there[f"docs/{FACADE}/README.md"], "[rules](RULES.md), [code](../../crates/low/src/lib.rt)\n")
         self.assertEqual(there[f"docs/{FACADE}/RULES.md"], "[top](README.md)\n")
         self.assertIn("[TABLES](../TABLES.md#which", there[f"docs/{FACADE}/reference/README.md"])
+        commit(self.folder)
         self.be({**SECOND, "docs/RULES.md": "Other rules.\n"})
         self.vendor(self.folder, "--update")
         self.assertEqual(read(self.folder)[f"docs/{FACADE}/RULES.md"], "Other rules.\n")
@@ -272,49 +289,28 @@ def status_of(steps, folder, texts):
 class Killed(InAFolder):
     """The change of a copy, killed before each of its moves and removals."""
 
-    def setUp(self):
-        super().setUp()
-        write(self.folder, {"crates/mine/src/lib.rt": "mine\n"})
-
-    def killed(self, texts):
-        """Yields for each step of a run, from what the folder has to a copy of these texts, a folder in which it was killed before that step."""
+    def are_ended(self, texts):
+        """Tells that the next run ends each run that was killed, on the way from what the folder has to a copy of these texts."""
         for steps in itertools.count():
             folder = f"{self.room}/{steps}"
             shutil.copytree(self.folder, folder)
             if (status := status_of(steps, folder, texts)) != KILLED:
-                self.assertEqual((status, steps > 7), (0, True))
-                return
-            if not steps:
-                self.assertEqual(read(folder), read(self.folder))
-            self.assertTrue(os.path.isdir(f"{folder}/{ROOM}"))
-            yield folder
-
-    def are_ended(self, texts):
-        """Tells that the next run ends each of the runs that were killed."""
-        folders = list(self.killed(texts))
-        make(self.folder, texts)
-        for folder in folders:
+                self.assertEqual((status, steps > 5), (0, True))
+                break
+            self.assertEqual(Copy(folder).not_in_git(Change(Copy(folder), things(texts)).files()), [])
             make(folder, texts)
-            self.assertEqual(read(folder), read(self.folder))
-            self.assertFalse(os.path.exists(f"{folder}/{ROOM}"))
+        make(self.folder, texts)
+        for it in range(steps):
+            self.assertEqual(read(f"{self.room}/{it}"), read(self.folder))
 
     def test_the_next_run_ends_a_first_copy(self):
+        commit(self.folder)
         self.are_ended(FIRST)
 
     def test_the_next_run_ends_an_update(self):
         make(self.folder, FIRST)
+        commit(self.folder)
         self.are_ended(SECOND)
-
-    def test_a_third_version_may_come_behind_it_and_a_text_of_the_user_is_found(self):
-        make(self.folder, FIRST)
-        changed, third = "crates/low/src/lib.rt", {**SECOND, "VERSION": "1.2.0", "crates/low/src/lib.rt": "three\n"}
-        for folder in self.killed(SECOND):
-            shutil.copytree(folder, f"{folder}-changed")
-            write(f"{folder}-changed", {changed: "mine\n"})
-            self.assertEqual(Change(Copy(f"{folder}-changed"), things(SECOND)).others, [changed])
-            make(folder, third)
-            there = Copy(folder).there(things({**FIRST, **third}))
-            self.assertEqual(there, things(third))
 
 
 def faults():
