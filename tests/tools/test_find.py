@@ -1,16 +1,19 @@
-"""Tests of `tools/find`. `tools/lists` runs them."""
+"""Tests of `tools/find`. `tools/lists` runs them, as `python3 -m unittest discover tests/tools` does."""
 import ast
 import itertools
 import os
 import re
 import shutil
 import subprocess
+import sys
 import tempfile
 import unittest
 
+# (the tools that are tested)
+sys.path.insert(0, os.path.join(os.path.dirname(os.path.abspath(__file__)), "..", "..", "tools"))
+
 import lookup
 from repository import TOP, read_text
-from tool_tests import failures
 from vocabulary import definitions, libraries
 
 # Names that `tools/find` knows, each with what its first lines have: how it is imported, and what it takes.
@@ -176,8 +179,3 @@ class LookUps(unittest.TestCase):
         self.assertIn("  use Rattle.own.specs.Kept.{IsTwice}\n", ran[0].stdout)
         self.assertIn("names like it are IsTwice", ran[1].stdout)
         self.assertIn("What has its parts, Number and Twice:\n  use Rattle.own.specs.Kept.{IsTwice}", ran[2].stdout)
-
-
-def faults():
-    """Yields each test that fails."""
-    yield from failures(LookUps, "tools/lookup_tests.py")

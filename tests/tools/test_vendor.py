@@ -1,4 +1,4 @@
-"""Tests of tools/vendor, with a made-up library and without `rt`. `tools/lists` runs them."""
+"""Tests of tools/vendor, with a made-up library and without `rt`. `tools/lists` runs them, as `python3 -m unittest discover tests/tools` does."""
 import itertools
 import os
 import shutil
@@ -9,9 +9,11 @@ import tempfile
 import time
 import unittest
 
+# (the tools that are tested)
+sys.path.insert(0, os.path.join(os.path.dirname(os.path.abspath(__file__)), "..", "..", "tools"))
+
 from copies import LINES, Change, Copy, as_thing, record_of
 from repository import BESIDE, FACADE, TOP, files_of, read_text
-from tool_tests import failures
 
 ABOVE = BESIDE[0]
 # The status of a process that was killed.
@@ -311,9 +313,3 @@ class Killed(InAFolder):
         make(self.folder, FIRST)
         commit(self.folder)
         self.are_ended(SECOND)
-
-
-def faults():
-    """Yields each test that fails."""
-    for case in (Taking, Killed):
-        yield from failures(case, "tools/vendor_tests.py")

@@ -1,7 +1,12 @@
-"""Tests of the generator of the reference, over sources of their own. `tools/lists` runs them."""
+"""Tests of the generator of the reference, over sources of their own. `tools/lists` runs them, as `python3 -m unittest discover tests/tools` does."""
+import os
 import re
+import sys
 import unittest
 import unittest.mock
+
+# (the tools that are tested)
+sys.path.insert(0, os.path.join(os.path.dirname(os.path.abspath(__file__)), "..", "..", "tools"))
 
 import contracts
 import examples
@@ -9,7 +14,6 @@ import see_also
 import words
 from reference import Reference
 from sources import Sources
-from tool_tests import failures
 from vocabulary import Word
 from words import Words
 
@@ -374,9 +378,3 @@ class TwoModules(unittest.TestCase):
     def test_an_example_of_another_item_is_named(self):
         told = [what for _, what in examples.faults(self.sources)]
         self.assertIn("the example of `future::or` does not call it", told)
-
-
-def faults():
-    """Yields each test that fails."""
-    for case in (Clauses, TwoModules):
-        yield from failures(case, "tools/generator_tests.py")
