@@ -11,7 +11,7 @@ import speed
 import vocabulary
 from adapters import list_told
 from edits import BODIES, Bodies
-from programs import REPLAY, THROUGHPUT
+from programs import REPLAY, BENCH
 from repository import BESIDE, FACADE, TOP, crates_in, files_of, read_text, with_below
 from sources import MODULES, Sources
 
@@ -379,7 +379,7 @@ def called():
     crates = crates_in(TOP)
     library = with_below(crates, [FACADE, *BESIDE])
     programs = [f"crates/{it}/src" for it in crates if it not in library and not it.startswith("proved_examples_")]
-    names = names_called_in(["replay", "tests", THROUGHPUT, *programs])
+    names = names_called_in(["replay", "tests", BENCH, *programs])
     every = {f"{module}::{it.title}": it.name for module, of_module in functions().items() for it in of_module if not it.does_nothing}
     there = {title for title, name in every.items() if name in names}
     yield from lacking("tests", set(every), there, set(), "no case, test or program calls")
@@ -387,24 +387,24 @@ def called():
 
 def cases_measured():
     """Returns the cases of the measured program that have a row, without those that only make bytes."""
-    return {it for it in words_known(f"{THROUGHPUT}/src/*.rs") if not it.startswith("made_")} - {"size_of"}
+    return {it for it in words_known(f"{BENCH}/src/*.rs") if not it.startswith("made_")} - {"size_of"}
 
 
 def measured():
     """Each public function that does work is called by a case of the measured program, and each case there has a row, and is one over the original, but one
     that has the name of a call that the original lacks. Those of `laws` are for proofs and tests."""
     names = {it.name for module, of_module in functions().items() if module != "laws" for it in of_module if not it.does_nothing}
-    yield from lacking(THROUGHPUT, names, names & names_called_in([f"{THROUGHPUT}/src"]), NO_CASE, "no case calls")
-    cases, rows_of = words_known(f"{THROUGHPUT}/src/*.rs"), {it.case for it in speed.rows() if it.last}
+    yield from lacking(BENCH, names, names & names_called_in([f"{BENCH}/src"]), NO_CASE, "no case calls")
+    cases, rows_of = words_known(f"{BENCH}/src/*.rs"), {it.case for it in speed.rows() if it.last}
     of_both = cases - (names - originals.names())
-    yield from lacking(f"{THROUGHPUT}/original", of_both, of_both & words_known(f"{THROUGHPUT}/original/src/*.rs"), set(), "there is no case")
-    text = "".join(read_text(it) for it in glob.glob(f"{TOP}/{THROUGHPUT}/src/*.rs"))
+    yield from lacking(f"{BENCH}/original", of_both, of_both & words_known(f"{BENCH}/original/src/*.rs"), set(), "there is no case")
+    text = "".join(read_text(it) for it in glob.glob(f"{TOP}/{BENCH}/src/*.rs"))
     numbered = set(re.findall(r'^    \("(\w+)", [\d_]+, ', text, re.M))
-    yield from lacking(f"{THROUGHPUT}/src", numbered, numbered & cases, set(), "the check has a number, but no arm is there of")
+    yield from lacking(f"{BENCH}/src", numbered, numbered & cases, set(), "the check has a number, but no arm is there of")
     checked = {it for it in cases_measured() if text.count(f'"{it}"') > 1}
-    yield from lacking(f"{THROUGHPUT}/src", cases_measured(), checked, set(), "the check has no number of the case")
-    yield from lacking(f"{THROUGHPUT}/measured.txt", cases_measured(), cases_measured() & rows_of, set(), "there is no row of")
-    yield from lacking(f"{THROUGHPUT}/measured.txt", rows_of, rows_of & cases_measured(), set(), "there is no case of the row")
+    yield from lacking(f"{BENCH}/src", cases_measured(), checked, set(), "the check has no number of the case")
+    yield from lacking(f"{BENCH}/measured.txt", cases_measured(), cases_measured() & rows_of, set(), "there is no row of")
+    yield from lacking(f"{BENCH}/measured.txt", rows_of, rows_of & cases_measured(), set(), "there is no case of the row")
 
 
 def counting_as_their_sources():

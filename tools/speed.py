@@ -1,10 +1,10 @@
-"""The tables of docs/SPEED.md and a plot of them, from throughput/measured.txt and throughput/large.txt.
+"""The tables of docs/SPEED.md and a plot of them, from bench/measured.txt and bench/large.txt.
 
 A line there is a case, its size N, the instructions of a run at N and at 10 N, those that making its bytes takes for each item, and the
-instructions of an item in the two builds of the original, without those of its bytes. `tools/throughput FOLDER --measure` writes all but the
-last two, and `tools/throughput FOLDER --original` those. The line that begins with BUILD says of what build they are.
+instructions of an item in the two builds of the original, without those of its bytes. `tools/bench FOLDER --measure` writes all but the
+last two, and `tools/bench FOLDER --original` those. The line that begins with BUILD says of what build they are.
 
-A line of throughput/large.txt is a case, its size, and the seconds and the megabytes of a run here, of the two builds of the original, and over std.
+A line of bench/large.txt is a case, its size, and the seconds and the megabytes of a run here, of the two builds of the original, and over std.
 """
 import math
 import textwrap
@@ -12,7 +12,7 @@ import textwrap
 from repository import TOP, read_text
 from sources import REFERENCE
 
-PAGE, FILE, PLOT = "docs/SPEED.md", f"{TOP}/throughput/measured.txt", f"{REFERENCE}/speed.svg"
+PAGE, FILE, PLOT = "docs/SPEED.md", f"{TOP}/bench/measured.txt", f"{REFERENCE}/speed.svg"
 HEAD = "| Case | here | original | original, LTO |\n|---|---|---|---|\n"
 BAR, STEP, LABEL, WIDTH = 6, 18, 170, 420
 BUILD = "# The original's columns are of one build: "
@@ -36,7 +36,7 @@ MADE = {
     **dict.fromkeys(("cursor_overwrite", "vectored_read"), ("made_noise", 16)),
 }
 # The cases that are run in the large, with their sizes; and the case that has the same work over std, in the original's program.
-LARGE_FILE = f"{TOP}/throughput/large.txt"
+LARGE_FILE = f"{TOP}/bench/large.txt"
 LARGE_HEAD = "| Case | Size | here, s | original, s | LTO, s | std, s | here, MB | original, MB | std, MB |\n|---|---|---|---|---|---|---|---|---|\n"
 ITEMS, LINES, BYTES = 10_000_000, 12_500_000, 200_000_000
 LARGE = {

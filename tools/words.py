@@ -7,7 +7,7 @@ import re
 
 from repository import FACADE, TOP, read_text
 from sources import REFERENCE, relative
-from vocabulary import PAGE as GLOSSARY, about_crate, bullet, imported, libraries, module_for_programs, wrapped
+from vocabulary import PAGE as GLOSSARY, about_crate, imported, libraries, module_for_programs, wrapped
 
 PAGE = f"{REFERENCE}/words.md"
 # What a page begins with that is generated whole.

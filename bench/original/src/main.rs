@@ -1,4 +1,4 @@
-//! `throughput-original CASE N` runs a case of `throughput` over the original, and prints the same number.
+//! `bench-original CASE N` runs a case of `bench` over the original, and prints the same number.
 
 mod bytes;
 mod codecs;

@@ -1,5 +1,5 @@
-//! `throughput CASE N` runs a case at size N and prints the number that it computes, so that its cost can be measured from
-//! outside. `throughput check` says whether each case gives the number that it has to, at a small size.
+//! `bench CASE N` runs a case at size N and prints the number that it computes, so that its cost can be measured from
+//! outside. `bench check` says whether each case gives the number that it has to, at a small size.
 #![tactic(auto)]
 
 mod bytes;
@@ -33,7 +33,7 @@ fn main(rt: HostRuntime) -> ExitCode {
     match printed(&rt, &rt) {
         Ok(()) => ExitCode::from(0),
         Err(fault) => {
-            let _ = eprintln!(rt; "throughput: {}{}", fault.text(), fault.case());
+            let _ = eprintln!(rt; "bench: {}{}", fault.text(), fault.case());
             ExitCode::from(fault.status())
         }
     }
