@@ -153,8 +153,6 @@ CONCLUSIONS = {
     **{it: PREMISES[it] for it in (("AtOnce", 3), ("GoesOn", 3), ("NeverReady", 2))},
 }
 CONCLUSIONS["FrontsAs", 3] = CONCLUSIONS["Fronts", 3]
-# The definitions that sentences stand for.
-IN_WORDS = {word for rules in (PREMISES, CONCLUSIONS) for word, _ in rules} | {"RestIfFound", "RestIs", "ValueHolds", "WhenLeft"}
 BEHIND_2_64 = re.compile(r"length (\w+) < 2 \^ 64")
 EQUAL = re.compile(r"([^≡→×]+) ≡ ([^≡→×]+)", re.S)
 SHORTER = re.compile(r"\(?length (?P<this>.*) ≤ length (?P<that>\w+)\)?", re.S)

@@ -49,8 +49,8 @@ class Item:
 
     def __init__(self, path, line, kind, name, comment, head, said):
         self.path, self.line, self.kind, self.name = path, line, kind, name
-        # The type or the trait that it is a method of, and the module of the facade, once they are known.
-        self.owner = self.module = None
+        # The type or the trait that it is a method of, once it is known.
+        self.owner = None
         text, _, examples = "\n".join(comment).partition(EXAMPLES)
         self.says = text.strip()
         self.examples = [textwrap.dedent(it).strip("\n") for it in re.findall(r"^```\n(.*?)^```$", examples, re.M | re.S)]
@@ -303,8 +303,6 @@ class Sources:
         found = [*source.items.values(), *(self.resolve(source, it) for it in source.passed_on)]
         found = [it for it in found if it]
         found += [it for owner in found for it in self.methods.get(owner, ())]
-        for it in found:
-            it.module = module
         return {it.title: it for it in sorted(found, key=lambda it: (it.title.lower(), it.title))}
 
     def made_by(self, item):
