@@ -34,6 +34,10 @@ use std::marker::Model;
 /// go on there behind the last frame. Each byte is copied into a buffer for the decoder, at most 8 KiB at a time, and a
 /// frame that is longer is copied again when that buffer grows.
 ///
+/// Before it reads, a poll asks the decoder about the bytes that the reader shows. If it shows none, the decoder gets
+/// an empty buffer, also before the first read, so that a frame of no bytes comes without a read. The `FramedRead` of
+/// `tokio_util` reads before it first asks.
+///
 /// # Errors
 ///
 /// - An error of the decoder: the bytes are no frame. Bytes behind them that the reader showed may be taken, too.
