@@ -220,7 +220,7 @@ module _ {T D X E : Type 0} (gives : Gives D X E) (from_gives : Error → E → 
         buffer_of x.reader,
         ReadMark.fault (error_kind cause) ∷ [],
         after_mark _ (rw is came),
-        inr (inr ((cause, made, inl refl), (rw is refl), (rw is h.3.2))),
+        inr (inr ((cause, made, inl refl), (rw is refl), (rw is h.3.2), (λ _. rw is h.3.1))),
       )
 
   pub pended : (s : T) → reads m.reader (ReadMark.pending ∷ []) s → y ≡ record m { reader = s }

@@ -82,7 +82,7 @@ module _ {T D X E : Type 0} (gives : Gives D X E) (x m z : Framed T D) (ys : Lis
           | inl p ↦ inl (p.0, found_on xs (Some (Err e)) p.1)
           | inr q ↦ elim q [
             | inl p ↦ inr (inl (p.0, last_on xs (Some (Err e)) p.1))
-            | inr p ↦ inr (inr (p.0, p.1, goes_on xs p.2))
+            | inr p ↦ inr (inr (p.0, p.1, goes_on xs p.2, p.3))
           ]
         ]
 

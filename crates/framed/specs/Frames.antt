@@ -1,5 +1,5 @@
 -- The frames of a reader: what one poll returns, by what the decoder gives of the bytes that were read.
-use Rattle.std.specs.Prelude.{◌≡◌, ◌⊎◌, ◌+◌, ℕ, List, [], ◌∷◌, ◌++◌, length, Option, Some, None, Result, Ok, Err, ⊤}
+use Rattle.std.specs.Prelude.{◌≡◌, ◌≢◌, ◌⊎◌, ◌+◌, ℕ, List, [], ◌∷◌, ◌++◌, length, Option, Some, None, Result, Ok, Err, ⊤}
 use Rattle.std.specs.IoError.{error_kind}
 use Rattle.std.specs.declared.io.Error.{Error}
 use Rattle.std.specs.declared.io.ErrorKind.TheVariants.{OutOfMemory}
@@ -84,7 +84,8 @@ module _ {T D X E : Type 0} (gives : Gives D X E) where
       ⊎ ((x.phase ≡ ending) × Last x [] r y × (y.reader ≡ x.reader))
 
   module _ (from_gives : Error → E → Type 0) where
-    -- What is returned after the bytes `xs` were taken from the reader, and then it left the mark `last`, or none.
+    -- What is returned after the bytes `xs` were taken from the reader, and then it left the mark `last`, or none. If the reader
+    -- failed, the bytes before its error are no whole frame.
     abbrev pub PollGives : Framed T D → List ℕ → List ReadMark → Answer (Result X E) → Framed T D → Type 0
     PollGives x xs last Pending y = (last ≡ ReadMark.pending ∷ []) × NoFrame x xs y
     PollGives x xs last (Ready None) y = (last ≡ ReadMark.end ∷ []) × Last x xs None y
@@ -92,7 +93,7 @@ module _ {T D X E : Type 0} (gives : Gives D X E) where
         ⊎ ((last ≡ ReadMark.end ∷ []) × FoundAtEnd x xs v y)
     PollGives x xs last (Ready (Some (Err e))) y = ((last ≡ []) × Found x xs (Some (Err e)) y)
         ⊎ (((last ≡ ReadMark.end ∷ []) × Last x xs (Some (Err e)) y)
-        ⊎ (ReadFails from_gives last e × (y.phase ≡ ended) × ResumesAt x xs y))
+        ⊎ (ReadFails from_gives last e × (y.phase ≡ ended) × ResumesAt x xs y × (last ≢ [] → gives y.decoder y.held partial)))
 
     module _ (reads : Runs ReadMark T) where
       -- One poll.

@@ -34,3 +34,7 @@ pub mod LinesBack
 pub mod Cutting
 pub mod Lending
 pub mod LendingLaws
+pub mod SteadyFrames
+pub mod SteadyFrameLaws
+pub mod SteadyPieces
+pub mod SteadyLines

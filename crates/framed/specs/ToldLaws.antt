@@ -36,7 +36,7 @@ module _ {T D X E : Type 0} (gives : Gives D X E) (from_gives : Error → E → 
   last_stays x y xs last (Some (Err e)) (inr (inr k)) =
       elim k.0.2 [ inl e ↦ rw e refl | inr e ↦ rw e.0 refl ]
 
-  ready_told : (x y : Framed T D) (r : Option (Result X E)) → FrameStep gives from_gives reads x (Ready r) y
+  pub ready_told : (x y : Framed T D) (r : Option (Result X E)) → FrameStep gives from_gives reads x (Ready r) y
       → FrameStep gives from_gives (ToldStripped reads) x (Ready r) y
   ready_told x y r (inl h) = inl h
   ready_told x y r (inr (was, xs, last, came, polled)) =
@@ -56,7 +56,7 @@ module _ {T D X E : Type 0} (gives : Gives D X E) (from_gives : Error → E → 
     then_told x m z r xs was waits came h =
         joined gives from_gives (ToldStripped reads) (stripped_laws laws) no_frame x m z (Ready r) xs was waits came h
 
-    pending_told : (x m z : Framed T D) (r : Option (Result X E)) → FrameStep gives from_gives reads x Pending m
+    pub pending_told : (x m z : Framed T D) (r : Option (Result X E)) → FrameStep gives from_gives reads x Pending m
         → FrameStep gives from_gives (ToldStripped reads) m (Ready r) z
         → FrameStep gives from_gives (ToldStripped reads) x (Ready r) z
     pending_told x m z r (inl (q, is, after)) h = cc is

@@ -8,15 +8,18 @@ ghost use Rattle.lite_base.specs.Laws.Streams.{stream_by_keeping_steps};
 ghost use Rattle.lite_base.specs.Runs.{NoHint};
 ghost use Rattle.tokio_util.specs.Codec.Next.{Resumes, decoded, partial};
 ghost use Rattle.framed.specs.CalmFrames.{frames_calm};
+ghost use Rattle.framed.specs.SteadyFrameLaws.{frames_steady};
+ghost use Rattle.framed.specs.SteadyFrames.{AmpleFrames, FramesAlike};
 ghost use Rattle.framed.specs.Frames.{FrameStep, InHand, Last, Looks, ended, ending, frame_ranks, held_at, reading};
 ghost use Rattle.framed.specs.FrameLaws.{TakesMore, frame_counts, frames_counting, takes_given};
 
 use crate::fill::fill;
 use crate::held_frame::HeldFrame;
 use crate::prompt_decoder::PromptDecoder;
+use crate::steady_decoder::SteadyDecoder;
 use bytes::BytesMut;
-use lite_base::{CalmStream, Context, OkCounted, Poll, PollSteps, Stream, drive};
-use lite_io_base::{AsyncBufRead, CalmRead, CountedRead};
+use lite_base::{CalmStream, Context, OkCounted, Poll, PollSteps, SteadyStream, Stream, drive};
+use lite_io_base::{AsyncBufRead, CalmRead, CountedRead, SteadyRead};
 use std::alloc::{AllocError, Global};
 use std::io;
 use std::marker::Model;
@@ -30,6 +33,10 @@ use std::marker::Model;
 /// It takes no byte behind a frame from the reader. So the reader can be lent as `&mut reader`, and other calls
 /// go on there behind the last frame. Each byte is copied into a buffer for the decoder, at most 8 KiB at a time, and a
 /// frame that is longer is copied again when that buffer grows.
+///
+/// Before it reads, a poll asks the decoder about the bytes that the reader shows. If it shows none, the decoder gets
+/// an empty buffer, also before the first read, so that a frame of no bytes comes without a read. The `FramedRead` of
+/// `tokio_util` reads before it first asks.
 ///
 /// # Errors
 ///
@@ -476,6 +483,20 @@ impl<T: AsyncBufRead + CountedRead, D: PromptDecoder> OkCounted for FramedRead<T
     ghost ok_ranks = { frame_ranks D.owes T.ranks };
 
     ghost ok_counting = { frames_counting D.gives D.owes D.prompt D.Error.from_gives T.reads T.counting };
+}
+
+// The buffer for the decoder allocates, so a run is ample if no item says that memory was refused.
+impl<T: AsyncBufRead + CountedRead + SteadyRead, D: SteadyDecoder> SteadyStream
+    for FramedRead<T, D> {
+    ghost ample = { AmpleFrames D.gives D.Error.from_gives D.lacks T.ample };
+
+    ghost needs_none = { ⊥ };
+
+    ghost same = { D.same };
+
+    ghost alike = { FramesAlike T.alike };
+
+    ghost steady = { frames_steady D.one_outcome D.stable D.partial_has_no_frame T.steady };
 }
 
 impl<T: AsyncBufRead + CountedRead + CalmRead, D: PromptDecoder> CalmStream for FramedRead<T, D> {

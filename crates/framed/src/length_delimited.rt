@@ -6,6 +6,8 @@ ghost use Rattle.framed.specs.FrameErrors.{SaysOutOfMemory};
 ghost use Rattle.framed.specs.LengthDelimited.{FrameOf, IsTooLong, IsTooLongCut, RefusesPayload, gives_delimited, length_header, no_frame_empty};
 ghost use Rattle.framed.specs.DelimitedBack.{delimited_back, one_frame_cut};
 ghost use Rattle.framed.specs.Pieces.{pieces_end, pieces_partial, pieces_prompt, pieces_stable};
+ghost use Rattle.framed.specs.SteadyPieces.{SameFrame, delimited_once};
+ghost use Rattle.lite_base.specs.Alike.{Sameness};
 ghost use Rattle.framed.specs.declared.cut_error.CutError.TheVariants as small;
 ghost use Rattle.framed.specs.declared.frame_error.FrameError.TheVariants.{CutOff};
 
@@ -15,6 +17,7 @@ use crate::cutter::Cutter;
 use crate::frame_error::FrameError;
 use crate::prompt_decoder::PromptDecoder;
 use crate::round_trip::RoundTrip;
+use crate::steady_decoder::SteadyDecoder;
 use bytes::BytesMut;
 use std::convert::AsSlice;
 use tokio_util::codec::{Decoder, Encoder};
@@ -113,6 +116,14 @@ impl<T: AsSlice<u8> + Drop> Encoder<T> for LengthDelimited {
 impl PromptDecoder for LengthDelimited {
     ghost prompt = { pieces_prompt (λ c v. FrameOf c v.items) IsTooLong SaysOutOfMemory (λ e. e ≡ CutOff)
         (λ c v. no_frame_empty c v.items) };
+}
+
+impl SteadyDecoder for LengthDelimited {
+    ghost lacks = { SaysOutOfMemory };
+
+    ghost same = { Sameness.by SameFrame };
+
+    ghost one_outcome = { delimited_once };
 }
 
 impl Cutter for LengthDelimited {

@@ -35,6 +35,7 @@ mod send_future;
 mod serve_error;
 mod server;
 mod service;
+mod steady_decoder;
 mod waiting;
 
 pub use collect::collect_frames;
@@ -60,4 +61,5 @@ pub use send_future::SendFuture;
 pub use serve_error::ServeError;
 pub use server::serve;
 pub use service::{Answer, Service};
+pub use steady_decoder::SteadyDecoder;
 pub use waiting::{wait_send, wait_send_all};

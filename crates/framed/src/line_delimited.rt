@@ -7,6 +7,8 @@ ghost use Rattle.framed.specs.FrameErrors.{SaysOutOfMemory};
 ghost use Rattle.framed.specs.LineBack.{line_back, one_line_cut};
 ghost use Rattle.framed.specs.LineDelimited.{IsLongLine, IsLongLineCut, LineOf, RefusesText, gives_line_delimited, with_newline, no_line_empty};
 ghost use Rattle.framed.specs.Pieces.{pieces_end, pieces_partial, pieces_prompt, pieces_stable};
+ghost use Rattle.framed.specs.SteadyPieces.{SameFrame, lines_delimited_once};
+ghost use Rattle.lite_base.specs.Alike.{Sameness};
 ghost use Rattle.framed.specs.declared.cut_error.CutError.TheVariants as small;
 ghost use Rattle.framed.specs.declared.frame_error.FrameError.TheVariants.{CutOff};
 
@@ -17,6 +19,7 @@ use crate::delimiter::{Delimiter, find_delimiter, find_delimiter_behind, first_a
 use crate::frame_error::FrameError;
 use crate::prompt_decoder::PromptDecoder;
 use crate::round_trip::RoundTrip;
+use crate::steady_decoder::SteadyDecoder;
 use bytes::BytesMut;
 use std::convert::AsSlice;
 use tokio_util::codec::{Decoder, Encoder};
@@ -126,6 +129,14 @@ impl<T: AsSlice<u8> + Drop> Encoder<T> for LineDelimited {
 impl PromptDecoder for LineDelimited {
     ghost prompt = { pieces_prompt (λ c v. LineOf c v.items) IsLongLine SaysOutOfMemory (λ e. e ≡ CutOff)
         (λ c v. no_line_empty c v.items) };
+}
+
+impl SteadyDecoder for LineDelimited {
+    ghost lacks = { SaysOutOfMemory };
+
+    ghost same = { Sameness.by SameFrame };
+
+    ghost one_outcome = { lines_delimited_once };
 }
 
 impl Cutter for LineDelimited {

@@ -25,6 +25,9 @@ const MOST_INTERRUPTIONS: usize = 16;
 /// it is polled again, up to 16 times in a row. After `Pending` and after an error, the bytes that were not
 /// taken are still in the buffer, and the call may be made again.
 ///
+/// A vectored write takes bytes of one buffer alone: the first that is not empty. The `BufWriter`s of std and
+/// tokio gather all buffers if they have room for them.
+///
 /// The buffer is allocated once; no later call of the writer allocates. `into_inner` and a drop lose what is
 /// in the buffer, so flush it before.
 ///

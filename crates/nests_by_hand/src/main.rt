@@ -9,7 +9,7 @@ mod unfolding;
 
 use calls::{append_all, next_two};
 use closures::hundredths;
-use futures_lite::stream::{iter_vec, script};
+use futures_lite::stream::script;
 use futures_lite::{Doorbell, Poll, Solo};
 use nest::{first_evens, small_evens, tripled};
 use programs::{end, without_words};
@@ -62,11 +62,22 @@ where
         }
     }
 
-    let mut numbers = iter_vec(vec![in rt.alloc(); 1u32, 2, 3, 4, 5]?);
+    // The script goes on behind its end, where the second call begins.
+    let mut numbers = script(vec![in rt.alloc();
+        Poll::Ready(Some(1u32)),
+        Poll::Ready(Some(2)),
+        Poll::Ready(Some(3)),
+        Poll::Ready(Some(4)),
+        Poll::Ready(Some(5)),
+        Poll::Ready(None),
+        Poll::Ready(Some(6)),
+    ]?);
     if let Some((first, second)) = next_two(rt, &mut numbers)? {
         println!(rt; "{first}, {second}")?;
     }
     let mut left = Vec::new(rt.alloc());
+    append_all(rt, &mut numbers, &mut left)?;
+    println!(rt; "{left:?}")?;
     append_all(rt, &mut numbers, &mut left)?;
     println!(rt; "{left:?}")
 }

@@ -52,6 +52,7 @@ fn a_line_that_would_not_come_back_is_refused(rt: HostRuntime) -> Result<(), Fai
     );
     assert!(rt; matches!(encode(b"a\r", &mut bytes)?, Err(FrameError::EndsInReturn)));
     assert!(rt; matches!(encode(b"a four", &mut bytes)?, Err(FrameError::TooLong(6))));
+    assert!(rt; matches!(encode(b"a\nfour", &mut bytes)?, Err(FrameError::TooLong(6))));
     assert_eq!(rt; bytes.as_slice(), b"before".as_slice());
     Ok(())
 }
