@@ -39,7 +39,7 @@ ghost use denote.Ref.{Bor};
 
 use lite_base::{Context, Future, Poll};
 pub use lite_base::{Counted, OkCounted, Stream, poll_armed_next};
-pub use lite_consume::make::block_on;
+pub use lite_consume::make::{block_on, block_on_by};
 pub use lite_consume::{
     AllFuture, AnyFuture, BlockOn, Consume, CountFuture, FindFuture, FindMapFuture, FoldFuture,
     Folder, ForEachFuture, LastFuture, NextFuture, NthFuture, PositionFuture, SteadyFolder,
