@@ -115,8 +115,6 @@ NO_CASE = {
     *"collect_from_kit compat stream_from_kit wait_from_kit".split(),
     # They are parts of `wait_send` and `wait_send_all`.
     *"encode_all send send_all".split(),
-    # Not measured yet.
-    *"frame poll_advance".split(),
     # They do what `AsyncAsSync::read`, `read_hexadecimal` and `poll_read_vectored` do.
     *"poll_with read_decimal read_vectored".split(),
     # Calls and checks of journals, which tests alone make.
