@@ -27,7 +27,7 @@ REGISTERS_NOTHING = {
 }
 # The tests of adapters, of futures that consume a stream, and of sources; and the calls that those of another kind make, or of another form.
 TESTS_OF_STREAMS = ("streams/adapters.rs", "consuming/consume.rs", "streams/sources.rs")
-NO_TEST = {"StreamExt::race", "block_on", "or", "poll_armed_next", "race", "race_with_seed", "stop_after_future"}
+NO_TEST = {"StreamExt::race", "block_on", "block_on_by", "or", "poll_armed_next", "race", "race_with_seed", "stop_after_future"}
 # The blocking stream, and the futures of streams that it has no method for: they take an allocator, or need items that are `Result`s or pairs.
 BLOCKING, NO_METHOD = "crates/lite_consume/src/block_on.rt", set("collect partition try_collect try_fold try_for_each try_next unzip".split())
 # Methods of streams that cases know by another word.
@@ -45,8 +45,8 @@ NO_FAMILY = {
 }
 # Calls without a row: what waits for others, what has no value, and what stands in the row of another call, as `iter_vec` in that of `iter`.
 NO_ROW = {
-    NESTS: {"block_on", "StreamExt::for_each", "poll_armed_next", "race_with_seed"},
-    TABLES: {"block_on", "iter_array", "iter_range", "iter_slice", "iter_vec", "poll_armed_next", "race_with_seed"},
+    NESTS: {"block_on", "block_on_by", "StreamExt::for_each", "poll_armed_next", "race_with_seed"},
+    TABLES: {"block_on", "block_on_by", "iter_array", "iter_range", "iter_slice", "iter_vec", "poll_armed_next", "race_with_seed"},
 }
 
 # Types without a property of their kind. A new type that lacks one is to be named here, so that none is forgotten.
@@ -115,8 +115,6 @@ NO_CASE = {
     *"collect_from_kit compat stream_from_kit wait_from_kit".split(),
     # They are parts of `wait_send` and `wait_send_all`.
     *"encode_all send send_all".split(),
-    # Not measured yet.
-    *"frame poll_advance".split(),
     # They do what `AsyncAsSync::read`, `read_hexadecimal` and `poll_read_vectored` do.
     *"poll_with read_decimal read_vectored".split(),
     # Calls and checks of journals, which tests alone make.

@@ -33,6 +33,7 @@ GROUPS = {
             "futures_lite/src/future.rt wait_for",
             "lite_base/src/future/block_on.rt",
             "lite_base/src/future/waits.rt",
+            "lite_consume/src/blocking.rt",
         ),
         "Polling once": ("lite_base/src/future/armed.rt",),
         "Making a future": tuple(f"lite_future/src/{it}.rt" for it in ("pending", "poll_fn", "ready", "yield_now")),

@@ -18,7 +18,7 @@ BAR, STEP, LABEL, WIDTH = 6, 18, 170, 420
 BUILD = "# The original's columns are of one build: "
 # For each case that makes bytes first: the case that makes as many, and how many of its items an item needs.
 NOISE = (
-    "cursor_read buf_reader chain_read bytes blocking_read waits_read fill take_fill chain_fill take_read asserted_read with_budget_read as_sync_read "
+    "cursor_read buf_reader chain_read bytes held_read blocking_read waits_read fill take_fill chain_fill take_read asserted_read with_budget_read as_sync_read "
     "read_to_end copy journal half"
 ).split()
 TEXT = (
@@ -30,7 +30,7 @@ MADE = {
     **dict.fromkeys(("lines_8", "wide_lines_8"), ("made_lines_8", 1)),
     **dict.fromkeys(("lines_2000", "wide_lines_2000"), ("made_lines_2000", 1)),
     **dict.fromkeys(("read_to_string", "read_wide_to_string"), ("made_lines_16", 1)),
-    **dict.fromkeys(("values", "values_by_hand", "wait_frame", "collect_frames"), ("made_values", 1)),
+    **dict.fromkeys(("values", "values_by_hand", "poll_advance", "wait_frame", "collect_frames"), ("made_values", 1)),
     "take_body": ("made_chunks", 1),
     **dict.fromkeys(("copied", "cloned"), ("made_numbers", 1)),
     **dict.fromkeys(("cursor_overwrite", "vectored_read"), ("made_noise", 16)),

@@ -159,7 +159,7 @@ pub(crate) fn bytes(alloc: Global, cx: &mut Context<'_>, n: u64) -> Result<u64, 
 
 /// As `cursor_read`, with a wait for each byte.
 #[inline(never)]
-pub(crate) fn blocking_read<R>(rt: R, n: u64) -> Result<u64, Fault>
+pub(crate) fn held_read<R>(rt: R, n: u64) -> Result<u64, Fault>
 where
     R: Wait + RandomSource + AllocGlobal + Copy,
 {
@@ -176,7 +176,28 @@ where
     Ok(sum)
 }
 
-/// As `blocking_read`, with one context for all waits.
+/// As `held_read`, with one context for all waits.
+#[inline(never)]
+pub(crate) fn blocking_read<R>(rt: R, n: u64) -> Result<u64, Fault>
+where
+    R: Wait + RandomSource + AllocGlobal + Copy,
+{
+    let bytes = noise(rt.alloc(), n)?;
+    let mut on = future::BlockOn::new(&rt)?;
+    let mut waits = on.waits();
+    let mut reader = BlockOn::by(&mut waits, rt, Cursor::new(bytes.as_slice()));
+    let mut sum = 0u64;
+    let mut room = [0u8; 1];
+    for _ in 0..n {
+        let Ok(1) = reader.read(&mut room) else {
+            break;
+        };
+        sum = sum.wrapping_add(room[0] as u64);
+    }
+    Ok(sum)
+}
+
+/// As `blocking_read`, with a future for each wait.
 #[inline(never)]
 pub(crate) fn waits_read<R>(rt: &R, n: u64) -> Result<u64, Fault>
 where

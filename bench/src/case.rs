@@ -38,6 +38,7 @@ where
         "block_on_yield" => Ok(values::block_on_yield(rt, n)?),
         "held_ready" => Ok(values::held_ready(rt, n)?),
         "held_yield" => Ok(values::held_yield(rt, n)?),
+        "held_next" => Ok(consuming::held_next(*rt, n, n)?),
         "blocking_next" => Ok(consuming::blocking_next(*rt, n, n)?),
         "waits_next" => Ok(consuming::waits_next(rt, n, n)?),
         _ => computed_of_bytes(rt, cx, name, n),
@@ -51,6 +52,7 @@ where
 {
     let alloc = rt.alloc();
     match name {
+        "held_read" => bytes::held_read(*rt, n),
         "blocking_read" => bytes::blocking_read(*rt, n),
         "waits_read" => bytes::waits_read(rt, n),
         "wait_read" => waits::read(rt, n),
@@ -112,6 +114,7 @@ where
         "close" => texts::close(alloc, cx, n),
         "buf_writer" => texts::buf_writer(alloc, cx, n),
         "values" => codecs::values(alloc, cx, n),
+        "poll_advance" => codecs::lent_values(alloc, cx, n),
         "values_by_hand" => codecs::values_by_hand(alloc, cx, n),
         "take_body" => codecs::chunks(alloc, n),
         "served_lines" => codecs::served_lines(rt, n),

@@ -12,6 +12,7 @@ use std::sync::Wait;
 
 /// Cases that no file of theirs checks, their sizes, and the items that they fold.
 const FOLDS: &[(&str, u64, &[u64])] = &[
+    ("held_next", 4, &[5, 4, 7, 6]),
     ("blocking_next", 4, &[5, 4, 7, 6]),
     ("waits_next", 4, &[5, 4, 7, 6]),
     ("seek", 4, &[1, 2, 3, 4]),
@@ -21,7 +22,7 @@ const FOLDS: &[(&str, u64, &[u64])] = &[
 
 /// Cases, their sizes, and their numbers: of texts all bytes that are read, of writers all that are written, of futures
 /// all values.
-const NUMBERS: [(&str, u64, u64); 68] = [
+const NUMBERS: [(&str, u64, u64); 69] = [
     ("made_noise", 600, 600),
     ("made_numbers", 6, 6),
     ("made_text", 6, 96),
@@ -42,6 +43,7 @@ const NUMBERS: [(&str, u64, u64); 68] = [
     ("made_chunks", 6, 132),
     ("values", 1000, 16000),
     ("values_by_hand", 1000, 16000),
+    ("poll_advance", 1000, 16000),
     ("take_body", 1000, 16000),
     ("served_lines", 1000, 16000),
     ("split", 6, 90),
@@ -94,7 +96,7 @@ const NUMBERS: [(&str, u64, u64); 68] = [
 ];
 
 /// Cases of readers, which read each byte of a noise once.
-const READERS: [&str; 14] = [
+const READERS: [&str; 15] = [
     "bytes",
     "cursor_read",
     "buf_reader",
@@ -107,6 +109,7 @@ const READERS: [&str; 14] = [
     "asserted_read",
     "with_budget_read",
     "as_sync_read",
+    "held_read",
     "blocking_read",
     "waits_read",
 ];

@@ -6,7 +6,7 @@ use crate::fault::Fault;
 use crate::texts::{repeated, text};
 use bytes::BytesMut;
 use framed::{
-    Answer, Delimiter, FrameError, FramedRead, LengthDelimited, LineDelimited, Service,
+    Answer, Delimiter, FrameError, FramedRead, Frames, LengthDelimited, LineDelimited, Service,
     find_delimiter, read_hexadecimal, serve, strip_return, take_body,
 };
 use futures_lite::future::BlockOn;
@@ -43,6 +43,21 @@ pub(crate) fn values(alloc: Global, cx: &mut Context<'_>, n: u64) -> Result<u64,
         Poll::Ready(Ok(sum)) => Ok(sum),
         _ => Err(Fault::Memory),
     }
+}
+
+/// As `values`, each frame lent from the bytes.
+#[inline(never)]
+pub(crate) fn lent_values(alloc: Global, cx: &mut Context<'_>, n: u64) -> Result<u64, Fault> {
+    let bytes = repeated(alloc, VALUE, n)?;
+    let mut frames = Frames::new(alloc, bytes.as_slice(), LengthDelimited { max: MAX });
+    let mut sum = 0u64;
+    for _ in 0..n {
+        let Poll::Ready(Some(Ok(()))) = frames.poll_advance(cx) else {
+            break;
+        };
+        sum = sum.wrapping_add(frames.frame().len() as u64);
+    }
+    Ok(sum)
 }
 
 /// As `values`, by two reads for each value.

@@ -65,7 +65,7 @@ pub(crate) fn next(cx: &mut Context<'_>, n: u64, polls: u64) -> u64 {
 
 /// As `next`, with a wait for each item.
 #[inline(never)]
-pub(crate) fn blocking_next<R>(rt: R, n: u64, waits: u64) -> Result<u64, AllocError>
+pub(crate) fn held_next<R>(rt: R, n: u64, waits: u64) -> Result<u64, AllocError>
 where
     R: Wait + RandomSource + AllocGlobal + Copy,
 {
@@ -80,7 +80,27 @@ where
     Ok(sum)
 }
 
-/// As `blocking_next`, with one context for all waits.
+/// As `held_next`, with one context for all waits.
+#[inline(never)]
+pub(crate) fn blocking_next<R>(rt: R, n: u64, waits: u64) -> Result<u64, AllocError>
+where
+    R: Wait + RandomSource + AllocGlobal + Copy,
+{
+    let mut on = BlockOn::new(&rt)?;
+    let mut waiting = on.waits();
+    let given = stream::iter(0..n).map(|x: u64| x ^ 5);
+    let mut numbers = stream::block_on_by(&mut waiting, rt, given);
+    let mut sum = 0u64;
+    for _ in 0..waits {
+        let Some(x) = numbers.next()? else {
+            break;
+        };
+        sum = with_item(sum, x);
+    }
+    Ok(sum)
+}
+
+/// As `blocking_next`, with a future for each wait.
 #[inline(never)]
 pub(crate) fn waits_next<R>(rt: &R, n: u64, waits: u64) -> Result<u64, AllocError>
 where

@@ -2,9 +2,9 @@
 
 use crate::texts::{repeated, text};
 use futures_lite::future;
-use futures_lite::io::{self, AsyncBufReadExt, AsyncReadExt, AsyncWriteExt};
+use futures_lite::io::{self, AsyncBufRead, AsyncBufReadExt, AsyncReadExt, AsyncWriteExt};
 use std::future::Future;
-use std::pin::pin;
+use std::pin::{Pin, pin};
 use std::task::{Context, Poll};
 
 /// A value with its number.
@@ -52,6 +52,36 @@ fn read_value(reader: &mut &[u8], cx: &mut Context<'_>) -> Option<Vec<u8>> {
         return None;
     };
     Some(value)
+}
+
+/// As `values_by_hand`, each value lent from the bytes, in which it stands whole.
+#[inline(never)]
+pub fn lent_values(cx: &mut Context<'_>, n: u64) -> u64 {
+    let bytes = repeated(VALUE, n);
+    let mut reader = bytes.as_slice();
+    let mut sum = 0u64;
+    for _ in 0..n {
+        let Poll::Ready(Ok(shown)) = Pin::new(&mut reader).poll_fill_buf(cx) else {
+            break;
+        };
+        let Some(value) = lent_value(shown) else {
+            break;
+        };
+        let length = value.len();
+        Pin::new(&mut reader).consume(4 + length);
+        sum = sum.wrapping_add(length as u64);
+    }
+    sum
+}
+
+/// The value at the front of the bytes.
+fn lent_value(bytes: &[u8]) -> Option<&[u8]> {
+    let (number, rest) = bytes.split_first_chunk()?;
+    let number = u32::from_be_bytes(*number);
+    if number > MAX {
+        return None;
+    }
+    rest.get(..number as usize)
 }
 
 /// So many lines to a server, which replies with the line into a vector with room for the replies.

@@ -27,7 +27,7 @@ pub fn computed(cx: &mut Context<'_>, name: &str, n: u64) -> Option<u64> {
         "find" => find(cx, n),
         "all" => all(cx, n),
         "collect" => collect(cx, n),
-        "blocking_next" => blocking_next(n, n),
+        "blocking_next" | "held_next" => blocking_next(n, n),
         "waits_next" => waits_next(n, n),
         _ => return None,
     })

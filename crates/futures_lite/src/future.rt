@@ -13,6 +13,7 @@ pub use lite_base::Future;
 pub use lite_base::future::block_on::BlockOn;
 pub use lite_base::future::{Waiter, Waits, poll_armed};
 use lite_base::{Context, Poll};
+pub use lite_consume::{Blocking, ByRuntime, ByWaiter};
 use lite_future::make;
 pub use lite_future::make::{fuse, poll_once, yield_now};
 pub use lite_future::{

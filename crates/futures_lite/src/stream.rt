@@ -20,7 +20,7 @@ ghost use Rattle.lite_reshape.specs.Skip.{SkipsFirst};
 ghost use Rattle.lite_reshape.specs.SkipWhile.{SkipsWhile};
 ghost use Rattle.lite_reshape.specs.StepBy.{StepsBy};
 ghost use Rattle.lite_reshape.specs.Then.{Thens};
-ghost use Rattle.lite_reshape.specs.declared.chain.Part.TheVariants.{First};
+ghost use Rattle.lite_reshape.specs.Ended.Turn.{First};
 ghost use Rattle.lite_base.specs.EachItem.{MayCallEach, items_in};
 ghost use Rattle.lite_stream.specs.Fuse.{Fuses};
 ghost use Rattle.lite_stream.specs.Take.{Takes};
@@ -39,7 +39,7 @@ ghost use denote.Ref.{Bor};
 
 use lite_base::{Context, Future, Poll};
 pub use lite_base::{Counted, OkCounted, Stream, poll_armed_next};
-pub use lite_consume::make::block_on;
+pub use lite_consume::make::{block_on, block_on_by};
 pub use lite_consume::{
     AllFuture, AnyFuture, BlockOn, Consume, CountFuture, FindFuture, FindMapFuture, FoldFuture,
     Folder, ForEachFuture, LastFuture, NextFuture, NthFuture, PositionFuture, SteadyFolder,

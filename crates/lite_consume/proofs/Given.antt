@@ -1,6 +1,7 @@
 -- What is given of a part, and of a stream that is lent.
-use Rattle.std.specs.Prelude.{Result, Ok, Err, IfOk, IsOk, List, [], ◌∷◌}
+use Rattle.std.specs.Prelude.{◌≡◌, Result, Ok, Err, IfOk, OnErr, List, [], ◌∷◌}
 use Rattle.lite_consume.specs.Uses.{FoldsTo, Poll, MutBor, Answer, Gives, Hints, Lent, Runs, StreamLaws, items_in}
+use Rattle.std.proofs.Common.{ap}
 use Rattle.lite_consume.specs.Consume.{Folds, MayTakeEach}
 use Rattle.lite_consume.specs.Consuming.{Consumes, Fold, TakesIn, fold_of}
 use Rattle.lite_consume.specs.Laws.Agreeing.{within_itself}
@@ -71,6 +72,11 @@ module _ {S M A R : Type 0} (run : Runs (Answer A) S) (fold : Fold M A R) where
       )
   lent_given x y (Err e) h = tt
 
+  pub lent_stays : {E : Type 0} (x y : Consume (MutBor S) (MutBor M)) (r : Result R E) → OnErr r (y ≡ x)
+      → OnErr r (y.stream.now ≡ x.stream.now)
+  lent_stays x y (Ok v) h = tt
+  lent_stays x y (Err e) h = ap (λ (z : Consume (MutBor S) (MutBor M)). z.stream.now) h
+
   pub lent_each : (can_take : M → A → Type 0) (s : MutBor S) (p : MutBor M) → MayTakeEach run fold can_take s.now p.now
       → MayTakeEach (Lent run) (fold_of now fold) (λ q x. can_take q.now x) s p
   lent_each can_take s p h = record {
@@ -79,7 +85,7 @@ module _ {S M A R : Type 0} (run : Runs (Answer A) S) (fold : Fold M A R) where
 
 -- the stream that is left may be polled again
 pub given_on : {S M A R E : Type 0} {can_poll : S → Type 0} {run : Runs (Answer A) S} {hints : Hints S} (fold : Fold M A R)
-    → StreamLaws can_poll run hints → (s t : S) (p : M) (r : Result R E) → IsOk r → can_poll s
+    → StreamLaws can_poll run hints → (s t : S) (p : M) (r : Result R E) → OnErr r (t ≡ s) → can_poll s
     → IfOk r (λ v. BlockGives fold run s p v t) → can_poll t
 given_on fold laws s t p (Ok v) k c h = laws.polls_on s t h.3.ins c h.3.came
-given_on fold laws s t p (Err e) k c h = absurd (cc k)
+given_on fold laws s t p (Err e) k c h = rw k c

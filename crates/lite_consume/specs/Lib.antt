@@ -1,7 +1,6 @@
 pub mod Agreeing
 pub mod All
 pub mod Any
-pub mod BlockOn
 pub mod Consume
 pub mod Consuming
 pub mod Count

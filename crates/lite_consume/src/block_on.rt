@@ -14,44 +14,37 @@ ghost use Rattle.lite_consume.specs.Nth.{nths};
 ghost use Rattle.lite_consume.specs.Position.{positions};
 ghost use Rattle.lite_consume.specs.Consume.{MayTakeEach};
 
+use crate::blocking::Blocking;
 use crate::make::consume;
 use crate::{All, Any, Count, Find, FindMap, Fold, Folder, ForEach, Last, Next, Nth, Position};
-use lite_base::future::block_on::BlockOn as Waiter;
 use lite_base::{Counted, Stream};
-use std::alloc::{AllocError, AllocGlobal};
+use std::alloc::AllocError;
 use std::fmt;
-use std::random::RandomSource;
-use std::sync::Wait;
 
 /// A stream whose items are waited for on this thread.
 ///
-/// Returned by [`block_on`](crate::make::block_on). Each method blocks the thread until one future over the
-/// stream is ready, and leaves the stream in the state in which that future leaves it.
+/// Returned by [`block_on`](crate::make::block_on) and [`block_on_by`](crate::make::block_on_by). Each method blocks
+/// the thread until one future over the stream is ready, and leaves the stream in the state in which that future
+/// leaves it.
 ///
-/// The first method that is called allocates what a wait needs. If that fails, the method returns `Err`, and
-/// the stream was not polled. No later call allocates, so no later call returns `Err`. Unlike that of
+/// The type `K` says what the calls wait by. With [`ByRuntime`](crate::ByRuntime) the first method that is called
+/// allocates what a wait needs. If that fails, the method returns `Err`, and the stream was not polled. No later
+/// call allocates, so no later call returns `Err`. With [`ByWaiter`](crate::ByWaiter) no call does. Unlike that of
 /// futures-lite, the type is no `Iterator`, because the first call may fail.
-///
-/// Each call makes a context of its own. A loop that waits for one item after another is faster with
-/// `future::Waits`, whose waits share a context.
 #[derive(Drop)]
-pub struct BlockOn<R, S> {
-    pub(crate) rt: R,
+pub struct BlockOn<K, S> {
+    pub(crate) by: K,
     pub(crate) stream: S,
-    // Made at the first call, and kept for the others.
-    pub(crate) waiter: Option<Waiter>,
 }
 
-impl<R, S: fmt::Debug> fmt::Debug for BlockOn<R, S> {
+impl<K, S: fmt::Debug> fmt::Debug for BlockOn<K, S> {
     fn fmt<W: fmt::Write>(&self, f: &mut fmt::Formatter<W>) -> fmt::Result {
         f.debug_tuple("BlockOn").field(&self.stream).finish()
     }
 }
 
-impl<R: Wait + RandomSource + AllocGlobal, S: Stream> BlockOn<R, S> {
-    ghost use Rattle.lite_consume.specs.BlockOn.{NeverWaited};
-
-    /// Waits for what `folder` makes of the items. If there is no `waiter` yet, the call makes one.
+impl<K: Blocking, S: Stream> BlockOn<K, S> {
+    /// Waits for what `folder` makes of the items.
     fn ask<F: Folder<S> + Drop>(&mut self, mut folder: F) -> Result<F::Output, AllocError>
         requires polls { S.can_poll self.old.stream }
         requires counts { F.counts self.old.stream }
@@ -60,16 +53,11 @@ impl<R: Wait + RandomSource + AllocGlobal, S: Stream> BlockOn<R, S> {
         ensures gave { IfOk result (λ value. BlockGives F.fold S.run self.old.stream folder value self.new.stream) }
         ensures again { S.can_poll self.new.stream }
         ensures unchanged { OnErr result (self.new.stream ≡ self.old.stream) }
-        ensures first { OnErr result (NeverWaited self.old) }
-        ensures used { OnOk result (NeverWaited self.new → ⊥) }
+        ensures first { OnErr result (K.is_unused self.old.by) }
+        ensures used { OnOk result (K.is_unused self.new.by → ⊥) }
     {
-        // By itself, so that it is known that the rest stays.
-        let waiter = &mut self.waiter;
-        if waiter.is_none() {
-            *waiter = Some(Waiter::new(&self.rt)?);
-        }
-        let waiter = waiter.as_mut().unwrap();
-        waiter.wait_for(&self.rt, &mut consume(&mut self.stream, &mut folder))
+        self.by
+            .wait_for(&mut consume(&mut self.stream, &mut folder))
     }
 
     /// Blocks until the stream yields an item, and returns it, or returns `None` at an end.
@@ -91,8 +79,8 @@ impl<R: Wait + RandomSource + AllocGlobal, S: Stream> BlockOn<R, S> {
         ensures gave { IfOk result (λ value. BlockGives nexts S.run self.old.stream nothing value self.new.stream) }
         ensures again { S.can_poll self.new.stream }
         ensures unchanged { OnErr result (self.new.stream ≡ self.old.stream) }
-        ensures first { OnErr result (NeverWaited self.old) }
-        ensures used { OnOk result (NeverWaited self.new → ⊥) }
+        ensures first { OnErr result (K.is_unused self.old.by) }
+        ensures used { OnOk result (K.is_unused self.new.by → ⊥) }
     {
         self.ask(Next)
     }
@@ -120,15 +108,15 @@ impl<R: Wait + RandomSource + AllocGlobal, S: Stream> BlockOn<R, S> {
         ensures gave { IfOk result (λ value. BlockGives nths S.run self.old.stream n value self.new.stream) }
         ensures again { S.can_poll self.new.stream }
         ensures unchanged { OnErr result (self.new.stream ≡ self.old.stream) }
-        ensures first { OnErr result (NeverWaited self.old) }
-        ensures used { OnOk result (NeverWaited self.new → ⊥) }
+        ensures first { OnErr result (K.is_unused self.old.by) }
+        ensures used { OnOk result (K.is_unused self.new.by → ⊥) }
     {
         self.ask(Nth { n })
     }
 
     /// Blocks until the stream ends, and returns the number of its items, modulo 2^64.
     ///
-    /// It drops the items, the stream and the runtime, so they have to be `Drop`. It may wait for ever. `Err`
+    /// It drops the items, the stream and what it waits by, so they have to be `Drop`. It may wait for ever. `Err`
     /// means an allocation failure, in the first call only. The stream must be `Counted`, because one poll
     /// may consume many items. The caller guarantees that `ranks.counts` holds for it, and that it may be
     /// polled.
@@ -143,19 +131,19 @@ impl<R: Wait + RandomSource + AllocGlobal, S: Stream> BlockOn<R, S> {
     /// ```
     pub fn count(mut self) -> Result<usize, AllocError>
     where
-        R: Drop,
+        K: Drop,
         S: Counted<Item: Drop> + Drop,
         requires polls { S.can_poll self.stream }
         requires counts { S.ranks.counts self.stream }
         ensures gave { IfOk result (λ value. (left : S) × BlockGives counts S.run self.stream 0 value left) }
-        ensures first { OnErr result (NeverWaited self) }
+        ensures first { OnErr result (K.is_unused self.by) }
     {
         self.ask(Count { count: 0 })
     }
 
     /// Blocks until the stream ends, and returns its last item, or `None` if there is none.
     ///
-    /// It drops the other items, the stream and the runtime, so they have to be `Drop`. It may wait for ever.
+    /// It drops the other items, the stream and what it waits by, so they have to be `Drop`. It may wait for ever.
     /// `Err` means an allocation failure, in the first call only. The stream must be `Counted`, because one
     /// poll may consume many items. The caller guarantees that `ranks.counts` holds for it, and that it may
     /// be polled.
@@ -170,19 +158,19 @@ impl<R: Wait + RandomSource + AllocGlobal, S: Stream> BlockOn<R, S> {
     /// ```
     pub fn last(mut self) -> Result<Option<S::Item>, AllocError>
     where
-        R: Drop,
+        K: Drop,
         S: Counted<Item: Drop> + Drop,
         requires polls { S.can_poll self.stream }
         requires counts { S.ranks.counts self.stream }
         ensures gave { IfOk result (λ value. (left : S) × BlockGives lasts S.run self.stream None value left) }
-        ensures first { OnErr result (NeverWaited self) }
+        ensures first { OnErr result (K.is_unused self.by) }
     {
         self.ask(Last { last: None })
     }
 
     /// Blocks until the stream ends, and returns its items folded into `init` by `f`, one after the other.
     ///
-    /// `f`, the accumulator, the stream and the runtime have to be `Drop`. It may wait for ever. `Err` means
+    /// `f`, the accumulator, the stream and what it waits by have to be `Drop`. It may wait for ever. `Err` means
     /// an allocation failure, in the first call only. The stream must be `Counted`, because one poll may
     /// consume many items. The caller guarantees that `ranks.counts` holds for it, that it may be polled, and
     /// that `f` may be called with each item.
@@ -198,7 +186,7 @@ impl<R: Wait + RandomSource + AllocGlobal, S: Stream> BlockOn<R, S> {
     /// ```
     pub fn fold<T, F>(mut self, init: T, f: F) -> Result<T, AllocError>
     where
-        R: Drop,
+        K: Drop,
         T: Drop,
         S: Counted + Drop,
         F: FnMut(T, S::Item) -> T + Drop,
@@ -207,14 +195,14 @@ impl<R: Wait + RandomSource + AllocGlobal, S: Stream> BlockOn<R, S> {
         requires asks { MayTakeEach S.run (folds (CallsBoth F.FnMut)) (MayFold F.FnMut) self.stream (f, Some init) }
         ensures gave { IfOk result
             (λ value. (left : S) × BlockGives (folds (CallsBoth F.FnMut)) S.run self.stream (f, Some init) value left) }
-        ensures first { OnErr result (NeverWaited self) }
+        ensures first { OnErr result (K.is_unused self.by) }
     {
         self.ask(Fold { f, acc: Some(init) })
     }
 
     /// Blocks until the stream ends, and calls `f` with each item.
     ///
-    /// `f`, the stream and the runtime have to be `Drop`. It may wait for ever. `Err` means an allocation
+    /// `f`, the stream and what it waits by have to be `Drop`. It may wait for ever. `Err` means an allocation
     /// failure, in the first call only. The stream must be `Counted`, because one poll may consume many
     /// items. The caller guarantees that `ranks.counts` holds for it, that it may be polled, and that `f` may
     /// be called with each item.
@@ -232,7 +220,7 @@ impl<R: Wait + RandomSource + AllocGlobal, S: Stream> BlockOn<R, S> {
     /// ```
     pub fn for_each<F>(mut self, f: F) -> Result<(), AllocError>
     where
-        R: Drop,
+        K: Drop,
         S: Counted + Drop,
         F: FnMut(S::Item) + Drop,
         requires polls { S.can_poll self.stream }
@@ -240,7 +228,7 @@ impl<R: Wait + RandomSource + AllocGlobal, S: Stream> BlockOn<R, S> {
         requires asks { MayTakeEach S.run (calls_each (Calls F.FnMut)) (MayCall F.FnMut) self.stream f }
         ensures gave { IfOk result
             (λ value. (left : S) × BlockGives (calls_each (Calls F.FnMut)) S.run self.stream f value left) }
-        ensures first { OnErr result (NeverWaited self) }
+        ensures first { OnErr result (K.is_unused self.by) }
     {
         self.ask(ForEach { f })
     }
@@ -273,8 +261,8 @@ impl<R: Wait + RandomSource + AllocGlobal, S: Stream> BlockOn<R, S> {
             (λ value. BlockGives (all_fold (Calls P.FnMut)) S.run self.old.stream predicate value self.new.stream) }
         ensures again { S.can_poll self.new.stream }
         ensures unchanged { OnErr result (self.new.stream ≡ self.old.stream) }
-        ensures first { OnErr result (NeverWaited self.old) }
-        ensures used { OnOk result (NeverWaited self.new → ⊥) }
+        ensures first { OnErr result (K.is_unused self.old.by) }
+        ensures used { OnOk result (K.is_unused self.new.by → ⊥) }
     {
         self.ask(All { predicate })
     }
@@ -307,8 +295,8 @@ impl<R: Wait + RandomSource + AllocGlobal, S: Stream> BlockOn<R, S> {
             (λ value. BlockGives (any_fold (Calls P.FnMut)) S.run self.old.stream predicate value self.new.stream) }
         ensures again { S.can_poll self.new.stream }
         ensures unchanged { OnErr result (self.new.stream ≡ self.old.stream) }
-        ensures first { OnErr result (NeverWaited self.old) }
-        ensures used { OnOk result (NeverWaited self.new → ⊥) }
+        ensures first { OnErr result (K.is_unused self.old.by) }
+        ensures used { OnOk result (K.is_unused self.new.by → ⊥) }
     {
         self.ask(Any { predicate })
     }
@@ -342,8 +330,8 @@ impl<R: Wait + RandomSource + AllocGlobal, S: Stream> BlockOn<R, S> {
             (λ value. BlockGives (finds (CalledAt P.FnMut)) S.run self.old.stream predicate value self.new.stream) }
         ensures again { S.can_poll self.new.stream }
         ensures unchanged { OnErr result (self.new.stream ≡ self.old.stream) }
-        ensures first { OnErr result (NeverWaited self.old) }
-        ensures used { OnOk result (NeverWaited self.new → ⊥) }
+        ensures first { OnErr result (K.is_unused self.old.by) }
+        ensures used { OnOk result (K.is_unused self.new.by → ⊥) }
     {
         self.ask(Find { predicate })
     }
@@ -377,8 +365,8 @@ impl<R: Wait + RandomSource + AllocGlobal, S: Stream> BlockOn<R, S> {
             (λ value. BlockGives (finds_map (Calls F.FnMut)) S.run self.old.stream f value self.new.stream) }
         ensures again { S.can_poll self.new.stream }
         ensures unchanged { OnErr result (self.new.stream ≡ self.old.stream) }
-        ensures first { OnErr result (NeverWaited self.old) }
-        ensures used { OnOk result (NeverWaited self.new → ⊥) }
+        ensures first { OnErr result (K.is_unused self.old.by) }
+        ensures used { OnOk result (K.is_unused self.new.by → ⊥) }
     {
         self.ask(FindMap { f })
     }
@@ -414,8 +402,8 @@ impl<R: Wait + RandomSource + AllocGlobal, S: Stream> BlockOn<R, S> {
             (predicate, 0) value self.new.stream) }
         ensures again { S.can_poll self.new.stream }
         ensures unchanged { OnErr result (self.new.stream ≡ self.old.stream) }
-        ensures first { OnErr result (NeverWaited self.old) }
-        ensures used { OnOk result (NeverWaited self.new → ⊥) }
+        ensures first { OnErr result (K.is_unused self.old.by) }
+        ensures used { OnOk result (K.is_unused self.new.by → ⊥) }
     {
         self.ask(Position {
             predicate,

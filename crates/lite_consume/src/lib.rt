@@ -5,6 +5,7 @@
 mod all;
 mod any;
 mod block_on;
+mod blocking;
 mod consume;
 mod count;
 mod find;
@@ -25,6 +26,7 @@ mod try_next;
 pub use all::{All, AllFuture};
 pub use any::{Any, AnyFuture};
 pub use block_on::BlockOn;
+pub use blocking::{Blocking, ByRuntime, ByWaiter};
 pub use consume::Consume;
 pub use count::{Count, CountFuture};
 pub use find::{Find, FindFuture};

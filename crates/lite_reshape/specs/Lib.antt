@@ -1,5 +1,6 @@
 pub mod Chain
 pub mod Cloned
+pub mod Ended
 pub mod Expanding
 pub mod Filter
 pub mod FilterMap

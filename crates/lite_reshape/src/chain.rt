@@ -1,23 +1,16 @@
 ghost use Rattle.std.specs.Prelude.{◌≡◌, None};
 ghost use Rattle.lite_reshape.specs.Uses.{Keeps, Registered, NoHint, ok_counting, Either};
-ghost use Rattle.lite_reshape.specs.Chain.{Chains, ChainRegisters, SecondAnswers, chain_ranks};
-ghost use Rattle.lite_reshape.specs.declared.chain.Part.TheVariants.{Second};
+ghost use Rattle.lite_reshape.specs.Chain.{Chains, ChainRegisters, FirstAnswers, SecondAnswers, chain_ranks};
+ghost use Rattle.lite_reshape.specs.Ended.Turn.{First};
 ghost use Rattle.lite_reshape.specs.Laws.Calming.{chain_calm};
 ghost use Rattle.lite_reshape.specs.Laws.Chain.{chain_counting, chain_laws};
 ghost use Rattle.lite_reshape.specs.Laws.SteadyChain.{chain_steady};
 ghost use Rattle.lite_reshape.specs.Laws.Arming.{chain_arms};
 
+use crate::ended::Ended;
 use lite_base::{
     ArmedStream, CalmStream, Context, Counted, OkCounted, Poll, SteadyStream, Stream, ready,
 };
-
-/// Which stream is polled next.
-#[derive(Clone, Copy, Debug)]
-pub(crate) enum Part {
-    First,
-    Second,
-    Done,
-}
 
 /// A stream that yields the items of one stream, and after its end those of another.
 ///
@@ -27,13 +20,36 @@ pub(crate) enum Part {
 pub struct Chain<S, U> {
     pub(crate) first: S,
     pub(crate) second: U,
-    pub(crate) part: Part,
+    pub(crate) part: Ended,
 }
 
 impl<S: Stream, U: Stream<Item = S::Item>> Chain<S, U> {
-    // Polls the second stream, when it is its turn.
+    // Polls the first stream. Once that has ended, the result is the end, without a poll.
+    #[inline(always)]
+    fn poll_first(&mut self, cx: &mut Context<'_>) -> Poll<Option<S::Item>>
+        requires can_poll { S.can_poll self.old.first }
+        ensures asked { FirstAnswers S.run self.old result self.new }
+        ensures second { self.new.second ≡ self.old.second }
+        ensures again { S.can_poll self.new.first }
+        ensures registered { Registered result (ChainRegisters S.registers U.registers self.new) cx.new }
+        ensures context { Keeps cx.old cx.new }
+    {
+        if self.part.has_first() {
+            return Poll::Ready(None);
+        }
+        match ready!(self.first.poll_next(cx)) {
+            Some(item) => Poll::Ready(Some(item)),
+            None => {
+                self.part.end_first();
+                Poll::Ready(None)
+            }
+        }
+    }
+
+    // Polls the second stream, when it is its turn. Once that has ended too, the result is the end, without a poll.
+    #[inline(always)]
     fn poll_second(&mut self, cx: &mut Context<'_>) -> Poll<Option<S::Item>>
-        requires turn { self.old.part ≡ Second }
+        requires turn { self.old.part ≡ First → ⊥ }
         requires can_poll { U.can_poll self.old.second }
         ensures asked { SecondAnswers U.run self.old result self.new }
         ensures first { self.new.first ≡ self.old.first }
@@ -41,10 +57,13 @@ impl<S: Stream, U: Stream<Item = S::Item>> Chain<S, U> {
         ensures registered { Registered result (ChainRegisters S.registers U.registers self.new) cx.new }
         ensures context { Keeps cx.old cx.new }
     {
+        if self.part.has_both() {
+            return Poll::Ready(None);
+        }
         match ready!(self.second.poll_next(cx)) {
             Some(item) => Poll::Ready(Some(item)),
             None => {
-                self.part = Part::Done;
+                self.part.end_second();
                 Poll::Ready(None)
             }
         }
@@ -65,16 +84,9 @@ impl<S: Stream, U: Stream<Item = S::Item>> Stream for Chain<S, U> {
     ghost laws = { chain_laws S.laws U.laws };
 
     fn poll_next(&mut self, cx: &mut Context<'_>) -> Poll<Option<S::Item>> {
-        match self.part {
-            Part::First => match ready!(self.first.poll_next(cx)) {
-                Some(item) => Poll::Ready(Some(item)),
-                None => {
-                    self.part = Part::Second;
-                    self.poll_second(cx)
-                }
-            },
-            Part::Second => self.poll_second(cx),
-            Part::Done => Poll::Ready(None),
+        match ready!(self.poll_first(cx)) {
+            Some(item) => Poll::Ready(Some(item)),
+            None => self.poll_second(cx),
         }
     }
 

@@ -5,6 +5,7 @@
 
 mod chain;
 mod cloned;
+mod ended;
 mod filter;
 mod filter_map;
 mod flat_map;

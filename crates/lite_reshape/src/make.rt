@@ -1,9 +1,10 @@
 //! Functions that make the adapters.
 ghost use Rattle.std.specs.Prelude.{◌≡◌, ◌<◌, Some, None};
-ghost use Rattle.lite_reshape.specs.declared.chain.Part.TheVariants.{First};
+ghost use Rattle.lite_reshape.specs.Ended.Turn.{First};
 
-use crate::chain::{Chain, Part};
+use crate::chain::Chain;
 use crate::cloned::Cloned;
+use crate::ended::Ended;
 use crate::filter::Filter;
 use crate::filter_map::FilterMap;
 use crate::flat_map::FlatMap;
@@ -63,7 +64,7 @@ pub fn chain<S, U>(first: S, second: U) -> Chain<S, U>
     Chain {
         first,
         second,
-        part: Part::First,
+        part: Ended::none(),
     }
 }
 

@@ -1,13 +1,13 @@
 -- The items of `chain`, by those of its sources.
 use Rattle.std.specs.Prelude.{◌≡◌, List, [], ◌∷◌, ◌++◌, Some, None}
-use Rattle.lite_views.specs.Uses.{inl, inr, Ready, Pending, Answer, item, Runs, Cuts, Joins, is_done, second_after, Part, First, Second}
+use Rattle.lite_views.specs.Uses.{inl, inr, Ready, Pending, Answer, item, Runs, Cuts, Joins, is_done, second_after, Turn, First, Second}
 use Rattle.lite_reshape.specs.Chain.{Chains}
 use Rattle.lite_reshape.specs.declared.chain.Chain.{Chain}
 use Rattle.lite_views.proofs.Views.{listed}
 use Rattle.lite_views.specs.Views.{Fits, Lists, ListsAs}
 use Rattle.lite_views.proofs.Continuing.{continued_fits, endless_fits}
 
-second_fits : {A : Type 0} (j o : List (Answer A)) (q : Part) (ys : List A) → Fits j ys
+second_fits : {A : Type 0} (j o : List (Answer A)) (q : Turn) (ys : List A) → Fits j ys
     → Cuts is_done second_after Second j o q → Fits o ys
 second_fits j [] q ys e h = tt
 second_fits j (b ∷ o) q ys e (inl h) = cc
@@ -17,7 +17,7 @@ second_fits j (Ready (Some x) ∷ o) q [] e (inr h) = absurd (rw h.2 at e)
 second_fits j (Ready (Some x) ∷ o) q (y ∷ ys) e (inr h) =
     let here : Fits (item x ∷ h.1) (y ∷ ys) = rw h.2 at e in (here.0, second_fits h.1 o q ys here.1 h.3)
 
-module _ {A : Type 0} (q : Part) (i j o : List (Answer A)) (xs ys : List A) (e : Fits i xs) (d : Fits j ys) where
+module _ {A : Type 0} (q : Turn) (i j o : List (Answer A)) (xs ys : List A) (e : Fits i xs) (d : Fits j ys) where
   joined_fits : Joins First i j o q → Fits o (xs ++ ys)
   joined_fits (inl h) = rw h.2 (endless_fits i xs ys h.0 e)
   joined_fits (inr h) =

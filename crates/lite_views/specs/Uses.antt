@@ -49,8 +49,8 @@ pub use Rattle.lite_reshape.specs.Flatten.{Flat}
 pub use Rattle.lite_reshape.specs.Laws.Leaving.{leaves_steps}
 pub use Rattle.lite_reshape.specs.Leaving.{LeavesOut}
 pub use Rattle.lite_reshape.specs.Then.{HandsOut}
-pub use Rattle.lite_reshape.specs.declared.chain.Part.{Part}
-pub use Rattle.lite_reshape.specs.declared.chain.Part.TheVariants.{First, Second}
+pub use Rattle.lite_reshape.specs.Ended.{Turn}
+pub use Rattle.lite_reshape.specs.Ended.Turn.{First, Second}
 pub use Rattle.lite_source.specs.Always.{Unchanging}
 pub use Rattle.lite_source.specs.Iter.{Iterates}
 pub use Rattle.lite_source.specs.Script.{GivesScript}

@@ -16,8 +16,8 @@ use Rattle.lite_merge.specs.Zip.{Pairs}
 use Rattle.lite_stream.specs.Cutting.{Cuts}
 use Rattle.lite_reshape.specs.StepBy.{StepsOn}
 use Rattle.lite_stream.specs.Take.{is_none_left, left_after}
-use Rattle.lite_reshape.specs.declared.chain.Part.{Part}
-use Rattle.lite_reshape.specs.declared.chain.Part.TheVariants.{First}
+use Rattle.lite_reshape.specs.Ended.{Turn}
+use Rattle.lite_reshape.specs.Ended.Turn.{First}
 use Rattle.pollrun.specs.declared.request.Single.{Single}
 use Rattle.pollrun.specs.declared.request.Single.TheVariants.{Plain, Double, Evens, Take2, Step2}
 use Rattle.pollrun.specs.declared.request.Paired.{Paired}
@@ -66,7 +66,7 @@ read_by Zip script = script
 
 -- What a pipe returns if what it reads of its two scripts has the results `firsts` and `seconds`.
 abbrev pub PipesTwo : (pipe : Paired) → List (Answer ℤ) → List (Answer ℤ) → List (Answer (PipeItem (Two pipe))) → Type 0
-PipesTwo Chain firsts seconds out = (part : Part) × Joins First firsts seconds out part
+PipesTwo Chain firsts seconds out = (part : Turn) × Joins First firsts seconds out part
 PipesTwo Or firsts seconds out = MergeRows (map (λ _. true) out) firsts seconds out
 PipesTwo Zip firsts seconds out = (held : Option ℤ) × Pairs firsts seconds out held
 

@@ -5,7 +5,7 @@ ghost use Rattle.lite_base.specs.Calling.{AgreeFrom, Calls};
 ghost use Rattle.lite_future.specs.declared.side.Side.TheVariants.{Asked, Gave};
 ghost use Rattle.lite_reshape.specs.Cloned.{EqualClones};
 ghost use Rattle.lite_reshape.specs.Inner.{EachInner};
-ghost use Rattle.lite_reshape.specs.declared.chain.Part.TheVariants.{Done, Second};
+ghost use Rattle.lite_reshape.specs.Ended.Turn.{Done, Second};
 ghost use Rattle.lite_source.specs.TryUnfold.{try_item_of, try_seed_of};
 ghost use Rattle.lite_source.specs.Unfold.{item_of, seed_of};
 ghost use Rattle.lite_source.specs.Unfolding.{BothHave, Holding, PartOf};

@@ -10,7 +10,7 @@ ghost use Rattle.lite_base.specs.Registered.{HoldsWoken, Registered};
 ghost use Rattle.lite_merge.specs.declared.stop_after_future.Stopping.TheVariants.{Holding, TakenOut};
 ghost use Rattle.lite_reshape.specs.Cloned.{EqualClones, NoCloneRefused};
 ghost use Rattle.lite_reshape.specs.Inner.{EachInner};
-ghost use Rattle.lite_reshape.specs.declared.chain.Part.TheVariants.{First, Second};
+ghost use Rattle.lite_reshape.specs.Ended.Turn.{First, Second};
 ghost use Rattle.properties_met.specs.Registering.{TellsAll, TellsEach};
 ghost use Rattle.properties_met.specs.Unrefused.{AmpleWhere};
 

@@ -11,8 +11,8 @@ use Rattle.lite_reshape.specs.Expanding.{Expanding, HeldRegisters}
 use Rattle.lite_reshape.specs.Flatten.{Flattening}
 use Rattle.lite_reshape.specs.Laws.Expanding.{expanding_by}
 use Rattle.lite_reshape.specs.Laws.Flatten.{flattening_by}
-use Rattle.lite_reshape.specs.declared.chain.Part.TheVariants.{First, Second, Done}
-use Rattle.lite_reshape.specs.declared.chain.Part.{Part}
+use Rattle.lite_reshape.specs.Ended.Turn.{First, Second, Done}
+use Rattle.lite_reshape.specs.Ended.{Turn}
 
 -- What was polled last: the value that is held, of which `armed` holds, or the source, whose results end in a
 -- `Pending`. If the source has no results, the answer is `before`.
@@ -96,19 +96,19 @@ flattening_arms p {registers'} a b =
 
 module _ {A : Type 0} where
   -- A `chain` whose second stream was pending last has not ended.
-  still_second : (f g : Part) (i o : List (Answer A)) → Cuts is_done second_after f i o g → (f ≡ First → ⊥) → (b : Bool)
+  still_second : (f g : Turn) (i o : List (Answer A)) → Cuts is_done second_after f i o g → (f ≡ First → ⊥) → (b : Bool)
       → (b ≡ true → f ≡ Second) → pends_last b o ≡ true → g ≡ Second
   still_second f g =
       cuts_steps is_done second_after g
       (λ f i o. (f ≡ First → ⊥) → (b : Bool) → (b ≡ true → f ≡ Second) → pends_last b o ≡ true → g ≡ Second)
       (λ n b h e. h e) (λ f i o d k n b h e. k n false (λ m. cc m) e) goes f
     where
-      second : (f : Part) → (f ≡ First → ⊥) → (is_done f → ⊥) → f ≡ Second
+      second : (f : Turn) → (f ≡ First → ⊥) → (is_done f → ⊥) → f ≡ Second
       second First n d = absurd (n refl)
       second Second n d = refl
       second Done n d = absurd (d refl)
 
-      goes : (f : Part) (a : Answer A) (i o : List (Answer A)) → (is_done f → ⊥)
+      goes : (f : Turn) (a : Answer A) (i o : List (Answer A)) → (is_done f → ⊥)
           → ((second_after a f ≡ First → ⊥) → (b : Bool) → (b ≡ true → second_after a f ≡ Second)
           → pends_last b o ≡ true → g ≡ Second)
           → (f ≡ First → ⊥) → (b : Bool) → (b ≡ true → f ≡ Second) → pends_last b (a ∷ o) ≡ true → g ≡ Second
@@ -119,14 +119,14 @@ module _ {A : Type 0} where
 -- A `chain` is armed if both streams are.
 module _ {S U A : Type 0} {run : Runs (Answer A) S} {run' : Runs (Answer A) U} {registers : S → Lasting → Type 0}
     {registers' : U → Lasting → Type 0} (a : Arms run registers) (b : Arms run' registers') where
-  second_armed : (f : Part) (t : Part) (s : S) (u v : U) (j l : List (Answer A)) → (f ≡ First → ⊥)
+  second_armed : (f : Turn) (t : Turn) (s : S) (u v : U) (j l : List (Answer A)) → (f ≡ First → ⊥)
       → Cuts is_done second_after f j l t → run' u j v → EndsPending l
       → PartRegisters registers registers' t s v Lasting.armed
   second_armed f t s u v j l n cut came e =
       rw (still_second f t j l cut n false (λ m. cc m) e)
       (b.at u v j (cuts_arming is_done second_after f t j l cut false e) came)
 
-  joins_armed : (f t : Part) (s s' : S) (u u' : U) (i j l : List (Answer A)) → run s i s' → run' u j u'
+  joins_armed : (f t : Turn) (s s' : S) (u u' : U) (i j l : List (Answer A)) → run s i s' → run' u j u'
       → Joins f i j l t → EndsPending l → PartRegisters registers registers' t s' u' Lasting.armed
   joins_armed First t s s' u u' i j l came came' (inl r) e = rw r.3 (a.at s s' i (rw r.2 at e) came)
   joins_armed First t s s' u u' i j l came came' (inr r) e =

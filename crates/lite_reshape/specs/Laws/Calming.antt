@@ -12,11 +12,11 @@ use Rattle.lite_reshape.specs.Inner.{EachInner}
 use Rattle.lite_reshape.specs.Laws.Expanding.{expanding_by}
 use Rattle.lite_reshape.specs.Laws.Flatten.{each_inner_on, flattening_by, have_come}
 use Rattle.lite_reshape.specs.Expanding.{Expanding}
-use Rattle.lite_reshape.specs.declared.chain.Part.TheVariants.{First, Second, Done}
-use Rattle.lite_reshape.specs.declared.chain.Part.{Part}
+use Rattle.lite_reshape.specs.Ended.Turn.{First, Second, Done}
+use Rattle.lite_reshape.specs.Ended.{Turn}
 
 module _ {A : Type 0} where
-  joins_waits : (f g : Part) (i j l : List (Answer A)) → Joins f i j l g → waits l ≤ waits i + waits j
+  joins_waits : (f g : Turn) (i j l : List (Answer A)) → Joins f i j l g → waits l ≤ waits i + waits j
   joins_waits First g i j l (inl r) = rw r.2 (omega arith)
   joins_waits First g i j l (inr r) =
       let e = cuts_calming is_done second_after Second g j (r.next ∷ r.later) r.followed in

@@ -11,8 +11,8 @@ use Rattle.lite_base.specs.Laws.StreamLaws.{laws_of}
 use Rattle.lite_stream.specs.Laws.Cutting.{cuts_relating, cuts_steps}
 use Rattle.lite_reshape.specs.Chain.{Chains, CrossesOver, Joins, is_done, second_after, chain_rank, chain_ranks, second_rank, zeros}
 use Rattle.lite_base.specs.Laws.Answers.{items_after}
-use Rattle.lite_reshape.specs.declared.chain.Part.TheVariants.{First, Second, Done}
-use Rattle.lite_reshape.specs.declared.chain.Part.{Part}
+use Rattle.lite_reshape.specs.Ended.Turn.{First, Second, Done}
+use Rattle.lite_reshape.specs.Ended.{Turn}
 
 zeros_length : (xs : List ℕ) → length (zeros xs) ≡ length xs
 zeros_length xs = length-replicate _ 0
@@ -24,16 +24,16 @@ module _ (xs ys : List ℕ) where
   zeros_below : Below xs ys → Below (zeros xs) ys
   zeros_below = AtMost-then_below _ xs ys (zeros_least _ xs refl)
 
-second_below : (g : Part) (xs ys : List ℕ) → Below xs ys → Below (second_rank g xs) ys
+second_below : (g : Turn) (xs ys : List ℕ) → Below xs ys → Below (second_rank g xs) ys
 second_below Done xs ys h = zeros_below xs ys h
 second_below _ xs ys h = h
 
 -- The rank of a `chain` once the first stream has ended.
-ended_rank : (g : Part) (xs ys : List ℕ) → (g ≡ First → ⊥) → chain_rank g xs ys ≡ zeros xs ++ second_rank g ys
+ended_rank : (g : Turn) (xs ys : List ℕ) → (g ≡ First → ⊥) → chain_rank g xs ys ≡ zeros xs ++ second_rank g ys
 ended_rank First xs ys n = absurd (n refl)
 ended_rank _ xs ys n = refl
 
-chain_below : (g : Part) (xs us ys vs : List ℕ) → Below xs us → length ys ≡ length vs
+chain_below : (g : Turn) (xs us ys vs : List ℕ) → Below xs us → length ys ≡ length vs
     → Below (chain_rank g xs ys) (us ++ vs)
 chain_below First xs us ys vs h e = Below-first xs us ys vs h e
 chain_below Second xs us ys vs h e = Below-first _ us ys vs (zeros_below xs us h) e
@@ -41,16 +41,16 @@ chain_below Done xs us ys vs h e = Below-first _ us _ vs (zeros_below xs us h) (
 
 module _ {A : Type 0} where
   -- The second stream goes on, and the first is not polled again.
-  after_not : (s : Part) (b : Answer A) → (s ≡ First → ⊥) → second_after b s ≡ First → ⊥
+  after_not : (s : Turn) (b : Answer A) → (s ≡ First → ⊥) → second_after b s ≡ First → ⊥
   after_not s (Ready None) n e = cc
   after_not s _ n e = n e
 
-  not_first : (s g : Part) (j l : List (Answer A)) → Cuts is_done second_after s j l g → (s ≡ First → ⊥) → g ≡ First → ⊥
+  not_first : (s g : Turn) (j l : List (Answer A)) → Cuts is_done second_after s j l g → (s ≡ First → ⊥) → g ≡ First → ⊥
   not_first s g j l r n =
       cuts_steps is_done second_after g (λ f i o. (f ≡ First → ⊥) → g ≡ First → ⊥) (λ n. n) (λ f i o d k. k)
       (λ f b i o d k n. k (after_not f b n)) s j l r n
 
-  later : (s g h : Part) (i j k l m : List (Answer A)) → (s ≡ First → ⊥) → Cuts is_done second_after s j l g
+  later : (s g h : Turn) (i j k l m : List (Answer A)) → (s ≡ First → ⊥) → Cuts is_done second_after s j l g
       → Joins g i k m h
       → (i ≡ []) × Cuts is_done second_after s (j ++ k) (l ++ m) h
   later s First h i j k l m n r q = absurd (not_first s First j l r n refl)
@@ -59,7 +59,7 @@ module _ {A : Type 0} where
   later s Done h i j k l m n r q = (q.0, (cuts_relating is_done second_after).following.joins s Done h j k l m r q.1)
 
   -- Results of the first stream may be put in front of the joined results.
-  module _ (h : Part) (i u k m : List (Answer A)) (endless : Endless i) where
+  module _ (h : Turn) (i u k m : List (Answer A)) (endless : Endless i) where
     own_before : Joins First u k m h → Joins First (i ++ u) k (i ++ m) h
     own_before (inl q) = inl (endless_join i u endless q.0, q.1, ap (λ n. i ++ n) q.2, q.3)
     own_before (inr q) =
@@ -73,7 +73,7 @@ module _ {A : Type 0} where
           followed = q.followed;
         })
 
-  crosses_on : (g h : Part) (i u j k l m : List (Answer A)) → CrossesOver i j l g → Joins g u k m h
+  crosses_on : (g h : Turn) (i u j k l m : List (Answer A)) → CrossesOver i j l g → Joins g u k m h
       → CrossesOver (i ++ u) (j ++ k) (l ++ m) h
   crosses_on g h i u j k l m r q =
       let e = later Second g h u j k (r.next ∷ r.later) m (λ d. cc d) r.followed q in
@@ -87,7 +87,7 @@ module _ {A : Type 0} where
         followed = e.1;
       }
 
-  joins_follow : (f g h : Part) (i u j k l m : List (Answer A)) → Joins f i j l g → Joins g u k m h
+  joins_follow : (f g h : Turn) (i u j k l m : List (Answer A)) → Joins f i j l g → Joins g u k m h
       → Joins f (i ++ u) (j ++ k) (l ++ m) h
   joins_follow First g h i u j k l m (inl r) q =
       rw (r.1, r.2) (own_before h i u k m r.0 (rw r.3 at q))
@@ -99,13 +99,13 @@ module _ {A : Type 0} where
       let e = later Done g h u j k l m (λ d. cc d) r.1 q in
       (rw (r.0, e.0), e.1)
 
-  joins_stay : (f g : Part) (i j : List (Answer A)) → Joins f i j [] g → (i ≡ []) × (j ≡ []) × (g ≡ f)
+  joins_stay : (f g : Turn) (i j : List (Answer A)) → Joins f i j [] g → (i ≡ []) × (j ≡ []) × (g ≡ f)
   joins_stay First g i j (inl r) = (sym r.2, r.1, r.3)
   joins_stay First g i j (inr r) = absurd (not_empty r.own r.next r.later r.joined)
   joins_stay _ g i j r = (r.0, r.1.0, r.1.1)
 
   -- After the second stream's end every result is the end of the stream.
-  module _ (g : Part) where
+  module _ (g : Turn) where
     done_lowers : (j l : List (Answer A)) (us vs : List ℕ) → AtMost us vs → Cuts is_done second_after Done j l g
         → (g ≡ Done) × Lowers l us vs
     done_lowers j l us vs h r =
@@ -130,7 +130,7 @@ module _ {A : Type 0} where
   lowers_first (Ready (Some x) ∷ l) xs us ys vs h m = Below-first xs us ys vs h (AtMost-length ys vs m)
   lowers_first (_ ∷ l) xs us ys vs h m = lowers_first l xs us ys vs h m
 
-  joins_lowers : (f g : Part) (i j l : List (Answer A)) (xs us ys vs : List ℕ) → Joins f i j l g → Lowers i xs us
+  joins_lowers : (f g : Turn) (i j l : List (Answer A)) (xs us ys vs : List ℕ) → Joins f i j l g → Lowers i xs us
       → Lowers j ys vs
       → Lowers l (chain_rank g xs ys) (chain_rank f us vs)
   joins_lowers First g i j l xs us ys vs (inl r) h k =
@@ -157,14 +157,14 @@ module _ {A : Type 0} where
       rw e.0 e.1
 
   -- If all results are items of the second stream, it has not ended.
-  module _ (s g : Part) where
+  module _ (s g : Turn) where
     second_items : (j : List (Answer A)) (l : List A) → Cuts is_done second_after s j (items l) g → (s ≡ Second)
         → g ≡ Second
     second_items j [] r e = cc
     second_items j (x ∷ l) (inl r) e = cc
     second_items j (x ∷ l) (inr r) e = second_items r.1 l r.3 e
 
-  module _ (g : Part) (j : List (Answer A)) (b : Answer A) (o : List (Answer A)) where
+  module _ (g : Turn) (j : List (Answer A)) (b : Answer A) (o : List (Answer A)) where
     second_falls : (l : List A) (xs us ys vs : List ℕ)
         → ((a : A) (before : List A) → j ≡ items (a ∷ before) → Below ys vs) → AtMost (zeros xs) us → b ∷ o ≡ items l
         → Cuts is_done second_after Second j (b ∷ o) g → Below (chain_rank g xs ys) (us ++ vs)
@@ -175,7 +175,7 @@ module _ {A : Type 0} where
         let e = (cuts_relating is_done second_after).from_items Second g j y l gave in
         rw (second_items Second g j (y ∷ l) gave refl) (Below-after (zeros xs) us ys vs m (falls e.0 e.1 e.2))
 
-  joins_falls : (f g : Part) (i j : List (Answer A)) (y : A) (l : List A) (xs us ys vs : List ℕ)
+  joins_falls : (f g : Turn) (i j : List (Answer A)) (y : A) (l : List A) (xs us ys vs : List ℕ)
       → ((a : A) (before : List A) → i ≡ items (a ∷ before) → Below xs us)
       → ((a : A) (before : List A) → j ≡ items (a ∷ before) → Below ys vs)
       → length xs ≡ length us → length ys ≡ length vs → Joins f i j (items (y ∷ l)) g
@@ -190,11 +190,11 @@ module _ {A : Type 0} where
   joins_falls Done g i j y l xs us ys vs falls falls' same same' r =
       absurd (elim r.1 [ inl e ↦ cc e.1 | inr e ↦ e.0 refl ])
 
-joins_start : (A : Type 0) (f : Part) → Joins {A = A} f [] [] [] f
+joins_start : (A : Type 0) (f : Turn) → Joins {A = A} f [] [] [] f
 joins_start A First = inl (refl, refl, refl, refl)
 joins_start A _ = (refl, (refl, refl))
 
-chain_sized : (part : Part) (xs ys : List ℕ) (m n : ℕ) → length xs ≡ m → length ys ≡ n
+chain_sized : (part : Turn) (xs ys : List ℕ) (m n : ℕ) → length xs ≡ m → length ys ≡ n
     → length (chain_rank part xs ys) ≡ m + n
 chain_sized First xs ys m n d e = length-append xs ys ∙ omega (arith, d, e)
 chain_sized Second xs ys m n d e = length-append _ ys ∙ omega (arith, zeros_length xs, d, e)

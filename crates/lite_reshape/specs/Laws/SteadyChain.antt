@@ -5,13 +5,13 @@ use Rattle.lite_reshape.specs.Uses.{strip, SteadyLawsBy, both_items, comparable_
 use Rattle.lite_base.specs.Laws.Alike.{either_first, either_second}
 use Rattle.lite_stream.specs.Laws.Cutting.{CutsStripped, cut_same, cuts_stripped}
 use Rattle.lite_reshape.specs.Chain.{Chains, Joins, is_done, second_after}
-use Rattle.lite_reshape.specs.declared.chain.Part.{Part}
-use Rattle.lite_reshape.specs.declared.chain.Part.TheVariants.{First, Second, Done}
+use Rattle.lite_reshape.specs.Ended.{Turn}
+use Rattle.lite_reshape.specs.Ended.Turn.{First, Second, Done}
 use Rattle.lite_reshape.specs.Laws.Chain.{chain_runs}
 
 module _ {A : Type 0} where
   -- The same as `Joins`, for lists of results without their `Pending`s.
-  abbrev JoinsStripped : Part → Runs (Option A) (List (Option A))
+  abbrev JoinsStripped : Turn → Runs (Option A) (List (Option A))
   JoinsStripped First [] js out = out ≡ []
   JoinsStripped First (None ∷ is) js out = CutsStripped is_done second_after Second js out
   JoinsStripped First (Some x ∷ is) js out =
@@ -29,7 +29,7 @@ module _ {A : Type 0} where
   own_joined (Ready (Some x) ∷ own) rest after j e h =
       (strip (own ++ after), refl, own_joined own rest after j (cc e) h)
 
-  stripped : (f g : Part) (i j l : List (Answer A)) → Joins f i j l g → JoinsStripped f (strip i) (strip j) (strip l)
+  stripped : (f g : Turn) (i j l : List (Answer A)) → Joins f i j l g → JoinsStripped f (strip i) (strip j) (strip l)
   stripped First g i j l (inl r) = rw r.2 (rw (← (append-nil i)) (own_joined i [] [] _ r.0 refl))
   stripped First g i j l (inr r) =
       let after = cuts_stripped is_done second_after (λ f n. refl) Second g j (r.next ∷ r.later) r.followed in
@@ -37,20 +37,20 @@ module _ {A : Type 0} where
   stripped Second g i j l r = cuts_stripped is_done second_after (λ f n. refl) Second g j l r.1
   stripped Done g i j l r = cuts_stripped is_done second_after (λ f n. refl) Done g j l r.1
 
-  second_same : (x y : Option A) (f : Part) → OptionBy (λ _ _. ⊤) x y
+  second_same : (x y : Option A) (f : Turn) → OptionBy (λ _ _. ⊤) x y
       → second_after (Ready x) f ≡ second_after (Ready y) f
   second_same None None f e = refl
   second_same (Some x) (Some y) f e = refl
   second_same _ _ f h = absurd h
 
   module _ (same : Sameness A) where
-    cuts_same : (f : Part) (k h o p : List (Option A)) → CutsStripped is_done second_after f k o
+    cuts_same : (f : Turn) (k h o p : List (Option A)) → CutsStripped is_done second_after f k o
         → CutsStripped is_done second_after f h p → ComparableBy (SameAnswer same) k h
         → ComparableBy (SameAnswer same) o p
     cuts_same = cut_same is_done second_after (λ f n. refl) _ (ends_same same)
         (λ x y f e. second_same x y f (both_items same x y e))
 
-    joined_same : (f : Part) (i j k h o p : List (Option A)) → JoinsStripped f i k o → JoinsStripped f j h p
+    joined_same : (f : Turn) (i j k h o p : List (Option A)) → JoinsStripped f i k o → JoinsStripped f j h p
         → ComparableBy (SameAnswer same) i j
         → ComparableBy (SameAnswer same) k h → ComparableBy (SameAnswer same) o p
     joined_same First [] j k h o p r q c d = cc

@@ -2,8 +2,8 @@
 use Rattle.std.specs.Prelude.{◌≡◌, ℕ, List, [], ◌∷◌, ◌++◌, map, refl, ⊤, Bool, true, false, Option, Some, None}
 use Rattle.lite_views.specs.Uses.{zero, suc, inl, inr, Mut, Bor, Poll, Ready, Pending, Answer, Gives, Waiting, end, item, Accepts, Always, Finishes}
 use Rattle.lite_views.specs.Uses.{handed, Question, Runs, Cuts, AllEnds, FusesOn, Exchanges, Replaces, leaves_steps, LeavesOut, Joins, is_done}
-use Rattle.lite_views.specs.Uses.{second_after, Flat, Expands, HandsOut, Part, First, Second, MergeRow, MergeRows, Pairs, pendings}
-use Rattle.lite_reshape.specs.declared.chain.Part.TheVariants.{Done}
+use Rattle.lite_views.specs.Uses.{second_after, Flat, Expands, HandsOut, Turn, First, Second, MergeRow, MergeRows, Pairs, pendings}
+use Rattle.lite_reshape.specs.Ended.Turn.{Done}
 use Rattle.std.specs.Fn.{CalledAt}
 use Rattle.lite_views.specs.Each.{EachItem}
 
@@ -102,7 +102,7 @@ module _ {A : Type 0} (P : A → Type 0) where
       rw h.4 (each_join P h.0 (end ∷ h.1) own (each_end P h.1 h.5))
 
   -- `chain`.
-  pub each_joined : (p q : Part) (i j o : List (Answer A)) → EachItem P i → EachItem P j → Joins p i j o q
+  pub each_joined : (p q : Turn) (i j o : List (Answer A)) → EachItem P i → EachItem P j → Joins p i j o q
       → EachItem P o
   each_joined First q i j o e d (inl h) = rw h.2 e
   each_joined First q i j o e d (inr h) =

@@ -1,7 +1,7 @@
 use Rattle.std.proofs.Common.{rules, of_calls, ◌≡◌, refl, Some, ℕ, bit_xor}
 use Rattle.lite_base.specs.Laws.Calling.{answers_agree}
 use Rattle.lite_reshape.specs.declared.chain.Chain.{Chain}
-use Rattle.lite_reshape.specs.declared.chain.Part.TheVariants.{First}
+use Rattle.lite_reshape.specs.Ended.Turn.{First}
 use Rattle.lite_source.specs.declared.once.Once.{Once}
 use Rattle.nests_agree.proofs.Appended.{appended_as}
 use Rattle.nests_agree.proofs.agree.lists_agree.Goals as goal

@@ -1,7 +1,7 @@
 use Rattle.std.proofs.Common.{◌≡◌, ℕ, ℤ, List, sym, subst}
 use Rattle.lite_base.specs.Answers.{Answer}
 use Rattle.lite_reshape.specs.Chain.{Joins}
-use Rattle.lite_reshape.specs.declared.chain.Part.TheVariants.{First}
+use Rattle.lite_reshape.specs.Ended.Turn.{First}
 use Rattle.lite_merge.specs.Zip.{Pairs}
 use Rattle.pollrun.proofs.Ended.{given_fused}
 use Rattle.pollrun.proofs.Piped.{on_ok}

@@ -1,3 +1,4 @@
+use lite_base::future;
 use lite_bridge::{BlockOn, Cursor};
 use lite_buffered::BufReader;
 use lite_mock::Marks;
@@ -23,6 +24,23 @@ fn a_cursor_is_waited_for(rt: HostRuntime) -> Result<(), Fail> {
     assert_eq!(rt; io.get_ref().position(), 2);
     io.get_mut().set_position(1);
     assert_eq!(rt; io.into_inner().position(), 1);
+    Ok(())
+}
+
+#[test]
+fn a_reader_and_a_writer_take_turns_at_one_waits(rt: HostRuntime) -> Result<(), Fail> {
+    let mut marks = Marks::new(rt.alloc());
+    marks.pending()?;
+    marks.chunk(b"ab")?;
+    let mut on = future::block_on::BlockOn::new(&rt)?;
+    let mut waits = on.waits();
+    let mut buf = [b'-'; 3];
+    assert_eq!(rt; BlockOn::by(&mut waits, rt, &mut marks).read(&mut buf)?, 2);
+    assert_eq!(rt; buf, [b'a', b'b', b'-']);
+    let mut written = Cursor::new(Vec::new(rt.alloc()));
+    assert_eq!(rt; BlockOn::by(&mut waits, rt, &mut written).write(b"z")?, 1);
+    assert_eq!(rt; BlockOn::by(&mut waits, rt, &mut marks).read(&mut buf)?, 0);
+    assert_eq!(rt; written.into_inner().as_slice(), b"z".as_slice());
     Ok(())
 }
 

@@ -1,3 +1,4 @@
+use futures_lite::future::{self, BlockOn};
 use futures_lite::stream;
 use std::alloc::AllocError;
 use std::cell::Cell;
@@ -10,6 +11,24 @@ fn next_waits_for_each_item(rt: HostRuntime) -> Result<(), Fail> {
     assert_eq!(rt; seven.size_hint(), (1, Some(1)));
     assert_eq!(rt; seven.next(), Ok(Some(7)));
     assert_eq!(rt; seven.next(), Ok(None));
+    Ok(())
+}
+
+#[test]
+fn streams_take_turns_at_one_waits(rt: HostRuntime) -> Result<(), Fail> {
+    let mut on = BlockOn::new(&rt)?;
+    let mut waits = on.waits();
+    let mut one = stream::once_future(future::yield_now());
+    assert_eq!(rt;
+        stream::block_on_by(&mut waits, rt, &mut one).next(),
+        Ok(Some(()))
+    );
+    let numbers = stream::block_on_by(&mut waits, rt, stream::iter(1u8..4));
+    assert_eq!(rt; numbers.count(), Ok(3));
+    assert_eq!(rt;
+        stream::block_on_by(&mut waits, rt, &mut one).next(),
+        Ok(None)
+    );
     Ok(())
 }
 

@@ -10,7 +10,7 @@ use Rattle.lite_bridge.proofs.block_on.BlockOnBufRead.TheImpl.Goals as goal
 
 pub fill_buf-meets : goal.fill_buf-meets
 fill_buf-meets g c =
-    let row = the_row (param 0 g.row.R) (param 1 g.row.T) in
+    let row = the_row (param 0 g.row.K) (param 1 g.row.T) in
     clauses_give g.world.𝓤 _ _ _ _ (λ r e.
     mono_r g.world.𝓤 (fact g.world.𝓤 _) (mono_r g.world.𝓤 (fact g.world.𝓤 _)
     (via g.world.𝓤 (sem g.world.𝓛 (Afterwards row c.args.self _)) (fst∗ g.world.𝓤 _ (fact g.world.𝓤 _))

@@ -1,4 +1,4 @@
-use Rattle.lite_consume.proofs.Given.{given_on, lent_each, lent_given}
+use Rattle.lite_consume.proofs.Given.{given_on, lent_each, lent_given, lent_stays}
 use Rattle.lite_consume.proofs.block_on.BlockOn.ask.Goals as goal
 
 pub wait_for-requires : goal.wait_for-requires
@@ -18,5 +18,7 @@ returns-clause-gave g c =
 
 pub returns-clause-again : goal.returns-clause-again
 returns-clause-again g c =
-    given_on g.F.Folder.fold g.met.S.Stream.laws _ _ _ _ c.wait_for.ensures.waited c.requires.polls
-    (returns-clause-gave g c)
+    let stays = rw c.consume.ensures at
+    (lent_stays g.S.Stream.run g.F.Folder.fold c.consume.result c.wait_for.new.future c.wait_for.result
+    c.wait_for.ensures.unchanged) in
+    given_on g.F.Folder.fold g.met.S.Stream.laws _ _ _ _ stays c.requires.polls (returns-clause-gave g c)
