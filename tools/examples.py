@@ -16,7 +16,7 @@ from vocabulary import snake
 
 # The crate that the tests are compiled in, and its line for crates.txt.
 NAME = "examples"
-LINE = f"{NAME} tests_may=Threads+Wait: futures_lite framed compat futures tokio bytes tokio_util rand_core rand_pcg"
+LINE = f"{NAME} tests_may=Threads+Wait: futures_lite framed serving compat futures tokio bytes tokio_util rand_core rand_pcg"
 # The crates in crates.txt that have the functions with clauses, which are proved side by side. A part is a module of the library, or is of the methods of
 # `StreamExt`.
 EXTENSION, ADAPTERS, CONSUMING = "StreamExt", "adapters", "consuming"

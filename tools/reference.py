@@ -65,6 +65,9 @@ GROUPS = {
         "Parts of a codec": tuple(f"framed/src/{it}.rt" for it in ("delimiter", "head", "hexadecimal")),
         "Serving": ("framed/src/server.rt", "framed/src/service.rt", "framed/src/serve_error.rt"),
     },
+    "serving": {
+        "Serving": tuple(f"serving/src/{it}.rt" for it in ("serving", "responder", "serving_error", "waiting")),
+    },
     "compat": {
         "Wrapping": ("compat/src/compat.rt",),
         "Waiting on this thread": ("compat/src/wait.rt",),

@@ -15,7 +15,7 @@ TOP = os.path.dirname(os.path.dirname(os.path.abspath(__file__)))
 PARTS = ("src", "specs", "proofs")
 FACADE = "futures_lite"
 # Crates that stand on the facade, and that users list beside it. Each has a part of docs/INDEX.md.
-BESIDE = ("framed", "compat")
+BESIDE = ("framed", "serving", "compat")
 # The crates of tests stand below one folder, with their lines. What they share stands there too, so that no gate proves it.
 TESTS, TEST_LINES = "tests", "tests/lines.txt"
 # The suffixes in a crate of those of a program beside the crates: `rt ci` takes a file of a crate's kind in a crate alone.

@@ -1,5 +1,6 @@
 //! Tests of a server of frames: what is read, performed and written, and in which order.
 mod flushes;
+mod polled;
 
 use framed::{Answer, FramedRead, ServeError, Service, serve};
 use futures_lite::future::BlockOn;

@@ -3,10 +3,11 @@ ghost use Rattle.futures_lite.specs.Own.{Anything, anything_reads, anything_writ
 
 use super::CODEC;
 use bytes::BytesMut;
-use framed::{FramedRead, send};
+use framed::{CutError, FramedRead, FramesError, send};
 use futures::task::{Doorbell, Solo, Source};
 use futures_lite::io::{AsyncRead, AsyncReadExt, AsyncWrite, BufReader, ReadSpec, WriteSpec};
 use futures_lite::{Context, Future, Poll, StreamExt, future};
+use serving::{Responder, Serving};
 use std::alloc::{AllocError, AllocGlobal};
 use std::io;
 use std::random::RandomSource;
@@ -46,6 +47,26 @@ impl AsyncWrite for Still {
 
     fn poll_close(&mut self, _cx: &mut Context<'_>) -> Poll<io::Result<()>> {
         Poll::Pending
+    }
+}
+
+/// Replies nothing.
+#[derive(Drop)]
+struct Silent;
+
+impl Responder for Silent {
+    type Error = CutError;
+
+    ghost answers = { λ x request out y. ⊤ };
+
+    ghost refuses = { λ x e words y. ⊤ };
+
+    fn answer(&mut self, _: &[u8], _: &mut Vec<u8>) -> Result<bool, AllocError> {
+        Ok(true)
+    }
+
+    fn refuse(&mut self, _: &FramesError<CutError>, _: &mut Vec<u8>) -> Result<(), AllocError> {
+        Ok(())
     }
 }
 
@@ -90,5 +111,14 @@ fn a_pending_send_wakes_nothing(rt: HostRuntime) -> Result<(), Fail> {
     let mut writer = Still;
     let sending = send(&mut writer, &mut codec, "hi", &mut out);
     assert!(rt; waits_asleep(&rt, sending)?);
+    Ok(())
+}
+
+#[test]
+fn a_pending_server_wakes_nothing(rt: HostRuntime) -> Result<(), Fail> {
+    let Ok(reader) = BufReader::with_capacity(rt.alloc(), 4, Still.with_budget(9)) else {
+        return Err(AllocError.into());
+    };
+    assert!(rt; waits_asleep(&rt, Serving::new(rt.alloc(), reader, CODEC, Still, Silent))?);
     Ok(())
 }

@@ -1,0 +1,1 @@
+-- Proofs of a server of lent frames.

@@ -1,0 +1,9 @@
+-- A server of lent frames.
+pub mod Responding
+pub mod Turns
+pub mod Serving
+pub mod ServingLaws
+pub mod ServingSteps
+pub mod RankLaws
+pub mod StepLaws
+pub mod Performing
