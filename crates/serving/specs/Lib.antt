@@ -1,4 +1,5 @@
 -- A server of lent frames.
+pub mod Uses
 pub mod Responding
 pub mod Turns
 pub mod Serving

@@ -1,10 +1,8 @@
 -- What the responder pushes stands behind the replies that wait.
 use Rattle.std.specs.Prelude.{◌≡◌, ℕ, Bool, List, ◌++◌, length, take, Some, None, Ok, Err}
-use Rattle.std.proofs.Common.{◌∙◌, ap, append-nil, arith, inl, inr, refl, sym}
-use Rattle.std.proofs.lemmas.List.{take-append-le, take_all}
-use Rattle.framed.specs.Lending.{lent_body}
-use Rattle.framed.specs.Services.{LastWords, ServiceStep}
-use Rattle.framed.specs.declared.frames_error.FramesError.{FramesError}
+use Rattle.serving.specs.Uses.{FramesError, LastWords, ServiceStep, ap, append-nil, arith, inl, inr, lent_body}
+use Rattle.serving.specs.Uses.{refl, sym, take_all, ◌∙◌}
+use Rattle.std.proofs.lemmas.List.{take-append-le}
 use Rattle.serving.specs.ServingSteps.{PerformsFound, PerformsTurn}
 use Rattle.serving.specs.Turns.{Responds, ServingTurn, answered, ended, refused, said_in, stop_behind, unanswered, unrefused}
 use Rattle.serving.specs.Turns.{Server}

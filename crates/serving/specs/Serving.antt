@@ -1,19 +1,11 @@
 -- Serving lent frames: turns, and what the writer took meanwhile.
 use Rattle.std.specs.Prelude.{◌≡◌, ◌⊎◌, ◌≤◌, ◌<◌, ◌+◌, ℕ, Bool, true, false, List, [], ◌∷◌, ◌++◌, length}
 use Rattle.std.specs.Prelude.{Some, None, Result, Ok, Err, IfSome, IsSome}
-use Rattle.std.specs.List.{FoldsTo}
+use Rattle.serving.specs.Uses.{ErrorKind, FoldsTo, FramesError, LastWords, Pending, Poll, ReadMark, Ready, Runs}
+use Rattle.serving.specs.Uses.{ServiceStep, WriteMark, WritesAndFlushes, bytes_taken}
 use Rattle.std.specs.IoError.{error_kind}
-use Rattle.std.specs.declared.io.ErrorKind.{ErrorKind}
 use Rattle.std.specs.declared.io.ErrorKind.TheVariants.{WriteZero}
 use Rattle.futures.specs.Task.{Lasting}
-use Rattle.futures.specs.declared.task.Poll.{Poll}
-use Rattle.futures.specs.declared.task.Poll.TheVariants.{Pending, Ready}
-use Rattle.lite_base.specs.Runs.{Runs}
-use Rattle.lite_io_base.specs.Marks.{ReadMark}
-use Rattle.lite_io_base.specs.WriteMarks.{WriteMark, bytes_taken}
-use Rattle.lite_write.specs.Handed.{WritesAndFlushes}
-use Rattle.framed.specs.Services.{LastWords, ServiceStep}
-use Rattle.framed.specs.declared.frames_error.FramesError.{FramesError}
 use Rattle.serving.specs.Turns.{Side, TakesTurn, ServingTurn, pended, said_by, said_in}
 use Rattle.serving.specs.Turns.{Server}
 use Rattle.serving.specs.declared.serving_error.ServingError.{ServingError}

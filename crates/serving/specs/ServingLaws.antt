@@ -1,26 +1,16 @@
 -- Laws of serving.
 use Rattle.std.specs.Prelude.{◌≡◌, ℕ, Bool, true, List, [], ◌∷◌, ◌++◌, length}
 use Rattle.std.specs.Prelude.{Some, Result, Ok, Err}
-use Rattle.std.specs.List.{FoldsTo}
-use Rattle.std.proofs.Common.{◌∙◌, ap, append-nil, append_assoc, arith, inl, inr, refl, subst, sym}
+use Rattle.serving.specs.Uses.{FoldsTo, FramesError, LastWords, MarkLaws, Pending, Poll, Ranks, ReadCounting}
+use Rattle.serving.specs.Uses.{ReadMark, Ready, Runs, ServiceStep, WriteMark, WritesAndFlushes, advance_counts, ap}
+use Rattle.serving.specs.Uses.{append-nil, arith, bytes_taken, inl, inr, refl, subst, sym, ◌∙◌}
+use Rattle.std.proofs.Common.{append_assoc}
 use Rattle.std.proofs.lemmas.Grind.{flat_map-append}
-use Rattle.futures.specs.declared.task.Poll.{Poll}
-use Rattle.futures.specs.declared.task.Poll.TheVariants.{Pending, Ready}
 use Rattle.lite_base.specs.Answers.{Gives}
 use Rattle.lite_base.specs.FutureLaws.{PolledByCalls}
 use Rattle.lite_base.specs.Laws.Calling.{folds_follow}
-use Rattle.lite_base.specs.Ranks.{Ranks}
-use Rattle.lite_base.specs.Runs.{Runs}
-use Rattle.lite_io_base.specs.Counting.{ReadCounting}
 use Rattle.lite_io_base.specs.Laws.Marks.{taken_both}
-use Rattle.lite_io_base.specs.Marks.{ReadMark}
-use Rattle.lite_io_base.specs.Runs.{MarkLaws}
-use Rattle.lite_io_base.specs.WriteMarks.{WriteMark, bytes_taken}
 use Rattle.lite_write.proofs.Handed.{flushes_both}
-use Rattle.lite_write.specs.Handed.{WritesAndFlushes}
-use Rattle.framed.specs.LendingLaws.{advance_counts}
-use Rattle.framed.specs.Services.{LastWords, ServiceStep}
-use Rattle.framed.specs.declared.frames_error.FramesError.{FramesError}
 use Rattle.serving.specs.Turns.{Side, TakesTurn, ServingTurn, answered, ended, looked, pended, refused, said_by, said_in, unanswered, unrefused}
 use Rattle.serving.specs.Serving.{EndsByStop, LastIs, ServingEnds, value_of, Goes, AllSent, LeavesFlushed, ServesTurns, ServesPoll}
 use Rattle.serving.specs.Serving.{WaitsWithin, side_of}

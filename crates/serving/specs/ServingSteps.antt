@@ -1,15 +1,7 @@
 -- The steps of a poll of a server of lent frames.
 use Rattle.std.specs.Prelude.{◌≡◌, ◌⊎◌, ◌<◌, ℕ, zero, suc, Bool, true, false, List, [], ◌∷◌, ◌++◌, length, Option, Some, None, Result, Ok, Err}
-use Rattle.std.specs.declared.io.ErrorKind.{ErrorKind}
-use Rattle.futures.specs.declared.task.Poll.{Poll}
-use Rattle.futures.specs.declared.task.Poll.TheVariants.{Pending, Ready}
-use Rattle.lite_base.specs.Ranks.{AtMost, Below, Ranks}
-use Rattle.lite_base.specs.Runs.{Runs}
-use Rattle.lite_io_base.specs.Marks.{ReadMark}
-use Rattle.lite_io_base.specs.WriteMarks.{WriteMark}
-use Rattle.framed.specs.Lending.{Advances, Lending, lent_body}
-use Rattle.framed.specs.Services.{LastWords, ServiceStep}
-use Rattle.framed.specs.declared.frames_error.FramesError.{FramesError}
+use Rattle.serving.specs.Uses.{Advances, AtMost, Below, ErrorKind, FramesError, LastWords, Lending, Pending, Poll}
+use Rattle.serving.specs.Uses.{Ranks, ReadMark, Ready, Runs, ServiceStep, WriteMark, lent_body}
 use Rattle.serving.specs.Turns.{Responds, ServingTurn, answered, ended, refused, said_in, unanswered, unrefused}
 use Rattle.serving.specs.Serving.{OutputFails, Goes, AllSent, IsUnsent}
 use Rattle.serving.specs.Turns.{Server}

@@ -1,32 +1,24 @@
 -- Laws of the steps of a server.
 use Rattle.std.specs.Prelude.{◌≡◌, ◌≤◌, ◌<◌, ◌+◌, ◌-◌, ℕ, true, false, List, [], ◌∷◌, ◌++◌, drop, length, take}
 use Rattle.std.specs.Prelude.{Option, Some, None, Result, Ok, Err}
-use Rattle.std.proofs.Common.{◌∙◌, ap, append-nil, arith, inl, inr, length-append, length-take-le, refl, subst, sym, take-append-drop}
-use Rattle.std.proofs.lemmas.List.{length-drop, take_all}
-use Rattle.futures.specs.declared.task.Poll.{Poll}
-use Rattle.futures.specs.declared.task.Poll.TheVariants.{Pending, Ready}
+use Rattle.serving.specs.Uses.{Advances, AdvancesInHand, AtMost, AtMost-both, Below, Below-first, ErrorKind}
+use Rattle.serving.specs.Uses.{FramesError, LastWords, Lending, MarkLaws, NoneEmpty, Pending, Poll, Ranks}
+use Rattle.serving.specs.Uses.{ReadCounting, ReadMark, Ready, Runs, ServiceStep, StandsIn, WriteMark}
+use Rattle.serving.specs.Uses.{WritesAndFlushes, advance_counts, ap, append-nil, arith, bytes, inl, inr, kept}
+use Rattle.serving.specs.Uses.{length-append, length-drop, length-take-le, lent_body, refl, subst, sym, take_all}
+use Rattle.serving.specs.Uses.{untaken, ◌∙◌}
+use Rattle.std.proofs.Common.{take-append-drop}
 use Rattle.lite_base.specs.Chain.{OneStep, Reaches}
 use Rattle.lite_base.specs.Laws.Chain.{steps_answer}
-use Rattle.lite_base.specs.Laws.Ranks.{AtMost-both, Below-first, Below-then, Below-trans}
-use Rattle.lite_base.specs.Ranks.{AtMost, Below, Ranks}
-use Rattle.lite_base.specs.Runs.{Runs}
-use Rattle.lite_io_base.specs.Counting.{ReadCounting}
-use Rattle.lite_io_base.specs.Marks.{ReadMark, bytes}
-use Rattle.lite_io_base.specs.Runs.{MarkLaws}
-use Rattle.lite_io_base.specs.WriteMarks.{WriteMark, write_marks}
-use Rattle.lite_write.specs.Handed.{WritesAndFlushes}
-use Rattle.framed.specs.Cutting.{NoneEmpty}
+use Rattle.lite_base.specs.Laws.Ranks.{Below-then, Below-trans}
+use Rattle.lite_io_base.specs.WriteMarks.{write_marks}
 use Rattle.lite_base.specs.Answers.{Answer}
 use Rattle.lite_write.specs.Uses.{offered_marks}
-use Rattle.framed.specs.Lending.{Finds, nowhere, Advances, AdvancesInHand, Lending, StandsIn, kept, lent_body, untaken}
-use Rattle.framed.specs.LendingLaws.{advance_counts}
-use Rattle.framed.specs.Services.{LastWords, ServiceStep}
-use Rattle.framed.specs.declared.frames_error.FramesError.{FramesError}
+use Rattle.framed.specs.Lending.{Finds, nowhere}
 use Rattle.serving.specs.RankLaws.{lends_lower, looks_lower, lower_behind, not_empty, same_size}
 use Rattle.serving.specs.Serving.{LastIs, ServingEnds, OutputFails, Goes, AllSent, IsUnsent, MayTake, ServesTurns, ServesPoll, side_of}
 use Rattle.serving.specs.declared.serving_error.ServingError.{ServingError}
 use Rattle.serving.specs.declared.serving_error.ServingError.TheVariants.{Output}
-use Rattle.std.specs.declared.io.ErrorKind.{ErrorKind}
 use Rattle.futures.specs.Poll.{OnPending}
 use Rattle.serving.specs.ServingLaws.{goes_both, polled_later, serves_both, serves_counts, serves_silent}
 use Rattle.serving.specs.ServingSteps.{FlushesOut, GoesAhead, IsTurnOf, PerformsFound, PutsOut, TakesByRead, TakesInHand, WriterPends, WritesWaiting}

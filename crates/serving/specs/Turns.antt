@@ -1,12 +1,8 @@
 -- The turns of a server of lent frames: what was found in its input, and what was replied to it.
 use Rattle.std.specs.Prelude.{◌≡◌, ℕ, Bool, true, false, List, flat_map, [], Option, Some, None, Ok, Err}
+use Rattle.serving.specs.Uses.{Advances, AdvancesInHand, FramesError, LastWords, Lending, Pending, ReadMark, Ready}
+use Rattle.serving.specs.Uses.{Runs, ServiceStep, lent_body}
 use Rattle.std.specs.declared.io.Error.{Error}
-use Rattle.futures.specs.declared.task.Poll.TheVariants.{Pending, Ready}
-use Rattle.lite_base.specs.Runs.{Runs}
-use Rattle.lite_io_base.specs.Marks.{ReadMark}
-use Rattle.framed.specs.Lending.{Advances, AdvancesInHand, Lending, lent_body}
-use Rattle.framed.specs.Services.{LastWords, ServiceStep}
-use Rattle.framed.specs.declared.frames_error.FramesError.{FramesError}
 use Rattle.serving.specs.declared.stop.Stop.{Stop}
 use Rattle.serving.specs.declared.stop.Stop.TheVariants.{Answered, Ended, Lacked, Refused}
 

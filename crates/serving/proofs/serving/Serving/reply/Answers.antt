@@ -1,6 +1,6 @@
-use Rattle.std.proofs.Common.{◌∙◌, ap, refl, rules}
 use Rattle.std.proofs.lemmas.List.{drop-append-le}
 use Rattle.std.specs.Prelude.{drop}
+use Rattle.serving.specs.Uses.{ap, refl, rules, ◌∙◌}
 use Rattle.serving.specs.Performing.{lacks_answer, lacks_words, performs_answer, performs_ended, performs_words, taken_back}
 use Rattle.serving.proofs.serving.Serving.reply.Goals.{in-NoFrame-1, in-OutOfMemory-1}
 use Rattle.serving.proofs.serving.Serving.reply.Goals as goal

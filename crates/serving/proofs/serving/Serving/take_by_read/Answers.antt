@@ -1,6 +1,4 @@
-use Rattle.std.proofs.Common.{ap, refl, subst}
-use Rattle.futures.specs.declared.task.Poll.TheVariants.{Ready}
-use Rattle.framed.specs.Lending.{Advances}
+use Rattle.serving.specs.Uses.{Advances, Ready, ap, refl, subst}
 use Rattle.serving.specs.StepLaws.{turn_goes_on}
 use Rattle.serving.proofs.serving.Serving.take_by_read.Goals as goal
 

@@ -1,6 +1,4 @@
-use Rattle.std.proofs.Common.{ap, refl, rules, subst}
-use Rattle.futures.specs.declared.task.Poll.TheVariants.{Ready}
-use Rattle.framed.specs.Lending.{Advances}
+use Rattle.serving.specs.Uses.{Advances, Ready, ap, refl, rules, subst}
 use Rattle.serving.specs.StepLaws.{in_hand_advances, looks_never, looks_only, turn_goes_on}
 use Rattle.serving.proofs.serving.Serving.take_in_hand.Goals as goal
 

@@ -1,4 +1,4 @@
-use Rattle.std.proofs.Common.{refl, rules}
+use Rattle.serving.specs.Uses.{refl, rules}
 use Rattle.serving.specs.ServingLaws.{ends_now}
 use Rattle.serving.proofs.serving.Serving.value.Goals as goal
 

@@ -1,4 +1,4 @@
-use Rattle.std.proofs.Common.{refl, rules}
+use Rattle.serving.specs.Uses.{refl, rules}
 use Rattle.serving.specs.StepLaws.{slice_from, wrote_some}
 use Rattle.serving.proofs.serving.Serving.write_some.Goals as goal
 

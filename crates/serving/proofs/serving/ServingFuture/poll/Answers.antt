@@ -1,4 +1,4 @@
-use Rattle.std.proofs.Common.{rules}
+use Rattle.serving.specs.Uses.{rules}
 use Rattle.lite_base.specs.Laws.FutureLaws.{polled_one}
 use Rattle.serving.specs.Serving.{ServesPoll}
 use Rattle.serving.specs.StepLaws.{poll_counts, served_ran}

@@ -1,4 +1,4 @@
-use Rattle.std.proofs.Common.{rules}
+use Rattle.serving.specs.Uses.{rules}
 use Rattle.serving.specs.StepLaws.{ends_then, fails_then, pends_blocked, puts_then, reads_blocked, reads_then}
 use Rattle.serving.proofs.serving.ServingPollSteps.poll_step.Goals as goal
 
