@@ -8,3 +8,5 @@ pub mod ServingSteps
 pub mod RankLaws
 pub mod StepLaws
 pub mod Performing
+pub mod Replies
+pub mod ReplyLaws
