@@ -1,5 +1,5 @@
 -- What a responder of plain functions says in some turns.
-use Rattle.std.specs.Prelude.{◌≡◌, ℕ, List, [], ◌∷◌, ◌++◌}
+use Rattle.std.specs.Prelude.{ℕ, List, [], ◌∷◌, ◌++◌}
 use Rattle.framed.specs.Services.{AnswerOf}
 use Rattle.serving.specs.Uses.{FramesError}
 use Rattle.serving.specs.Turns.{ServingTurn, answered, refused}

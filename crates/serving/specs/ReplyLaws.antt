@@ -1,10 +1,10 @@
 -- What a responder of plain functions said in a run of turns.
-use Rattle.std.specs.Prelude.{◌≡◌, ℕ, Bool, List, [], ◌∷◌, ◌++◌, Option, Some, None}
+use Rattle.std.specs.Prelude.{◌≡◌, ℕ, List, [], ◌∷◌, ◌++◌, Option, Some, None}
 use Rattle.framed.specs.Services.{AnswerOf, RefusesBy, ServesBy}
-use Rattle.serving.specs.Uses.{◌∙◌, FoldsTo, FramesError, ReadMark, Runs, ap, refl, subst, sym}
+use Rattle.serving.specs.Uses.{◌∙◌, FoldsTo, FramesError, ReadMark, Runs, ap, refl, sym}
 use Rattle.serving.specs.declared.stop.Stop.{Stop}
 use Rattle.serving.specs.Replies.{held_by, said_to}
-use Rattle.serving.specs.Turns.{Responds, Side, ServingTurn, TakesTurn, answered, ended, looked, pended, refused, said_by, said_in, unanswered, unrefused}
+use Rattle.serving.specs.Turns.{Responds, Side, ServingTurn, TakesTurn, answered, ended, looked, pended, refused, said_by, unanswered, unrefused}
 
 module _ {T C S H E : Type 0} (piece : C → List ℕ → List ℕ → Type 0) (refuses : C → List ℕ → E → Type 0) (cut_off : C → List ℕ → E → Type 0)
     (reads : Runs ReadMark T) (buffer_of : T → List ℕ) (holds : S → H) (step : H → List ℕ → AnswerOf ℕ × H) (words : FramesError E → List ℕ) where
