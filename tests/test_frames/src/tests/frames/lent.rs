@@ -100,7 +100,6 @@ fn frames_come<R: Abort + RandomSource + AllocGlobal + Copy>(
     Ok(())
 }
 
-// (a test for each capacity, since tools/refuse-memory runs each once for each request for memory)
 #[test]
 fn lent_frames_come_through_a_buffer_of_a_byte(rt: HostRuntime) -> Result<(), Fail> {
     frames_come(rt, 1)
