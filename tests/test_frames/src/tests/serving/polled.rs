@@ -11,10 +11,38 @@ use std::random::RandomSource;
 use std::sync::Wait;
 use std::test::Fail;
 
-/// Replies to a line with itself and `!`. Ends behind `quit`, and has no memory for `lack`. It counts what it was asked.
+/// Replies to a line with itself and `!`. Ends behind `quit`, and says that it has no memory for `lack`. It counts what it
+/// was asked, and notes whether memory was refused.
 #[derive(Drop)]
 struct Loud {
     asked: u32,
+    is_refused: bool,
+}
+
+impl Loud {
+    fn new() -> Loud {
+        Loud {
+            asked: 0,
+            is_refused: false,
+        }
+    }
+
+    fn push(&mut self, bytes: &[u8], out: &mut Vec<u8>) -> Result<(), AllocError> {
+        let pushed = out.extend_from_slice(bytes);
+        self.is_refused = self.is_refused || pushed.is_err();
+        match pushed {
+            Ok(()) => Ok(()),
+            Err(_) => Err(AllocError),
+        }
+    }
+
+    /// Fails if memory was refused.
+    fn had_memory(&self) -> Result<(), AllocError> {
+        if self.is_refused {
+            return Err(AllocError);
+        }
+        Ok(())
+    }
 }
 
 impl Responder for Loud {
@@ -26,11 +54,11 @@ impl Responder for Loud {
 
     fn answer(&mut self, line: &[u8], out: &mut Vec<u8>) -> Result<bool, AllocError> {
         self.asked = self.asked.saturating_add(1);
-        out.extend_from_slice(line)?;
+        self.push(line, out)?;
         if line == b"lack".as_slice() {
             return Err(AllocError);
         }
-        out.push(b'!')?;
+        self.push(b"!", out)?;
         Ok(line != b"quit".as_slice())
     }
 
@@ -40,10 +68,10 @@ impl Responder for Loud {
         out: &mut Vec<u8>,
     ) -> Result<(), AllocError> {
         if let FramesError::OutOfMemory = error {
+            self.is_refused = true;
             return Err(AllocError);
         }
-        out.extend_from_slice(b"bad")?;
-        Ok(())
+        self.push(b"bad", out)
     }
 }
 
@@ -56,7 +84,7 @@ fn server<O: Drop>(alloc: Global, input: Marks, output: O) -> Result<Server<O>, 
         return Err(AllocError.into());
     };
     let lines = LineDelimited { max: 8 };
-    Ok(Serving::new(alloc, reader, lines, output, Loud { asked: 0 }))
+    Ok(Serving::new(alloc, reader, lines, output, Loud::new()))
 }
 
 /// A reader that hands out each of these chunks after a `Pending`.
@@ -102,9 +130,7 @@ fn replies_come_in_order_however_bytes_are_cut(rt: HostRuntime) -> Result<(), Fa
         let mut server = server(rt.alloc(), input, output)?;
         let value = value(&rt, &mut server, 100)?;
         let parts = server.into_parts();
-        if let Some(Err(ServingError::OutOfMemory)) = value {
-            return Err(AllocError.into());
-        }
+        parts.responder.had_memory()?;
         assert_eq!(rt; value, Some(Ok(())));
         assert_eq!(rt; parts.replies.taken(), b"one!two!!three!".as_slice());
         assert_eq!(rt; parts.responder.asked, 4);
@@ -121,15 +147,14 @@ fn no_request_is_performed_behind_a_failed_write(rt: HostRuntime) -> Result<(), 
     let input = chunks(rt.alloc(), &[b"one\ntw", b"o\nthree\n"])?;
     let mut server = server(rt.alloc(), input, output)?;
     let value = value(&rt, &mut server, 10)?;
-    if let Some(Err(ServingError::OutOfMemory)) = value {
-        return Err(AllocError.into());
-    }
+    let error = server.take_output_error();
+    let parts = server.into_parts();
+    parts.responder.had_memory()?;
     assert_eq!(rt;
         value,
         Some(Err(ServingError::Output(ErrorKind::BrokenPipe)))
     );
-    assert!(rt; server.take_output_error().is_some());
-    let parts = server.into_parts();
+    assert!(rt; error.is_some());
     assert_eq!(rt; parts.replies.taken(), b"on".as_slice());
     assert_eq!(rt; parts.waiting.as_slice(), b"e!".as_slice());
     assert_eq!(rt; parts.responder.asked, 1);
@@ -147,9 +172,7 @@ fn it_reads_on_while_the_writer_is_pending(rt: HostRuntime) -> Result<(), Fail> 
         let mut server = server(rt.alloc(), input, output)?.with_limit(limit);
         let value = value(&rt, &mut server, 10)?;
         let parts = server.into_parts();
-        if let Some(Err(ServingError::OutOfMemory)) = value {
-            return Err(AllocError.into());
-        }
+        parts.responder.had_memory()?;
         assert_eq!(rt; value, None);
         assert_eq!(rt; parts.responder.asked, asked);
         assert_eq!(rt; parts.waiting.len(), 4 * asked as usize);
@@ -170,9 +193,7 @@ fn replies_are_flushed_before_a_read_that_waits(rt: HostRuntime) -> Result<(), F
     // The first poll meets the reader's first `Pending`, and the second one its second.
     let value = value(&rt, &mut server, 2)?;
     let parts = server.into_parts();
-    if let Some(Err(ServingError::OutOfMemory)) = value {
-        return Err(AllocError.into());
-    }
+    parts.responder.had_memory()?;
     assert_eq!(rt; value, None);
     assert_eq!(rt; parts.replies.get_ref().taken(), b"one!two!".as_slice());
     assert_eq!(rt; parts.requests.held.as_slice(), b"th".as_slice());
@@ -186,7 +207,7 @@ fn served<R: AllocGlobal + RandomSource + Wait>(
 ) -> Result<(Value, Vec<u8>, u32, usize), Fail> {
     let lines = LineDelimited { max: 8 };
     let replies = Vec::new(rt.alloc());
-    let mut server = Serving::new(rt.alloc(), input, lines, replies, Loud { asked: 0 });
+    let mut server = Serving::new(rt.alloc(), input, lines, replies, Loud::new());
     let value = wait_serving(&mut BlockOn::new(rt)?, rt, &mut server);
     if let Err(
         ServingError::Input(FramesError::OutOfMemory)
@@ -196,6 +217,7 @@ fn served<R: AllocGlobal + RandomSource + Wait>(
         return Err(AllocError.into());
     }
     let parts = server.into_parts();
+    parts.responder.had_memory()?;
     Ok((
         value,
         parts.replies,
@@ -207,9 +229,6 @@ fn served<R: AllocGlobal + RandomSource + Wait>(
 #[test]
 fn the_responder_ends_the_session(rt: HostRuntime) -> Result<(), Fail> {
     let (value, replies, asked, left) = served(&rt, b"one\nquit\ntwo\n")?;
-    if let Err(ServingError::OutOfMemory) = value {
-        return Err(AllocError.into());
-    }
     assert_eq!(rt; value, Ok(()));
     assert_eq!(rt; replies.as_slice(), b"one!quit!".as_slice());
     assert_eq!(rt; (asked, left), (2, 4));
@@ -219,9 +238,6 @@ fn the_responder_ends_the_session(rt: HostRuntime) -> Result<(), Fail> {
 #[test]
 fn last_words_are_written_to_a_malformed_request(rt: HostRuntime) -> Result<(), Fail> {
     let (value, replies, asked, _) = served(&rt, b"one\nmuch too long\ntwo\n")?;
-    if let Err(ServingError::OutOfMemory) = value {
-        return Err(AllocError.into());
-    }
     assert!(rt;
         matches!(
             value,
@@ -237,9 +253,6 @@ fn last_words_are_written_to_a_malformed_request(rt: HostRuntime) -> Result<(), 
 fn no_part_of_a_reply_is_written_at_want_of_memory(rt: HostRuntime) -> Result<(), Fail> {
     let (value, replies, asked, left) = served(&rt, b"one\nlack\ntwo\n")?;
     assert_eq!(rt; value, Err(ServingError::OutOfMemory));
-    if asked < 2 {
-        return Err(AllocError.into());
-    }
     assert_eq!(rt; replies.as_slice(), b"one!".as_slice());
     assert_eq!(rt; (asked, left), (2, 4));
     Ok(())
