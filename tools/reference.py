@@ -60,7 +60,7 @@ GROUPS = {
     },
     "framed": {
         "Frames of a reader": tuple(f"framed/src/{it}.rt" for it in ("collect", "collect_error", "framed_read", "held_frame", "make", "next_frame", "send_future", "waiting")),
-        "Frames that are lent": tuple(f"framed/src/{it}.rt" for it in ("frames", "frames_error", "cutter", "cut", "cut_error")),
+        "Frames that are lent": ("lent_frames", "framed/src/cut_error.rt"),
         "Codecs": ("framed/src/length_delimited.rt", "framed/src/line_delimited.rt", "framed/src/frame_error.rt"),
         "Parts of a codec": tuple(f"framed/src/{it}.rt" for it in ("delimiter", "head", "hexadecimal")),
         "Serving": ("framed/src/server.rt", "framed/src/service.rt", "framed/src/serve_error.rt"),

@@ -253,7 +253,8 @@ def sum_of_crates(crates, names, parts=PARTS, top=TOP):
     """The sum of the toolchain, and of these parts of these crates and of those below them."""
     found = hashlib.sha256(toolchain())
     for it in with_below(crates, names):
-        found.update(crates[it].line.encode())
+        # (how many functions may wait is no part of what a proof reads)
+        found.update(re.sub(r" may_wait=\d+", "", crates[it].line).encode())
         for part in parts:
             found.update(sum_of_folder(f"crates/{it}/{part}", top))
     return found.hexdigest()

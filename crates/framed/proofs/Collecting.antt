@@ -6,7 +6,8 @@ use Rattle.framed.specs.Uses.{MarkLaws, ReadMark, Ready, Runs, bytes}
 use Rattle.tokio_util.specs.Codec.Next.{Gives, IsStable, Resumes, at_end, decoded}
 use Rattle.tokio_util.specs.Codec.Whole.{ReadsAll, last_frame, no_frame, whole_frame}
 use Rattle.tokio_util.proofs.CodecLemmas.Next.{Resumes-append, Resumes_now}
-use Rattle.framed.specs.FrameLaws.{join_marks, not_after}
+use Rattle.framed.specs.FrameLaws.{not_after}
+use Rattle.lent_frames.specs.LendingLaws.{join_marks}
 use Rattle.framed.specs.Frames.{FrameStep, Framed, ended, ending, reading}
 use Rattle.framed.specs.declared.collect_error.CollectError.TheVariants.{Input, Memory}
 use Rattle.framed.specs.Whole.{Collects, CollectsLast, ReadsTo, at_last, goes_on, whole}

@@ -8,4 +8,3 @@ mod Collecting
 mod Delimited
 mod Lines
 mod Heads
-mod Lending

@@ -10,9 +10,9 @@ use Rattle.tokio_util.specs.Codec.Next.{Decodes}
 use Rattle.framed.specs.FrameErrors.{SaysOutOfMemory}
 use Rattle.framed.specs.Heads.{FindsDelimiter, none_within, text_has_none, text_length, up_to_text, with_delimiter}
 use Rattle.framed.specs.LineDelimited.{HasNoNewline, IsLongLineCut, LineOf, gives_line_delimited, with_newline}
-use Rattle.framed.specs.Cutting.{CutFound}
-use Rattle.framed.specs.Pieces.{Undecided}
-use Rattle.framed.specs.declared.cut.Cut.TheVariants.{Whole}
+use Rattle.lent_frames.specs.Cutting.{CutFound}
+use Rattle.lent_frames.specs.Cutting.{Undecided}
+use Rattle.lent_frames.specs.declared.cut.Cut.TheVariants.{Whole}
 use Rattle.framed.specs.declared.cut_error.CutError.TheVariants as small
 use Rattle.framed.specs.declared.delimiter.Delimiter.TheVariants.{At}
 use Rattle.framed.specs.declared.frame_error.FrameError.{FrameError}

@@ -1,12 +1,11 @@
 -- One step of a poll of a framed reader.
-use Rattle.std.specs.Prelude.{◌≡◌, ◌⊎◌, ◌≤◌, ◌+◌, ◌-◌, ◌<◌, ◌==◌, true, false, ℕ, List, [], ◌∷◌, ◌++◌, length, take, drop, Option, Some, None, Result, Ok, Err}
+use Rattle.std.specs.Prelude.{◌≡◌, ◌⊎◌, ◌≤◌, ◌+◌, ◌-◌, ◌<◌, ℕ, List, [], ◌∷◌, ◌++◌, length, take, drop, Option, Some, None, Result, Ok, Err}
 use Rattle.std.specs.IoError.{error_kind}
 use Rattle.std.specs.List.{FoldsTo}
 use Rattle.std.specs.declared.io.Error.{Error}
-use Rattle.std.proofs.Common.{◌∙◌, ap, append-nil, append_assoc, arith, drop_at, eqb-true, inl, inr, length-append, length-take-le, refl, subst, sym, take-append-drop, take_at}
+use Rattle.std.proofs.Common.{◌∙◌, ap, append-nil, append_assoc, arith, drop_at, inl, inr, length-append, length-take-le, refl, subst, sym, take-append-drop, take_at}
 use Rattle.std.proofs.lemmas.List.{map-append}
 use Rattle.framed.specs.Uses.{Answer, MarkLaws, Pending, Reaches, ReadMark, Ready, Runs, bytes}
-use Rattle.lite_io_base.specs.Marks.{filled_marks}
 use Rattle.tokio_util.specs.Codec.Next.{Gives, IsStable, PartialHasNoFrame, Resumes, at_end as last_frame, decoded, partial}
 use Rattle.framed.specs.FrameLaws.{TakesMore, frame_ran, goes_on, joined, last_on, not_after, polled_on}
 use Rattle.framed.specs.Frames.{FrameStep, Framed, InHand, InStep, Last, Looks, PollGives, NoFrame, ended, held_at, phase_of, reading}
@@ -118,20 +117,6 @@ module _ (s xs ys : List ℕ) (n : ℕ) (fits : n ≤ length s) (cut : take n s 
 -- Only of no bytes is a front of some bytes empty.
 pub none_looked : (n : ℕ) (s : List ℕ) → n ≤ length s → (n ≡ 0 → s ≡ []) → take n s ≡ [] → s ≡ []
 none_looked n s fits none e = none (omega (arith, length-take-le n s fits, ap length e))
-
-pub none_shown : (xs : List ℕ) → true ≡ (length xs == 0) → xs ≡ []
-none_shown [] e = refl
-none_shown (x ∷ xs) e = absurd (omega (arith, eqb-true (length (x ∷ xs)) 0 (sym e)))
-
-pub some_shown : (xs : List ℕ) → false ≡ (length xs == 0) → 0 < length xs
-some_shown [] e = cc e
-some_shown (x ∷ xs) e = omega arith
-
--- A fill that showed bytes left no mark.
-pub no_mark : {T : Type 0} (reads : Runs ReadMark T) (xs : List ℕ) → 0 < length xs → {a b : T} → reads a (filled_marks xs) b
-    → reads a [] b
-no_mark reads [] some h = absurd (omega (arith, some))
-no_mark reads (x ∷ xs) some h = h
 
 more_length : (xs ys : List ℕ) → 0 < length ys → 0 < length (xs ++ ys)
 more_length xs ys some = omega (arith, length-append xs ys, some)

@@ -2,7 +2,7 @@
 use Rattle.std.specs.Prelude.{◌≡◌, ◌≤◌, ◌<◌, ◌^◌, ℕ, List, ◌++◌, length}
 use Rattle.std.proofs.Common.{ap, append_assoc, arith, sym, ◌∙◌}
 use Rattle.bytes.specs.Filled.{Filled}
-use Rattle.framed.specs.Cutting.{OneFrame}
+use Rattle.lent_frames.specs.Cutting.{OneFrame}
 use Rattle.framed.specs.FrameErrors.{SaysOutOfMemory}
 use Rattle.framed.specs.LengthDelimited.{FrameOf, IsTooLong, frame_bytes, gives_delimited, length_header, no_frame_empty, one_number}
 use Rattle.framed.specs.Pieces.{same_fronts}

@@ -8,7 +8,8 @@ use Rattle.framed.specs.Uses.{MarkLaws, ReadMark, Ready, Runs, ToldStripped, Wri
 use Rattle.framed.specs.Uses.{flushes_both, taken_both}
 use Rattle.tokio_util.specs.Codec.Next.{Gives, PartialHasNoFrame, at_end, decoded}
 use Rattle.framed.specs.Dialogues.{Dialogue, EndsBy, FrameByFrame, FramesOf, FrontOf, EachGoesOn, answers_from}
-use Rattle.framed.specs.FrameLaws.{join_marks, not_after}
+use Rattle.framed.specs.FrameLaws.{not_after}
+use Rattle.lent_frames.specs.LendingLaws.{join_marks}
 use Rattle.framed.specs.Frames.{FrameStep, Framed, ending, reading}
 use Rattle.framed.specs.ServiceLaws.{going_on, serves_as}
 use Rattle.framed.specs.Services.{AnswerOf, AnswersAll, LastWords, ServesAs, all_of}

@@ -18,6 +18,7 @@ use Rattle.lite_io_base.specs.Laws.Counting.{given_of}
 use Rattle.lite_base.specs.Laws.Chain.{steps_answer}
 use Rattle.tokio_util.specs.Codec.Next.{Gives, Next, PartialHasNoFrame, Resumes, at_end, decoded, partial}
 use Rattle.tokio_util.proofs.CodecLemmas.Next.{Resumes-append, Resumes_trans}
+use Rattle.lent_frames.specs.LendingLaws.{join_marks}
 use Rattle.framed.specs.Frames.{AfterEnd, Found, FrameStep, Framed, ResumesAt, Last, Phase, PollGives, NoFrame, ended, ending, frame_ranks, phase_rank, reading}
 use Rattle.framed.specs.Prompt.{PromptLaws}
 
@@ -85,10 +86,6 @@ module _ {T D X E : Type 0} (gives : Gives D X E) (x m z : Framed T D) (ys : Lis
             | inr p ↦ inr (inr (p.0, p.1, goes_on xs p.2, p.3))
           ]
         ]
-
-pub join_marks : (ys xs : List ℕ) (last : List ReadMark) → bytes ys ++ (bytes xs ++ last) ≡ bytes (ys ++ xs) ++ last
-join_marks [] xs last = refl
-join_marks (y ∷ ys) xs last = ap (λ l. ReadMark.byte y ∷ l) (join_marks ys xs last)
 
 -- after the end nothing is read
 pub not_after : {T D X E : Type 0} (gives : Gives D X E) (x y : Framed T D) (r : Option (Result X E)) → x.phase ≡ reading

@@ -12,7 +12,8 @@ use Rattle.std.proofs.lemmas.List.Elements.{All-cons, All-contains, All-nil, All
 use Rattle.bytes.specs.Filled.{Filled}
 use Rattle.tokio_util.specs.Codec.Next.{Decodes, EndIsPartial, Gives, IsStable, PartialHasNoFrame}
 use Rattle.framed.specs.FrameErrors.{SaysOutOfMemory}
-use Rattle.framed.specs.Pieces.{Undecided, gives_pieces, pieces_end, pieces_partial, pieces_prompt, pieces_stable, up_to_delimiter}
+use Rattle.framed.specs.Pieces.{gives_pieces, pieces_end, pieces_partial, pieces_prompt, pieces_stable, up_to_delimiter}
+use Rattle.lent_frames.specs.Cutting.{Undecided}
 use Rattle.framed.specs.Prompt.{PromptLaws}
 use Rattle.framed.specs.declared.delimiter.Delimiter.{Delimiter}
 use Rattle.framed.specs.declared.delimiter.Delimiter.TheVariants.{At, Missing, TooFar}

@@ -6,7 +6,8 @@ use Rattle.std.proofs.lemmas.Nat.{from_be_bytes-to_be_bytes_4}
 use Rattle.bytes.specs.Filled.{Filled}
 use Rattle.tokio_util.specs.Codec.Next.{Gives}
 use Rattle.framed.specs.FrameErrors.{SaysOutOfMemory, as_frame_error}
-use Rattle.framed.specs.Pieces.{Undecided, gives_pieces, same_fronts}
+use Rattle.framed.specs.Pieces.{gives_pieces, same_fronts}
+use Rattle.lent_frames.specs.Cutting.{Undecided}
 use Rattle.framed.specs.declared.length_delimited.LengthDelimited.{LengthDelimited}
 use Rattle.framed.specs.declared.cut_error.CutError.{CutError}
 use Rattle.framed.specs.declared.frame_error.FrameError.{FrameError}

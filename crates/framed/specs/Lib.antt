@@ -31,9 +31,6 @@ pub mod LineBack
 pub mod HeadsBack
 pub mod Hexadecimal
 pub mod LinesBack
-pub mod Cutting
-pub mod Lending
-pub mod LendingLaws
 pub mod SteadyFrames
 pub mod SteadyFrameLaws
 pub mod SteadyPieces

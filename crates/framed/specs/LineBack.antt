@@ -4,7 +4,7 @@ use Rattle.std.proofs.Common.{ap, append_assoc, arith, sym, ◌∙◌}
 use Rattle.std.proofs.lemmas.List.{append_cancel_right}
 use Rattle.bytes.specs.Filled.{Filled}
 use Rattle.framed.specs.Uses.{without_return}
-use Rattle.framed.specs.Cutting.{OneFrame}
+use Rattle.lent_frames.specs.Cutting.{OneFrame}
 use Rattle.framed.specs.FrameErrors.{SaysOutOfMemory}
 use Rattle.framed.specs.LineDelimited.{HasNoNewline, IsLongLine, LineOf, gives_line_delimited, no_line_empty, with_newline}
 use Rattle.framed.specs.Heads.{longer_text}

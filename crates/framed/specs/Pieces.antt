@@ -6,6 +6,8 @@ use Rattle.std.proofs.lemmas.List.Elements.{All-head, All-tail}
 use Rattle.tokio_util.specs.Codec.Next.{EndIsPartial, Gives, IsStable, PartialHasNoFrame, at_end, decoded, partial}
 use Rattle.framed.specs.Dialogues.{FrameByFrame}
 use Rattle.framed.specs.Prompt.{PromptLaws}
+use Rattle.lent_frames.specs.Cutting.{Undecided}
+use Rattle.bytes.specs.Filled.{Filled}
 
 -- Fronts of one length of one list are the same, and so is what is behind them.
 pub same_fronts : (h k p q : List ℕ) → length h ≡ length k → h ++ p ≡ k ++ q → (h ≡ k) × (p ≡ q)
@@ -31,12 +33,6 @@ up_to_delimiter delimiter (x ∷ a) (y ∷ b) p q h k e =
     let others : a ++ delimiter ∷ p ≡ b ++ delimiter ∷ q = cc e in
     let rest = up_to_delimiter delimiter a b p q (All-tail (λ x. x ≢ delimiter) x a h) (All-tail (λ x. x ≢ delimiter) y b k) others in
     (rw (first, rest.0) refl, rest.1)
-
--- No front of the bytes is a frame, and none is refused. `piece` says which bytes a frame may have, and `refuses` at which
--- bytes a decoder stops with which error.
-abbrev pub Undecided : {C V E : Type 0} → (C → V → List ℕ → Type 0) → (C → List ℕ → E → Type 0) → C → List ℕ → Type 0
-Undecided {V = V} {E = E} piece refuses c xs = (front rest : List ℕ) → xs ≡ front ++ rest
-    → ((v : V) → piece c v front → ⊥) × ((e : E) → refuses c front e → ⊥)
 
 -- An error that `lacks` says that memory was refused, and one that is `cut` that the input ended within a frame.
 module _ {C V E : Type 0} (piece : C → V → List ℕ → Type 0) (refuses : C → List ℕ → E → Type 0) (lacks cut : E → Type 0) where
@@ -94,3 +90,12 @@ module _ {C V E : Type 0} (piece : C → V → List ℕ → Type 0) (refuses : C
         last = λ d xs v t ys is h. absurd h;
         end = λ d xs t ys is h. h.2;
       }
+
+-- What is undecided by filled buffers and errors is undecided by lists of bytes and smaller errors.
+pub by_bytes : {C E F : Type 0} (piece : C → List ℕ → List ℕ → Type 0) (refuses : C → List ℕ → F → Type 0) (as_error : E → F)
+    (c : C) (xs : List ℕ) → Undecided {V = Filled} (λ d v. piece d v.items) refuses c xs
+    → Undecided piece (λ d ys e. refuses d ys (as_error e)) c xs
+by_bytes piece refuses as_error c xs h front rest is = (
+  (λ v p. (h front rest is).0 (record { items = v; spare = 0 }) p),
+  (λ e r. (h front rest is).1 (as_error e) r),
+)

@@ -8,7 +8,8 @@ use Rattle.tokio_util.specs.Codec.Next.{Gives, PartialHasNoFrame}
 use Rattle.tokio_util.specs.Codec.Whole.{EncodesAll}
 use Rattle.framed.specs.DialogueLaws.{FramesRead, all_read, goes_on_each, none_read, so_far, to_the_end, told_each}
 use Rattle.framed.specs.Dialogues.{FrameByFrame, FramesOf, EachGoesOn, answers_from}
-use Rattle.framed.specs.FrameLaws.{join_marks, not_after}
+use Rattle.framed.specs.FrameLaws.{not_after}
+use Rattle.lent_frames.specs.LendingLaws.{join_marks}
 use Rattle.framed.specs.Frames.{FrameStep, Framed, reading}
 use Rattle.framed.specs.ServiceLaws.{going_on, serves_as}
 use Rattle.framed.specs.Services.{AnswerOf, LastWords, ServesAs, all_of}

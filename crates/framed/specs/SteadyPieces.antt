@@ -5,14 +5,15 @@ use Rattle.std.specs.declared.io.Error.{Error}
 use Rattle.std.proofs.Common.{◌∙◌, ap, append_assoc, arith, inl, inr, sym}
 use Rattle.bytes.specs.Filled.{Filled}
 use Rattle.lite_base.specs.Alike.{Sameness}
-use Rattle.framed.specs.Cutting.{OneFrame}
+use Rattle.lent_frames.specs.Cutting.{OneFrame}
 use Rattle.framed.specs.DelimitedBack.{one_frame_cut}
 use Rattle.framed.specs.FrameErrors.{SaysOutOfMemory}
 use Rattle.framed.specs.Heads.{longer_text}
 use Rattle.framed.specs.LengthDelimited.{FrameOf, IsTooLong, gives_delimited, length_header, one_number}
 use Rattle.framed.specs.LineBack.{one_line_cut}
 use Rattle.framed.specs.LineDelimited.{IsLongLine, LineOf, gives_line_delimited}
-use Rattle.framed.specs.Pieces.{Undecided, gives_pieces, pieces_end}
+use Rattle.framed.specs.Pieces.{gives_pieces, pieces_end}
+use Rattle.lent_frames.specs.Cutting.{Undecided}
 use Rattle.framed.specs.SteadyFrames.{RefusesNothing, OneOutcome, SameOutcome}
 use Rattle.framed.specs.declared.frame_error.FrameError.{FrameError}
 use Rattle.framed.specs.declared.frame_error.FrameError.TheVariants.{CutOff, Io, TooLong}

@@ -12,15 +12,14 @@ ghost use Rattle.lite_base.specs.Alike.{Sameness};
 ghost use Rattle.framed.specs.declared.cut_error.CutError.TheVariants as small;
 ghost use Rattle.framed.specs.declared.frame_error.FrameError.TheVariants.{CutOff};
 
-use crate::cut::{Cut, Span};
 use crate::cut_error::CutError;
-use crate::cutter::Cutter;
 use crate::delimiter::{Delimiter, find_delimiter, find_delimiter_behind, first_at};
 use crate::frame_error::FrameError;
 use crate::prompt_decoder::PromptDecoder;
 use crate::round_trip::RoundTrip;
 use crate::steady_decoder::SteadyDecoder;
 use bytes::BytesMut;
+use lent_frames::{Cut, Cutter, Span};
 use std::convert::AsSlice;
 use tokio_util::codec::{Decoder, Encoder};
 

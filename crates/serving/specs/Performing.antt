@@ -1,11 +1,9 @@
 -- What the responder pushes stands behind the replies that wait.
 use Rattle.std.specs.Prelude.{◌≡◌, ℕ, Bool, List, ◌++◌, length, take, Some, None, Ok, Err}
-use Rattle.serving.specs.Uses.{FramesError, LastWords, ServiceStep, ap, append-nil, arith, inl, inr, lent_body}
-use Rattle.serving.specs.Uses.{refl, sym, take_all, ◌∙◌}
-use Rattle.std.proofs.lemmas.List.{take-append-le}
+use Rattle.std.proofs.lemmas.List.{take_all, take-append-le}
+use Rattle.serving.specs.Uses.{FramesError, LastWords, ServiceStep, ap, append-nil, arith, inl, inr, lent_body, refl, sym, ◌∙◌}
 use Rattle.serving.specs.ServingSteps.{PerformsFound, PerformsTurn}
-use Rattle.serving.specs.Turns.{Responds, ServingTurn, answered, ended, refused, said_in, stop_behind, unanswered, unrefused}
-use Rattle.serving.specs.Turns.{Server}
+use Rattle.serving.specs.Turns.{Responds, ServingTurn, answered, ended, refused, said_in, stop_behind, unanswered, unrefused, Server}
 use Rattle.serving.specs.declared.stop.Stop.TheVariants.{Ended, Lacked, Refused}
 
 -- What was pushed behind some bytes is taken away.
@@ -20,6 +18,7 @@ module _ {T C O S E : Type 0} (buffer_of : T → List ℕ) (answers : ServiceSte
     pub replies : y.replies ≡ x.replies
     pub flushed : y.is_flushed ≡ x.is_flushed
     pub limit : y.limit ≡ x.limit
+    pub error : y.error ≡ x.error
 
   performs_turn : (x y : Server T C O S E) (turn : ServingTurn E) → Responds answers words x.responder turn None y.responder y.stop
       → y.waiting ≡ x.waiting ++ said_in turn → KeepsRest x y → PerformsTurn buffer_of answers words x turn y
@@ -31,6 +30,7 @@ module _ {T C O S E : Type 0} (buffer_of : T → List ℕ) (answers : ServiceSte
         replies = rest.replies;
         flushed = rest.flushed;
         limit = rest.limit;
+        error = rest.error;
       }
 
   pub performs_ended : (x y : Server T C O S E) → y ≡ record x { stop = Some Ended } → PerformsFound buffer_of answers words x None y
@@ -38,7 +38,7 @@ module _ {T C O S E : Type 0} (buffer_of : T → List ℕ) (answers : ServiceSte
     ended,
     refl,
     performs_turn x y ended (rw is (refl, refl)) (rw is (sym (append-nil x.waiting)))
-        (record { requests = rw is refl; replies = rw is refl; flushed = rw is refl; limit = rw is refl }),
+        (record { requests = rw is refl; replies = rw is refl; flushed = rw is refl; limit = rw is refl; error = rw is refl }),
   )
 
   pub performs_answer : (x y : Server T C O S E) (said : List ℕ) (on : Bool) → y.waiting ≡ x.waiting ++ said

@@ -1,13 +1,13 @@
 -- The rank of a server falls.
 use Rattle.std.specs.Prelude.{◌≡◌, ◌⊎◌, ◌≤◌, ◌<◌, ◌+◌, ◌-◌, ℕ, zero, suc, List, [], ◌∷◌, drop, length, take}
 use Rattle.std.specs.Prelude.{Option, Some, None}
-use Rattle.serving.specs.Uses.{AtMost, AtMost-both, Below, Below-first, Lending, NoneEmpty, Ranks, ReadCounting}
-use Rattle.serving.specs.Uses.{ReadMark, Runs, StandsIn, ap, arith, bytes, inl, inr, kept, length-append}
-use Rattle.serving.specs.Uses.{length-drop, length-take-le, refl, sym, untaken, ◌∙◌}
+use Rattle.std.proofs.lemmas.List.{length-drop}
 use Rattle.std.proofs.lemmas.Bool.{cases_lt}
 use Rattle.lite_base.specs.Laws.Ranks.{Below-after}
 use Rattle.lite_io_base.specs.Counting.{Falls}
 use Rattle.lite_io_base.specs.Laws.Marks.{bytes_given}
+use Rattle.serving.specs.Uses.{AtMost, AtMost-both, Below, Below-first, Lending, NoneEmpty, Ranks, ReadCounting}
+use Rattle.serving.specs.Uses.{ReadMark, Runs, StandsIn, ap, arith, bytes, inl, inr, kept, length-append, length-take-le, refl, sym, untaken, ◌∙◌}
 use Rattle.serving.specs.ServingSteps.{lending_rank, one_if_none, one_if_zero}
 
 -- Bytes that come lower a rank. If none came, the rank is not higher.

@@ -1,13 +1,12 @@
 -- Serving lent frames: turns, and what the writer took meanwhile.
 use Rattle.std.specs.Prelude.{◌≡◌, ◌⊎◌, ◌≤◌, ◌<◌, ◌+◌, ℕ, Bool, true, false, List, [], ◌∷◌, ◌++◌, length}
 use Rattle.std.specs.Prelude.{Some, None, Result, Ok, Err, IfSome, IsSome}
-use Rattle.serving.specs.Uses.{ErrorKind, FoldsTo, FramesError, LastWords, Pending, Poll, ReadMark, Ready, Runs}
-use Rattle.serving.specs.Uses.{ServiceStep, WriteMark, WritesAndFlushes, bytes_taken}
 use Rattle.std.specs.IoError.{error_kind}
 use Rattle.std.specs.declared.io.ErrorKind.TheVariants.{WriteZero}
 use Rattle.futures.specs.Task.{Lasting}
-use Rattle.serving.specs.Turns.{Side, TakesTurn, ServingTurn, pended, said_by, said_in}
-use Rattle.serving.specs.Turns.{Server}
+use Rattle.serving.specs.Uses.{ErrorKind, FoldsTo, FramesError, LastWords, Pending, Poll, ReadMark, Ready, Runs}
+use Rattle.serving.specs.Uses.{ServiceStep, WriteMark, WritesAndFlushes, bytes_taken}
+use Rattle.serving.specs.Turns.{Server, ServingTurn, Side, TakesTurn, pended, said_by, said_in}
 use Rattle.serving.specs.declared.serving_error.ServingError.{ServingError}
 use Rattle.serving.specs.declared.serving_error.ServingError.TheVariants.{Input, OutOfMemory, Output}
 use Rattle.serving.specs.declared.stop.Stop.{Stop}
@@ -73,6 +72,7 @@ module _ {T C O S E : Type 0} (piece : C → List ℕ → List ℕ → Type 0) (
     pub flushed : y.is_flushed ≡ true → LeavesFlushed x.is_flushed took
     pub within : WaitsWithin x.limit x.waiting turns y.waiting
     pub limit : y.limit ≡ x.limit
+    pub error : y.error ≡ x.error
 
   -- The same, for some turns and marks.
   abbrev pub Goes : Server T C O S E → Server T C O S E → Type 0

@@ -1,9 +1,6 @@
 -- Laws of serving.
 use Rattle.std.specs.Prelude.{◌≡◌, ℕ, Bool, true, List, [], ◌∷◌, ◌++◌, length}
 use Rattle.std.specs.Prelude.{Some, Result, Ok, Err}
-use Rattle.serving.specs.Uses.{FoldsTo, FramesError, LastWords, MarkLaws, Pending, Poll, Ranks, ReadCounting}
-use Rattle.serving.specs.Uses.{ReadMark, Ready, Runs, ServiceStep, WriteMark, WritesAndFlushes, advance_counts, ap}
-use Rattle.serving.specs.Uses.{append-nil, arith, bytes_taken, inl, inr, refl, subst, sym, ◌∙◌}
 use Rattle.std.proofs.Common.{append_assoc}
 use Rattle.std.proofs.lemmas.Grind.{flat_map-append}
 use Rattle.lite_base.specs.Answers.{Gives}
@@ -11,10 +8,11 @@ use Rattle.lite_base.specs.FutureLaws.{PolledByCalls}
 use Rattle.lite_base.specs.Laws.Calling.{folds_follow}
 use Rattle.lite_io_base.specs.Laws.Marks.{taken_both}
 use Rattle.lite_write.proofs.Handed.{flushes_both}
-use Rattle.serving.specs.Turns.{Side, TakesTurn, ServingTurn, answered, ended, looked, pended, refused, said_by, said_in, unanswered, unrefused}
-use Rattle.serving.specs.Serving.{EndsByStop, LastIs, ServingEnds, value_of, Goes, AllSent, LeavesFlushed, ServesTurns, ServesPoll}
-use Rattle.serving.specs.Serving.{WaitsWithin, side_of}
-use Rattle.serving.specs.Turns.{Server}
+use Rattle.serving.specs.Uses.{FoldsTo, FramesError, LastWords, MarkLaws, Pending, Poll, Ranks, ReadCounting}
+use Rattle.serving.specs.Uses.{ReadMark, Ready, Runs, ServiceStep, WriteMark, WritesAndFlushes, advance_counts, ap}
+use Rattle.serving.specs.Uses.{append-nil, arith, bytes_taken, inl, inr, refl, subst, sym, ◌∙◌}
+use Rattle.serving.specs.Serving.{AllSent, EndsByStop, Goes, LastIs, LeavesFlushed, ServesPoll, ServesTurns, ServingEnds, WaitsWithin, side_of, value_of}
+use Rattle.serving.specs.Turns.{Server, ServingTurn, Side, TakesTurn, answered, ended, looked, pended, refused, said_by, said_in, unanswered, unrefused}
 use Rattle.serving.specs.declared.stop.Stop.{Stop}
 use Rattle.serving.specs.declared.stop.Stop.TheVariants.{Answered, Ended, Lacked, Refused}
 use Rattle.serving.specs.declared.serving_error.ServingError.{ServingError}
@@ -59,8 +57,9 @@ module _ {T C O S E : Type 0} (piece : C → List ℕ → List ℕ → Type 0) (
   pub serves_silent : (x y : Server T C O S E) (turns : List (ServingTurn E)) (took : List WriteMark)
       → FoldsTo (TakesTurn piece refuses cut_off reads buffer_of answers words) (side_of x) turns (side_of y)
       → writes x.replies took y.replies → WritesAndFlushes took → said_by turns ≡ [] → bytes_taken took ≡ [] → y.waiting ≡ x.waiting
-      → y.is_flushed ≡ x.is_flushed → y.limit ≡ x.limit → ServesTurns piece refuses cut_off reads buffer_of writes answers words x turns took y
-  serves_silent x y turns took taken went fine silent none waiting flushed limit =
+      → y.is_flushed ≡ x.is_flushed → y.limit ≡ x.limit → y.error ≡ x.error
+      → ServesTurns piece refuses cut_off reads buffer_of writes answers words x turns took y
+  serves_silent x y turns took taken went fine silent none waiting flushed limit error =
       record {
         taken = taken;
         went = went;
@@ -69,6 +68,7 @@ module _ {T C O S E : Type 0} (piece : C → List ℕ → List ℕ → Type 0) (
         flushed = λ is. inl (sym flushed ∙ is, none);
         within = inl (omega (arith, ap length waiting));
         limit = limit;
+        error = error;
       }
 
   pub serves_both : (x m y : Server T C O S E) (l k : List (ServingTurn E)) (took more : List WriteMark)
@@ -89,6 +89,7 @@ module _ {T C O S E : Type 0} (piece : C → List ℕ → List ℕ → Type 0) (
         within = within_both x.limit x.waiting m.waiting y.waiting l k h.within
             (subst (λ n. WaitsWithin n m.waiting k y.waiting) h.limit g.within);
         limit = g.limit ∙ h.limit;
+        error = g.error ∙ h.error;
       }
 
   pub goes_both : (x m y : Server T C O S E) → Goes piece refuses cut_off reads buffer_of writes answers words x m
@@ -134,7 +135,7 @@ module _ {T C O S E : Type 0} (piece : C → List ℕ → List ℕ → Type 0) (
   ends_now x y stop sent is same = by stop is
     where
       none : Goes piece refuses cut_off reads buffer_of writes answers words x x
-      none = ([], [], serves_silent x x [] [] refl (laws.rests x.replies) tt refl refl refl refl refl)
+      none = ([], [], serves_silent x x [] [] refl (laws.rests x.replies) tt refl refl refl refl refl refl)
 
       by : (s : Stop E) → x.stop ≡ Some s → ServingEnds piece refuses cut_off reads buffer_of writes answers words x (value_of s) y
       by Ended k = (x, Ended, none, sent, k, refl, same)

@@ -2,9 +2,8 @@
 use Rattle.std.specs.Prelude.{◌≡◌, ◌⊎◌, ◌<◌, ℕ, zero, suc, Bool, true, false, List, [], ◌∷◌, ◌++◌, length, Option, Some, None, Result, Ok, Err}
 use Rattle.serving.specs.Uses.{Advances, AtMost, Below, ErrorKind, FramesError, LastWords, Lending, Pending, Poll}
 use Rattle.serving.specs.Uses.{Ranks, ReadMark, Ready, Runs, ServiceStep, WriteMark, lent_body}
-use Rattle.serving.specs.Turns.{Responds, ServingTurn, answered, ended, refused, said_in, unanswered, unrefused}
+use Rattle.serving.specs.Turns.{Responds, ServingTurn, answered, ended, refused, said_in, unanswered, unrefused, Server}
 use Rattle.serving.specs.Serving.{OutputFails, Goes, AllSent, IsUnsent}
-use Rattle.serving.specs.Turns.{Server}
 
 -- The rank of a server, which falls with each step of a poll.
 
@@ -47,18 +46,20 @@ module _ {T C O S E : Type 0} (buffer_of : T → List ℕ) (answers : ServiceSte
     pub replies : y.replies ≡ x.replies
     pub flushed : y.is_flushed ≡ x.is_flushed
     pub limit : y.limit ≡ x.limit
+    pub error : y.error ≡ x.error
 
   -- The same, of what was found.
   abbrev pub PerformsFound : Server T C O S E → Option (Result (Unit {0}) (FramesError E)) → Server T C O S E → Type 0
   PerformsFound x found y = (turn : ServingTurn E) × IsTurnOf found (lent_body buffer_of x.requests) turn × PerformsTurn x turn y
 
 module _ {T C O S E : Type 0} where
-  -- What turns are taken with stays, and so does the limit.
+  -- What turns are taken with stays, and so do the limit and the error.
   pub record KeepsSide (x y : Server T C O S E) : Type 0 where
     pub requests : y.requests ≡ x.requests
     pub responder : y.responder ≡ x.responder
     pub stop : y.stop ≡ x.stop
     pub limit : y.limit ≡ x.limit
+    pub error : y.error ≡ x.error
 
   module _ (writes : Runs WriteMark O) where
     -- The writer took some of the bytes that wait.

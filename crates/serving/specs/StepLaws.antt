@@ -1,25 +1,22 @@
 -- Laws of the steps of a server.
-use Rattle.std.specs.Prelude.{◌≡◌, ◌≤◌, ◌<◌, ◌+◌, ◌-◌, ℕ, true, false, List, [], ◌∷◌, ◌++◌, drop, length, take}
+use Rattle.std.specs.Prelude.{◌≡◌, ◌≤◌, ◌<◌, ◌+◌, ℕ, true, false, List, [], ◌∷◌, ◌++◌, drop, length, take}
 use Rattle.std.specs.Prelude.{Option, Some, None, Result, Ok, Err}
-use Rattle.serving.specs.Uses.{Advances, AdvancesInHand, AtMost, AtMost-both, Below, Below-first, ErrorKind}
-use Rattle.serving.specs.Uses.{FramesError, LastWords, Lending, MarkLaws, NoneEmpty, Pending, Poll, Ranks}
-use Rattle.serving.specs.Uses.{ReadCounting, ReadMark, Ready, Runs, ServiceStep, StandsIn, WriteMark}
-use Rattle.serving.specs.Uses.{WritesAndFlushes, advance_counts, ap, append-nil, arith, bytes, inl, inr, kept}
-use Rattle.serving.specs.Uses.{length-append, length-drop, length-take-le, lent_body, refl, subst, sym, take_all}
-use Rattle.serving.specs.Uses.{untaken, ◌∙◌}
 use Rattle.std.proofs.Common.{take-append-drop}
+use Rattle.futures.specs.Poll.{OnPending}
 use Rattle.lite_base.specs.Chain.{OneStep, Reaches}
 use Rattle.lite_base.specs.Laws.Chain.{steps_answer}
 use Rattle.lite_base.specs.Laws.Ranks.{Below-then, Below-trans}
 use Rattle.lite_io_base.specs.WriteMarks.{write_marks}
-use Rattle.lite_base.specs.Answers.{Answer}
 use Rattle.lite_write.specs.Uses.{offered_marks}
-use Rattle.framed.specs.Lending.{Finds, nowhere}
+use Rattle.serving.specs.Uses.{Advances, AdvancesInHand, AtMost, AtMost-both, Below, Below-first, ErrorKind, untaken, ◌∙◌}
+use Rattle.serving.specs.Uses.{FramesError, LastWords, Lending, MarkLaws, NoneEmpty, Pending, Poll, Ranks}
+use Rattle.serving.specs.Uses.{ReadCounting, ReadMark, Ready, Runs, ServiceStep, StandsIn, WriteMark}
+use Rattle.serving.specs.Uses.{WritesAndFlushes, advance_counts, ap, append-nil, arith, bytes, inl, inr, kept}
+use Rattle.serving.specs.Uses.{length-append, length-take-le, lent_body, refl, subst, sym}
 use Rattle.serving.specs.RankLaws.{lends_lower, looks_lower, lower_behind, not_empty, same_size}
 use Rattle.serving.specs.Serving.{LastIs, ServingEnds, OutputFails, Goes, AllSent, IsUnsent, MayTake, ServesTurns, ServesPoll, side_of}
 use Rattle.serving.specs.declared.serving_error.ServingError.{ServingError}
 use Rattle.serving.specs.declared.serving_error.ServingError.TheVariants.{Output}
-use Rattle.futures.specs.Poll.{OnPending}
 use Rattle.serving.specs.ServingLaws.{goes_both, polled_later, serves_both, serves_counts, serves_silent}
 use Rattle.serving.specs.ServingSteps.{FlushesOut, GoesAhead, IsTurnOf, PerformsFound, PutsOut, TakesByRead, TakesInHand, WriterPends, WritesWaiting}
 use Rattle.serving.specs.ServingSteps.{lending_rank, one_if_false, one_if_none, serving_rank}
@@ -127,6 +124,7 @@ module _ {T C O S E : Type 0} (piece : C → List ℕ → List ℕ → Type 0) (
             flushed = λ is_flushed. inl (sym (p.flushed ∙ ap (λ (s : Server T C O S E). s.is_flushed) rest) ∙ is_flushed, refl);
             within = inr ([], [], turn, refl, most);
             limit = p.limit ∙ ap (λ (s : Server T C O S E). s.limit) rest;
+            error = p.error ∙ ap (λ (s : Server T C O S E). s.error) rest;
           }
 
       sizes : length (lending_rank r y.requests ++ (length y.waiting ∷ one_if_false y.is_flushed ∷ []))
@@ -166,7 +164,7 @@ module _ {T C O S E : Type 0} (piece : C → List ℕ → List ℕ → Type 0) (
           (side_of y, (inr (was, xs, (took, shown), found), (ap (λ (s : Server T C O S E). s.responder) rest, ap (λ (s : Server T C O S E). s.stop) rest)), refl)
           (subst (λ o. writes x.replies [] o) (sym (ap (λ (s : Server T C O S E). s.replies) rest)) (write_laws.rests x.replies)) tt refl refl
           (ap (λ (s : Server T C O S E). s.waiting) rest) (ap (λ (s : Server T C O S E). s.is_flushed) rest)
-          (ap (λ (s : Server T C O S E). s.limit) rest)
+          (ap (λ (s : Server T C O S E). s.limit) rest) (ap (λ (s : Server T C O S E). s.error) rest)
 
       low : AtMost (lending_rank r y.requests) (lending_rank r x.requests)
       low =
@@ -188,7 +186,7 @@ module _ {T C O S E : Type 0} (piece : C → List ℕ → List ℕ → Type 0) (
       (side_of y, (h, (ap (λ (s : Server T C O S E). s.responder) rest, ap (λ (s : Server T C O S E). s.stop) rest)), refl)
       (subst (λ o. writes x.replies [] o) (sym (ap (λ (s : Server T C O S E). s.replies) rest)) (write_laws.rests x.replies)) tt refl refl
       (ap (λ (s : Server T C O S E). s.waiting) rest) (ap (λ (s : Server T C O S E). s.is_flushed) rest)
-      (ap (λ (s : Server T C O S E). s.limit) rest)
+      (ap (λ (s : Server T C O S E). s.limit) rest) (ap (λ (s : Server T C O S E). s.error) rest)
 
   -- The writer was pending.
   pub writer_pended : (x y : Server T C O S E) → writes x.replies (WriteMark.pending ∷ []) y.replies → y ≡ record x { replies = y.replies }
@@ -196,7 +194,7 @@ module _ {T C O S E : Type 0} (piece : C → List ℕ → List ℕ → Type 0) (
   writer_pended x y went rest =
       serves_silent piece refuses cut_off reads buffer_of writes answers words write_laws x y [] (WriteMark.pending ∷ [])
       (sym (ap side_of rest)) went tt refl refl (ap (λ (s : Server T C O S E). s.waiting) rest)
-      (ap (λ (s : Server T C O S E). s.is_flushed) rest) (ap (λ (s : Server T C O S E). s.limit) rest)
+      (ap (λ (s : Server T C O S E). s.is_flushed) rest) (ap (λ (s : Server T C O S E). s.limit) rest) (ap (λ (s : Server T C O S E). s.error) rest)
 
   -- The writer took bytes.
   writes_go_on : (x y : Server T C O S E) → r.counts x.requests.reader → WritesWaiting writes x y
@@ -227,6 +225,7 @@ module _ {T C O S E : Type 0} (piece : C → List ℕ → List ℕ → Type 0) (
             flushed = λ is. cc (is, w.due);
             within = inl fewer;
             limit = w.stays.limit;
+            error = w.stays.error;
           }
 
   -- The writer was flushed.
@@ -258,6 +257,7 @@ module _ {T C O S E : Type 0} (piece : C → List ℕ → List ℕ → Type 0) (
             flushed = λ is. inr ([], [], refl, refl);
             within = inl (omega (arith, ap length waiting));
             limit = ap (λ (s : Server T C O S E). s.limit) f.rest;
+            error = ap (λ (s : Server T C O S E). s.error) f.rest;
           }
 
   pub put_goes_on : (x y : Server T C O S E) → r.counts x.requests.reader → PutsOut writes x (Ready (Ok true)) y
@@ -269,7 +269,7 @@ module _ {T C O S E : Type 0} (piece : C → List ℕ → List ℕ → Type 0) (
   pub looks_never : (x : Server T C O S E) → r.counts x.requests.reader
       → TakesInHand piece refuses cut_off reads buffer_of writes answers words r x false x
   looks_never x counts =
-      (([], [], serves_silent piece refuses cut_off reads buffer_of writes answers words write_laws x x [] [] refl (write_laws.rests x.replies) tt refl refl refl refl refl), inl refl, counts, refl)
+      (([], [], serves_silent piece refuses cut_off reads buffer_of writes answers words write_laws x x [] [] refl (write_laws.rests x.replies) tt refl refl refl refl refl refl), inl refl, counts, refl)
 
   -- A step behind others that do not raise the rank.
   pub later_goes_on : (x m y : Server T C O S E) → Goes piece refuses cut_off reads buffer_of writes answers words x m
@@ -389,10 +389,6 @@ module _ {T C O S E : Type 0} (piece : C → List ℕ → List ℕ → Type 0) (
   poll_counts x y Pending counts p = serves_counts counting counts p.served
   poll_counts x y (Ready a) counts p = tt
 
--- A slice from an index on.
-pub slice_from : {A : Type 0} (i : ℕ) (l : List A) → take (length l - i) (drop i l) ≡ drop i l
-slice_from i l = take_all (length l - i) (drop i l) (omega (arith, length-drop i l))
-
 -- The writer took the first `n` of the bytes that wait.
 pub wrote_some : {X C O S E : Type 0} (writes : Runs WriteMark O) (x y : Server X C O S E) (n : ℕ) → 0 < n → n ≤ length x.waiting
     → writes x.replies (write_marks (Ready (Ok n)) x.waiting) y.replies
@@ -410,31 +406,6 @@ wrote_some {X = X} {C = C} {O = O} {S = S} {E = E} writes x y n some few came re
         responder = ap (λ (s : Server X C O S E). s.responder) rest;
         stop = ap (λ (s : Server X C O S E). s.stop) rest;
         limit = ap (λ (s : Server X C O S E). s.limit) rest;
+        error = ap (λ (s : Server X C O S E). s.error) rest;
       };
     })
-
--- A frame that was found stands in what comes next.
-module _ {T C E : Type 0} (piece : C → List ℕ → List ℕ → Type 0) (refuses : C → List ℕ → E → Type 0) (cut_off : C → List ℕ → E → Type 0)
-    (reads : Runs ReadMark T) (buffer_of : T → List ℕ) where
-  nowhere_stands : (y : Lending T C) → y.span ≡ nowhere → StandsIn y.span y.held (buffer_of y.reader)
-  nowhere_stands y is = rw is ((omega arith, omega arith, omega arith), inr (omega arith))
-
-  finds_stands : (x y : Lending T C) (last : List ReadMark) (a : Answer (Result (Unit {0}) (FramesError E)))
-      → Finds piece refuses cut_off reads buffer_of x last a y → StandsIn y.span y.held (buffer_of y.reader)
-  finds_stands x y last Pending h = nowhere_stands y h.1.1
-  finds_stands x y last (Ready None) h = nowhere_stands y h.1.1
-  finds_stands x y last (Ready (Some (Ok u))) h = h.1.1
-  finds_stands x y last (Ready (Some (Err e))) h = nowhere_stands y h.0.1
-
-  pub advance_stands : (x y : Lending T C) (a : Answer (Result (Unit {0}) (FramesError E)))
-      → StandsIn x.span x.held (buffer_of x.reader) → Advances piece refuses cut_off reads buffer_of x a y
-      → StandsIn y.span y.held (buffer_of y.reader)
-  advance_stands x y a stands (inl (_, _, same)) = rw same stands
-  advance_stands x y a stands (inr (_, xs, last, took, found)) = finds_stands x y last a found
-
-  pub in_hand_stands : (x y : Lending T C) (a : Answer (Result (Unit {0}) (FramesError E)))
-      → StandsIn x.span x.held (buffer_of x.reader) → AdvancesInHand piece refuses cut_off reads buffer_of x a y
-      → StandsIn y.span y.held (buffer_of y.reader)
-  in_hand_stands x y a stands (inl (_, _, same)) = rw same stands
-  in_hand_stands x y Pending stands (inr (_, xs, took, found)) = nowhere_stands y found.0.1
-  in_hand_stands x y (Ready a) stands (inr (_, xs, took, found)) = finds_stands x y [] (Ready a) found

@@ -1,8 +1,7 @@
 -- The turns of a server of lent frames: what was found in its input, and what was replied to it.
 use Rattle.std.specs.Prelude.{◌≡◌, ℕ, Bool, true, false, List, flat_map, [], Option, Some, None, Ok, Err}
-use Rattle.serving.specs.Uses.{Advances, AdvancesInHand, FramesError, LastWords, Lending, Pending, ReadMark, Ready}
-use Rattle.serving.specs.Uses.{Runs, ServiceStep, lent_body}
 use Rattle.std.specs.declared.io.Error.{Error}
+use Rattle.serving.specs.Uses.{Advances, AdvancesInHand, FramesError, LastWords, Lending, Pending, ReadMark, Ready, Runs, ServiceStep, lent_body}
 use Rattle.serving.specs.declared.stop.Stop.{Stop}
 use Rattle.serving.specs.declared.stop.Stop.TheVariants.{Answered, Ended, Lacked, Refused}
 

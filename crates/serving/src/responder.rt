@@ -1,7 +1,7 @@
 //! What a server of lent frames does with requests.
 ghost use Rattle.std.specs.Prelude.{List, ℕ};
 ghost use Rattle.framed.specs.Services.{LastWords, ServiceStep};
-ghost use Rattle.framed.specs.declared.frames_error.FramesError.{FramesError};
+ghost use Rattle.lent_frames.specs.declared.frames_error.FramesError.{FramesError};
 ghost use Rattle.serving.specs.Responding.{Pushes, PushesWords};
 
 use framed::FramesError;

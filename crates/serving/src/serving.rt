@@ -1,5 +1,5 @@
 //! The future that serves the frames of a reader.
-ghost use Rattle.std.specs.Prelude.{◌≡◌, ◌≤◌, ◌<◌, ◌↔◌, [], IfSome, IsSome, IsTrue, None, Some, drop, false, length};
+ghost use Rattle.std.specs.Prelude.{◌≡◌, ◌≤◌, ◌<◌, ◌↔◌, [], Err, IfSome, IsSome, IsTrue, None, Ok, Some, drop, false, length};
 ghost use Rattle.std.specs.IoError.{error_kind};
 ghost use Rattle.futures.specs.Task.{Keeps};
 ghost use Rattle.lite_base.specs.Chain.{OneStep};
@@ -9,9 +9,8 @@ ghost use Rattle.lite_base.specs.Laws.Ranks.{Below-wf, Terminates-by};
 ghost use Rattle.lite_base.specs.Ranks.{Below};
 ghost use Rattle.lite_base.specs.Registered.{Registered};
 ghost use Rattle.lite_io_base.specs.Marks.{bytes};
-ghost use Rattle.framed.specs.Frames.{reading};
-ghost use Rattle.framed.specs.Lending.{kept, nowhere, untaken};
-ghost use Rattle.serving.specs.Serving.{ServingEnds, AllSent, MayTake, ServesPoll, ServingRegisters};
+ghost use Rattle.lent_frames.specs.Lending.{kept, nowhere, untaken};
+ghost use Rattle.serving.specs.Serving.{AllSent, MayTake, ServesPoll, ServingEnds, ServingRegisters};
 ghost use Rattle.serving.specs.ServingLaws.{serves_counts};
 ghost use Rattle.serving.specs.ServingSteps.{GoesAhead, PerformsFound, PutsOut, TakesByRead, TakesInHand, serving_rank};
 
@@ -108,7 +107,7 @@ pub struct Serving<T: AsyncBufRead, C: Cutter, O, S> {
 
 impl<T: AsyncBufRead, C: Cutter, O, S> Model for Serving<T, C, O, S> {
     ghost use Rattle.std.specs.Prelude.{◌≤◌, drop, length};
-    ghost use Rattle.framed.specs.Lending.{StandsIn};
+    ghost use Rattle.lent_frames.specs.Lending.{StandsIn};
     ghost use Rattle.serving.specs.Turns.{Server};
 
     ghost Value = { Server T C O S C.Error };
@@ -225,7 +224,7 @@ impl<T: AsyncBufRead, C: Cutter, O, S> Serving<T, C, O, S> {
     /// assert_eq!(rt; serving.into_parts().replies.as_slice(), b"one".as_slice());
     /// ```
     pub fn new(alloc: Global, reader: T, cutter: C, replies: O, responder: S) -> Serving<T, C, O, S>
-        ensures requests { result.requests ≡ record { reader = reader; cutter = cutter; held = []; room = 0; span = nowhere; phase = reading; error = None } }
+        ensures requests { result.requests ≡ record { reader = reader; cutter = cutter; held = []; room = 0; span = nowhere; is_over = false; error = None } }
         ensures parts { (result.replies ≡ replies) × (result.responder ≡ responder) }
         ensures fresh { (result.waiting ≡ []) × (result.is_flushed ≡ false) × (result.stop ≡ None) × (result.error ≡ None) }
         ensures limit { result.limit ≡ 8192 }
@@ -423,37 +422,58 @@ impl<T: AsyncBufRead, C: Cutter, O: AsyncWrite, S: Responder<Error = C::Error>> 
     }
 
     // Lets the responder reply to what was found.
+    #[inline(always)]
     fn perform(&mut self, found: Found<C::Error>)
         requires { self.old.stop ≡ None }
         ensures { PerformsFound T.buffer_of S.answers S.refuses self.old found self.new }
     {
-        self.stop = self.reply(found);
+        match found {
+            Some(Ok(())) => self.answer(),
+            Some(Err(error)) => self.refuse(error),
+            None => self.end_by(Stop::Ended),
+        }
     }
 
-    // Lets the responder reply to what was found, and returns why no more requests are taken. What it pushed is taken away if
-    // it was refused memory.
-    fn reply(&mut self, found: Found<C::Error>) -> Option<Stop<C::Error>>
-        ensures { PerformsFound T.buffer_of S.answers S.refuses self.old found (record self.new { stop = result }) }
+    // Lets the responder reply to the request that is lent. What it pushed is taken away if it was refused memory.
+    #[inline(always)]
+    fn answer(&mut self)
+        requires { self.old.stop ≡ None }
+        ensures { PerformsFound T.buffer_of S.answers S.refuses self.old (Some (Ok tt)) self.new }
     {
         let before = self.out.len();
-        match found {
-            None => Some(Stop::Ended),
-            Some(Ok(())) => match self.responder.answer(self.requests.frame(), &mut self.out) {
-                Ok(true) => None,
-                Ok(false) => Some(Stop::Answered),
-                Err(_) => {
-                    self.out.truncate(before);
-                    Some(Stop::Lacked)
-                }
-            },
-            Some(Err(error)) => match self.responder.refuse(&error, &mut self.out) {
-                Ok(()) => Some(Stop::Refused(error)),
-                Err(_) => {
-                    self.out.truncate(before);
-                    Some(Stop::Lacked)
-                }
-            },
+        match self.responder.answer(self.requests.frame(), &mut self.out) {
+            Ok(true) => {}
+            Ok(false) => self.end_by(Stop::Answered),
+            Err(_) => {
+                self.out.truncate(before);
+                self.end_by(Stop::Lacked);
+            }
         }
+    }
+
+    // Lets the responder say its last words to an error of the input.
+    #[inline(never)]
+    fn refuse(&mut self, error: FramesError<C::Error>)
+        requires { self.old.stop ≡ None }
+        ensures { PerformsFound T.buffer_of S.answers S.refuses self.old (Some (Err error)) self.new }
+    {
+        let before = self.out.len();
+        match self.responder.refuse(&error, &mut self.out) {
+            Ok(()) => self.end_by(Stop::Refused(error)),
+            Err(_) => {
+                self.out.truncate(before);
+                self.end_by(Stop::Lacked);
+            }
+        }
+    }
+
+    // No more turns are taken.
+    #[inline(never)]
+    fn end_by(&mut self, stop: Stop<C::Error>)
+        requires { self.old.stop ≡ None }
+        ensures { self.new ≡ record self.old { stop = Some stop } }
+    {
+        self.stop = Some(stop);
     }
 
     // Writes some of the replies that wait, or flushes the writer. `Ok(false)`: all is written and flushed.
@@ -539,6 +559,7 @@ where
     S: Responder<Error = C::Error>,
 {
     // Takes a turn by what is in hand. Returns false if no request is whole, or none may be taken.
+    #[inline(always)]
     fn take_in_hand(&mut self) -> bool
         requires { T.ranks.counts self.old.requests.reader }
         ensures { TakesInHand C.piece C.refuses C.cut_off T.reads T.buffer_of O.writes S.answers S.refuses T.ranks self.old result self.new }
@@ -596,6 +617,7 @@ where
 
     ghost finite = { λ x c. Terminates-by Below Below-wf (serving_rank T.ranks) (λ y z h. h.lower) x };
 
+    #[inline(always)]
     fn poll_step(&mut self, cx: &mut Context<'_>) -> Option<Poll<Self::Output>> {
         if self.take_in_hand() {
             return None;

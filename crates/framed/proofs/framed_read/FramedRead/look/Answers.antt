@@ -1,7 +1,8 @@
 use Rattle.std.specs.Prelude.{◌≡◌, []}
 use Rattle.std.proofs.Common.{rules}
 use Rattle.framed.specs.Uses.{Pending, Ready}
-use Rattle.framed.proofs.Steps.{looked_all, looked_on, none_shown}
+use Rattle.lent_frames.proofs.Shown.{none_shown}
+use Rattle.framed.proofs.Steps.{looked_all, looked_on}
 use Rattle.framed.proofs.framed_read.FramedRead.look.Goals as goal
 
 pub returns-in-Ready : goal.returns-in-Ready

@@ -1,7 +1,8 @@
 use Rattle.std.specs.Prelude.{◌≡◌, Err, Ok, false, true}
 use Rattle.std.proofs.Common.{rules}
 use Rattle.framed.specs.Uses.{Pending, Ready}
-use Rattle.framed.proofs.Steps.{answered, at_end, failed, no_mark, none_shown, pended, some_shown, took}
+use Rattle.lent_frames.proofs.Shown.{no_mark, none_shown, some_shown}
+use Rattle.framed.proofs.Steps.{answered, at_end, failed, pended, took}
 use Rattle.framed.proofs.framed_read.FramedReadPollSteps.poll_step.Goals as goal
 
 pub returns-in-Ready-Ok-true-clause-stepped : goal.returns-in-Ready-Ok-true-clause-stepped
