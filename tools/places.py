@@ -117,8 +117,6 @@ NO_CASE = {
     *"encode_all send send_all".split(),
     # They do what `AsyncAsSync::read`, `read_hexadecimal` and `poll_read_vectored` do.
     *"poll_with read_decimal read_vectored".split(),
-    # Not measured yet.
-    "wait_serving",
     # Calls and checks of journals, which tests alone make.
     *"drive history split_journalled step_close step_flush step_read step_write".split(),
 }

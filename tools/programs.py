@@ -37,7 +37,7 @@ FAULTS = f"{TOP}/tools/faults.c"
 REPLAY, BENCH = "replay", "bench"
 BESIDE = {
     REPLAY: "replay: framed futures_lite lite_mock bytes futures itoa rand_core tokio_util",
-    BENCH: "bench may_wait=25: framed futures_lite futures bytes tokio_util rand_core rand_pcg",
+    BENCH: "bench may_wait=26: serving framed futures_lite futures bytes tokio_util rand_core rand_pcg",
 }
 # A program that no tool ran for so many seconds is removed.
 KEPT_FOR = 3 * 24 * 3600

@@ -22,7 +22,7 @@ NOISE = (
     "read_to_end copy journal half"
 ).split()
 TEXT = (
-    "lines split read_until read_line read_line_growing read_exact served_lines wait_read wait_read_exact wait_read_until wait_read_until_limited"
+    "lines split read_until read_line read_line_growing read_exact served_lines wait_serving wait_read wait_read_exact wait_read_until wait_read_until_limited"
 ).split()
 MADE = {
     **dict.fromkeys(NOISE, ("made_noise", 1)),
@@ -43,7 +43,7 @@ LARGE = {
     **dict.fromkeys(("nest_of_eight", "collect", "or_streams", "race_streams"), ITEMS),
     **dict.fromkeys(("lines", "split"), LINES),
     **dict.fromkeys(("copy", "read_to_end", "read_to_string"), BYTES),
-    **dict.fromkeys(("values", "collect_frames", "served_lines"), ITEMS),
+    **dict.fromkeys(("values", "collect_frames", "served_lines", "wait_serving"), ITEMS),
 }
 OVER_STD = {it: f"std_{it}" for it in ("lines", "split", "copy", "read_to_end", "read_to_string")}
 # The plot has ratios from the least to the most; what is beyond is drawn at its edge.

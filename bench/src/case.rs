@@ -118,6 +118,7 @@ where
         "values_by_hand" => codecs::values_by_hand(alloc, cx, n),
         "take_body" => codecs::chunks(alloc, n),
         "served_lines" => codecs::served_lines(rt, n),
+        "wait_serving" => codecs::served_lent_lines(rt, n),
         "journal" => journals::journal(alloc, cx, n),
         "size_of" => sizes::size_of_nest(alloc, n),
         "half" => journals::half(*rt, cx, n),

@@ -46,6 +46,7 @@ const NUMBERS: [(&str, u64, u64); 69] = [
     ("poll_advance", 1000, 16000),
     ("take_body", 1000, 16000),
     ("served_lines", 1000, 16000),
+    ("wait_serving", 1000, 16000),
     ("split", 6, 90),
     ("read_until", 6, 96),
     ("read_line", 6, 96),

@@ -6,12 +6,13 @@ use crate::fault::Fault;
 use crate::texts::{repeated, text};
 use bytes::BytesMut;
 use framed::{
-    Answer, Delimiter, FrameError, FramedRead, Frames, LengthDelimited, LineDelimited, Service,
-    find_delimiter, read_hexadecimal, serve, strip_return, take_body,
+    Answer, CutError, Delimiter, FrameError, FramedRead, Frames, FramesError, LengthDelimited,
+    LineDelimited, Service, find_delimiter, read_hexadecimal, serve, strip_return, take_body,
 };
 use futures_lite::future::BlockOn;
 use futures_lite::io::AsyncReadExt;
 use futures_lite::{Context, Future, Poll, StreamExt};
+use serving::{Responder, Serving, wait_serving};
 use std::alloc::{AllocError, AllocGlobal, Global};
 use std::random::RandomSource;
 use std::sync::Wait;
@@ -140,6 +141,44 @@ where
     let mut encoder = LineDelimited { max: LINE };
     match serve(&mut on, rt, &mut requests, &mut replies, &mut encoder, &mut Echo) {
         Ok(()) => Ok(replies.len() as u64),
+        Err(_refused) => Err(Fault::Memory),
+    }
+}
+
+impl Responder for Echo {
+    ghost use Rattle.std.specs.Prelude.{◌∷◌, ◌++◌, [], true};
+    ghost use Rattle.framed.specs.Services.{RefusesBy, RepliesBy};
+
+    type Error = CutError;
+
+    ghost answers = { RepliesBy (λ line. (line ++ 10 ∷ [], true)) };
+
+    ghost refuses = { RefusesBy (λ s. s) (λ _. []) };
+
+    fn answer(&mut self, line: &[u8], out: &mut Vec<u8>) -> Result<bool, AllocError> {
+        out.extend_from_slice(line)?;
+        out.push(b'\n')?;
+        Ok(true)
+    }
+
+    fn refuse(&mut self, _: &FramesError<CutError>, _: &mut Vec<u8>) -> Result<(), AllocError> {
+        Ok(())
+    }
+}
+
+/// As `served_lines`, each line lent from the bytes.
+#[inline(never)]
+pub(crate) fn served_lent_lines<R>(rt: &R, n: u64) -> Result<u64, Fault>
+where
+    R: Wait + RandomSource + AllocGlobal,
+{
+    let bytes = text(rt.alloc(), n)?;
+    let replies = Vec::with_capacity(rt.alloc(), blocks_len(n)? as usize)?;
+    let lines = LineDelimited { max: LINE };
+    let mut serving = Serving::new(rt.alloc(), bytes.as_slice(), lines, replies, Echo);
+    let mut on = BlockOn::new(rt)?;
+    match wait_serving(&mut on, rt, &mut serving) {
+        Ok(()) => Ok(serving.into_parts().replies.len() as u64),
         Err(_refused) => Err(Fault::Memory),
     }
 }

@@ -118,7 +118,7 @@ fn computed_of_others(cx: &mut Context<'_>, name: &str, n: u64) -> Option<u64> {
         "values" | "values_by_hand" => codecs::values_by_hand(cx, n),
         "poll_advance" => codecs::lent_values(cx, n),
         "take_body" => codecs::chunks(n),
-        "served_lines" => codecs::served_lines(n),
+        "served_lines" | "wait_serving" => codecs::served_lines(n),
         "journal" => journals::journal(cx, n),
         "half" => journals::half(cx, n),
         "size_of" => sizes::size_of_nest(n),

@@ -1,6 +1,7 @@
 //! Where the first delimiter is.
-ghost use Rattle.std.specs.Prelude.{◌≤◌, length, take};
+ghost use Rattle.std.specs.Prelude.{◌≡◌, ◌≤◌, ◌<◌, length, take};
 ghost use Rattle.framed.specs.Heads.{FindsDelimiter, FirstAt, HasNo};
+ghost use Rattle.framed.specs.declared.delimiter.Delimiter.TheVariants.{Missing, TooFar};
 
 use memchr::memchr;
 
@@ -72,8 +73,22 @@ pub fn find_delimiter_behind(bytes: &[u8], delimiter: u8, max: usize, seen: usiz
     let seen = seen.min(searched);
     match first_at(&bytes[seen..searched], delimiter) {
         Some(at) => Delimiter::At(seen + at),
-        None if searched > max => Delimiter::TooFar,
-        None => Delimiter::Missing,
+        None => not_among(searched, max),
+    }
+}
+
+// Returns what it means that there is no delimiter among the bytes searched. It is a call of its own so that a caller
+// which finds one branches once.
+#[cold]
+#[inline(never)]
+fn not_among(searched: usize, max: usize) -> Delimiter
+    ensures too_far { max < searched → result ≡ TooFar }
+    ensures missing { searched ≤ max → result ≡ Missing }
+{
+    if searched > max {
+        Delimiter::TooFar
+    } else {
+        Delimiter::Missing
     }
 }
 

@@ -1,5 +1,6 @@
-use Rattle.std.specs.Prelude.{◌≤◌, drop, length, take}
-use Rattle.std.proofs.Common.{arith, length-take-le, rules, sym, take-append-drop, ◌≡◌, ◌+◌, ◌∙◌}
+use Rattle.std.specs.Prelude.{◌≡◌, ◌≤◌, drop, length, take}
+use Rattle.std.proofs.Common.{arith, inl, inr, length-take-le, rules, sym, take-append-drop, ◌+◌, ◌∙◌}
+use Rattle.std.proofs.lemmas.Bool.{cases_lt}
 use Rattle.std.proofs.lemmas.List.{take_all}
 use Rattle.framed.proofs.Heads.{first_behind, found_within, none_behind}
 use Rattle.framed.proofs.delimiter.find_delimiter_behind.Goals as goal
@@ -18,17 +19,13 @@ returns-in-None c =
     let xs = c.args.bytes.now in
     let n = c.min-searched.result in
     let within : n ≤ length xs = search rules in
-    let is : n ≡ c.args.max + 1 = search rules in
     let none = none_behind c.args.delimiter c.args.seen c.min-seen.result n xs c.requires.none (search rules) (search rules) within
     (rw c.in-None.is at c.first_at.ensures) in
-    (take n xs, drop n xs, length-take-le n xs within ∙ is, none, sym (take-append-drop n xs))
-
-pub returns-in-None-2 : goal.returns-in-None-2
-returns-in-None-2 c =
-    let xs = c.args.bytes.now in
-    let n = c.min-searched.result in
-    let all : length xs ≤ n = search rules in
-    let low : n ≤ c.args.max = search rules in
-    let none = none_behind c.args.delimiter c.args.seen c.min-seen.result n xs c.requires.none (search rules) (search rules) (search rules)
-    (rw c.in-None-2.is at c.first_at.ensures) in
-    (rw (take_all n xs all) at none, omega (arith, all, low))
+    elim (cases_lt c.args.max n) [
+      | inl over ↦
+          let is : n ≡ c.args.max + 1 = search (rules, over) in
+          rw (c.not_among.ensures.too_far over) (take n xs, drop n xs, length-take-le n xs within ∙ is, none, sym (take-append-drop n xs))
+      | inr low ↦
+          let all : length xs ≤ n = search (rules, low) in
+          rw (c.not_among.ensures.missing low) (rw (take_all n xs all) at none, omega (arith, all, low))
+    ]
