@@ -4,6 +4,21 @@ use Rattle.std.specs.Prelude.{◌≡◌, ◌⊎◌, ◌+◌, List, ◌∷◌, �
 use Rattle.lite_merge.specs.Uses.{Ready, Pending, Lasting, Answer, item, Ranks, Runs, Fuses, Fuse}
 use Rattle.lite_base.specs.Segments.{Rows}
 
+-- A stream, and whether it has ended.
+abbrev pub fused : {S : Type 0} → S → Bool → Fuse S
+fused s d = record { stream = s; done = d }
+
+-- What a contract sees of an `or`: its streams, each with whether it has ended.
+pub record BothFused (S U : Type 0) : Type 0 where
+  pub stream1 : Fuse S
+  pub stream2 : Fuse U
+
+-- What a contract sees of a `race`: its streams, each with whether it has ended, and its generator.
+pub record BothRaced (S U R : Type 0) : Type 0 where
+  pub stream1 : Fuse S
+  pub stream2 : Fuse U
+  pub rng : R
+
 -- The result of a row in which one stream is pending and the other returns this: its item, or `Pending`, also if it has
 -- ended.
 abbrev pub beside_pending : {A : Type 0} → Answer A → Answer A

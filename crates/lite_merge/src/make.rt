@@ -11,7 +11,6 @@ use crate::race::Race;
 use crate::stop_after_future::{StopAfterFuture, Stopping};
 use crate::zip::Zip;
 use lite_base::{Future, Stream};
-use lite_stream::make::fuse;
 use rand_core::{Rng, SeedableRng};
 use rand_pcg::Pcg32;
 
@@ -36,10 +35,7 @@ where
       stream2 = record { stream = stream2; done = false };
     } }
 {
-    Or {
-        stream1: fuse(stream1),
-        stream2: fuse(stream2),
-    }
+    Or::new(stream1, stream2)
 }
 
 /// Returns a stream that yields the items of both streams as they come, with neither preferred.
@@ -54,11 +50,7 @@ where
       rng = rng;
     } }
 {
-    Race {
-        stream1: fuse(stream1),
-        stream2: fuse(stream2),
-        rng,
-    }
+    Race::new(stream1, stream2, rng)
 }
 
 /// Returns the stream that [`race`] returns, with a generator that is made from `seed`.

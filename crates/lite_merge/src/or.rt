@@ -1,23 +1,47 @@
-ghost use Rattle.std.specs.Prelude.{None};
+ghost use Rattle.std.specs.Prelude.{◌≡◌, None, false};
 ghost use Rattle.lite_merge.specs.Uses.{NoHint, ok_counting};
 ghost use Rattle.lite_merge.specs.Laws.Or.{or_calm, or_counting, or_laws, or_arms};
-ghost use Rattle.lite_merge.specs.Merge.{MergeRegisters};
+ghost use Rattle.lite_merge.specs.Merge.{MergeRegisters, fused};
 ghost use Rattle.lite_merge.specs.Or.{Ors, or_ranks};
 
 use crate::picks::poll_in_order;
 use lite_base::{ArmedStream, CalmStream, Context, Counted, OkCounted, Poll, Stream};
-use lite_stream::Fuse;
+use std::marker::Model;
 
 /// A stream that yields the items of two streams as they come, and prefers the first.
 ///
 /// Returned by [`or`](crate::make::or). Each poll polls the first stream, unless that has ended. If this
 /// gives no item, the poll then polls the second stream, unless that has ended. If neither gives an item, the
 /// poll returns an end if both streams have ended, and `Pending` otherwise. After that end this stream ends
-/// for ever. Both streams are dropped with it, and not before.
+/// for ever. Both streams are dropped with it, and not before. A contract sees each stream as a `Fuse`.
 #[derive(Clone, Debug, Drop)]
 pub struct Or<S1, S2> {
-    pub(crate) stream1: Fuse<S1>,
-    pub(crate) stream2: Fuse<S2>,
+    stream1: S1,
+    stream2: S2,
+    // Whether each has ended. The two share a word, which two `Fuse`s would not.
+    has_ended1: bool,
+    has_ended2: bool,
+}
+
+impl<S1, S2> Model for Or<S1, S2> {
+    ghost use Rattle.lite_merge.specs.Merge.{BothFused, fused};
+
+    ghost Value = { BothFused S1 S2 };
+
+    ghost view = { λ m. record { stream1 = fused m.stream1 m.has_ended1; stream2 = fused m.stream2 m.has_ended2 } };
+}
+
+impl<S1, S2> Or<S1, S2> {
+    pub(crate) fn new(stream1: S1, stream2: S2) -> Or<S1, S2>
+        ensures { result ≡ record { stream1 = fused stream1 false; stream2 = fused stream2 false } }
+    {
+        Or {
+            stream1,
+            stream2,
+            has_ended1: false,
+            has_ended2: false,
+        }
+    }
 }
 
 impl<S1: Stream, S2: Stream<Item = S1::Item>> Stream for Or<S1, S2> {
@@ -34,7 +58,13 @@ impl<S1: Stream, S2: Stream<Item = S1::Item>> Stream for Or<S1, S2> {
     ghost laws = { or_laws S1.laws S2.laws };
 
     fn poll_next(&mut self, cx: &mut Context<'_>) -> Poll<Option<S1::Item>> {
-        poll_in_order(&mut self.stream1, &mut self.stream2, cx)
+        poll_in_order(
+            &mut self.stream1,
+            &mut self.has_ended1,
+            &mut self.stream2,
+            &mut self.has_ended2,
+            cx,
+        )
     }
 
     fn size_hint(&self) -> (usize, Option<usize>) {

@@ -1,13 +1,13 @@
-ghost use Rattle.std.specs.Prelude.{None};
+ghost use Rattle.std.specs.Prelude.{◌≡◌, None, false};
 ghost use Rattle.lite_merge.specs.Uses.{NoHint, ok_counting};
 ghost use Rattle.lite_merge.specs.Laws.Race.{race_calm, race_counting, race_laws, race_arms};
-ghost use Rattle.lite_merge.specs.Merge.{MergeRegisters};
+ghost use Rattle.lite_merge.specs.Merge.{MergeRegisters, fused};
 ghost use Rattle.lite_merge.specs.Race.{RacesOn, race_ranks};
 
 use crate::picks::poll_in_order;
 use lite_base::{ArmedStream, CalmStream, Context, Counted, OkCounted, Poll, Stream};
-use lite_stream::Fuse;
 use rand_core::Rng;
+use std::marker::Model;
 
 /// A stream that yields the items of two streams as they come, with neither preferred.
 ///
@@ -16,12 +16,42 @@ use rand_core::Rng;
 /// first, otherwise the second. If this gives no item, it then polls the other stream. A stream that has
 /// ended is not polled. If neither gives an item, the poll returns an end if both streams have ended, and
 /// `Pending` otherwise. After that end this stream ends for ever. Both streams are dropped with it, and not
-/// before. It is `Counted` if both streams are; its `ranks.counts` then requires `ranks.firm` of both.
+/// before. It is `Counted` if both streams are; its `ranks.counts` then requires `ranks.firm` of both. A
+/// contract sees each stream as a `Fuse`.
 #[derive(Clone, Debug, Drop)]
 pub struct Race<S1, S2, R> {
-    pub(crate) stream1: Fuse<S1>,
-    pub(crate) stream2: Fuse<S2>,
-    pub(crate) rng: R,
+    stream1: S1,
+    stream2: S2,
+    rng: R,
+    // Whether each stream has ended. The two share a word, which two `Fuse`s would not.
+    has_ended1: bool,
+    has_ended2: bool,
+}
+
+impl<S1, S2, R> Model for Race<S1, S2, R> {
+    ghost use Rattle.lite_merge.specs.Merge.{BothRaced, fused};
+
+    ghost Value = { BothRaced S1 S2 R };
+
+    ghost view = { λ m. record {
+      stream1 = fused m.stream1 m.has_ended1;
+      stream2 = fused m.stream2 m.has_ended2;
+      rng = m.rng;
+    } };
+}
+
+impl<S1, S2, R> Race<S1, S2, R> {
+    pub(crate) fn new(stream1: S1, stream2: S2, rng: R) -> Race<S1, S2, R>
+        ensures { result ≡ record { stream1 = fused stream1 false; stream2 = fused stream2 false; rng = rng } }
+    {
+        Race {
+            stream1,
+            stream2,
+            rng,
+            has_ended1: false,
+            has_ended2: false,
+        }
+    }
 }
 
 impl<S1: Stream, S2: Stream<Item = S1::Item>, R: Rng> Stream for Race<S1, S2, R> {
@@ -39,9 +69,21 @@ impl<S1: Stream, S2: Stream<Item = S1::Item>, R: Rng> Stream for Race<S1, S2, R>
 
     fn poll_next(&mut self, cx: &mut Context<'_>) -> Poll<Option<S1::Item>> {
         if self.rng.next_u32() % 2 == 1 {
-            poll_in_order(&mut self.stream1, &mut self.stream2, cx)
+            poll_in_order(
+                &mut self.stream1,
+                &mut self.has_ended1,
+                &mut self.stream2,
+                &mut self.has_ended2,
+                cx,
+            )
         } else {
-            poll_in_order(&mut self.stream2, &mut self.stream1, cx)
+            poll_in_order(
+                &mut self.stream2,
+                &mut self.has_ended2,
+                &mut self.stream1,
+                &mut self.has_ended1,
+                cx,
+            )
         }
     }
 

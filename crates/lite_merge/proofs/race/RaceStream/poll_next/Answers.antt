@@ -6,6 +6,7 @@ use Rattle.lite_merge.proofs.race.RaceStream.poll_next.Goals as goal
 
 pub returns-then-next_u32-eq1-clause-ran : goal.returns-then-next_u32-eq1-clause-ran
 returns-then-next_u32-eq1-clause-ran g c =
+    rw (← c.self.view_is)
     let r = c.poll_in_order.ensures.row in
     let rows = drawn_first MergeRow _ c.if-next_u32-eq1.true r.4 in
     record {
@@ -16,6 +17,7 @@ returns-then-next_u32-eq1-clause-ran g c =
 
 pub returns-else-next_u32-eq1-clause-ran : goal.returns-else-next_u32-eq1-clause-ran
 returns-else-next_u32-eq1-clause-ran g c =
+    rw (← c.self.view_is)
     let r = c.poll_in_order-else-next_u32-eq1.ensures.row in
     let rows = drawn_second MergeRow _ c.if-next_u32-eq1.false r.4 in
     record {
