@@ -207,7 +207,10 @@ fn what_was_written_is_flushed_if_memory_is_refused(rt: HostRuntime) -> Result<(
         &mut Echo::new(),
     );
     drop(writer);
-    assert!(rt; matches!(served, Err(HttpError::Memory)), "memory is not refused");
+    assert!(rt;
+        matches!(served, Err(HttpError::Memory)),
+        "memory is not refused"
+    );
     assert_eq!(rt; taken.taken(), b"before".as_slice());
     Ok(())
 }
