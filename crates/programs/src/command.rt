@@ -96,20 +96,27 @@ fn alone<R: Eprint>(rt: &R, name: &str, command: &Command) -> Result<(), ExitCod
 fn read_words<R: Env + AllocGlobal>(rt: &R) -> io::Result<Asked>
     ensures { IfOk result HasOthers }
 {
-    asked_by(rt.alloc(), env::args(rt)?)
+    asked_by(rt.alloc(), behind_name(env::args(rt)?))
 }
 
-// Returns what all words of a process ask for, of which the first is the name of the program.
-fn asked_by(alloc: Global, mut all: Args) -> io::Result<Asked>
-    ensures asks { IfOk result (AsksFor (drop 1 all.rest.items)) }
+// Returns the words behind the first, which is the name of the program.
+fn behind_name(mut all: Args) -> Args
+    ensures { result.rest.items ≡ drop 1 all.rest.items }
+{
+    let _ = all.next();
+    all
+}
+
+// Returns what the words ask for.
+fn asked_by(alloc: Global, words: Args) -> io::Result<Asked>
+    ensures asks { IfOk result (AsksFor words.rest.items) }
     ensures others { IfOk result HasOthers }
 {
     let mut command = Command {
         words: Vec::new(alloc),
         quiet: false,
     };
-    let _ = all.next();
-    for word in all {
+    for word in words {
         match word.as_str() {
             "--help" => return Ok(Asked::Help),
             "--quiet" => command.quiet = true,
