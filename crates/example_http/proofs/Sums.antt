@@ -283,8 +283,11 @@ module _ {T O S : Type 0} (config : Config) (reads : Runs ReadMark T) (buffer_of
     subst (λ t. StandsFirst t (output k)) (sym (sent_both _ _ a.took b.took sent)) h.0,
     fails_later a.took b.took e fine h.1,
   )
-  written_later x m k a b (Err Memory) sent fine h =
-      ((h.0.0 ∙ sym (sent_both _ _ a.took b.took sent), h.0.1), fine_both a.took b.took fine h.1)
+  written_later x m k a b (Err Memory) sent fine h = (
+    (h.0.0 ∙ sym (sent_both _ _ a.took b.took sent), h.0.1),
+    fine_both a.took b.took fine h.1,
+    ends_later a.took b.took h.2,
+  )
 
   pub whole_later : (x m y : HttpSession T O S) (a b : Moved) (r : Result (Unit {0}) HttpError) → Sums x a m
       → WholeSession config reads writes answers m b r y → WholeSession config reads writes answers x (both a b) r y
@@ -350,7 +353,7 @@ module _ {T O S : Type 0} (config : Config) (reads : Runs ReadMark T) (buffer_of
       let pending = no_length m.history.pending done.1 in
       ended m y moved (Err Memory) served same service (inl (tells_nothing m.history.ended moved.told none))
       (read_nothing m.reader y.reader moved.told none reader) f.0
-      (nothing_sent m.history moved.took pending f.2, flush_fine moved.took f.1)
+      (nothing_sent m.history moved.took pending f.2, flush_fine moved.took f.1, flush_last moved.took f.1)
 
   memory_tells : (was : Bool) (l : List ReadMark) → was ≡ false → (l ≡ []) ⊎ (l ≡ ReadMark.end ∷ [])
       → ReadAt was was [] l (Err Memory)
@@ -383,10 +386,9 @@ module _ {T O S : Type 0} (config : Config) (reads : Runs ReadMark T) (buffer_of
       ended m y moved (Err (Output e)) served same service (tells_nothing m.history.ended moved.told none)
       (read_nothing m.reader y.reader moved.told none reader)
       f.0 (front_none m.history moved.took f.2, only_fails moved.took e f.1)
-  more_failed m y moved Memory unseen served (waits, (first, told, one, same), service) =
-      let f = first_wrote m.reader m.writer y.writer moved.took first in
+  more_failed m y moved Memory unseen served (waits, (f, told, one, same), service) =
       ended m y moved (Err Memory) served same service (memory_tells m.history.ended moved.told unseen one) told f.0
-      (nothing_sent m.history moved.took waits.1 f.1, f.2)
+      (nothing_sent m.history moved.took waits.1 f.2, flush_fine moved.took f.1, flush_last moved.took f.1)
 
   after_answers : (x m y : HttpSession T O S) (moved : Moved) (r : Result (Unit {0}) HttpError)
       → AnswersGiven config reads buffer_of writes answers x m → WholeAt m moved r y → WholeAt x moved r y

@@ -57,7 +57,7 @@ module _ {T O : Type 0} (reads : Runs ReadMark T) (buffer_of : T → List ℕ) (
   FlushesFirst x w took v = FlushesOutput writes w took (Ok tt) v ⊎ ((buffer_of x ≢ []) × (took ≡ []) × (v ≡ w))
 
   -- More was received: the bytes `xs`, or the end of file if there are none. The writer was flushed before, unless bytes
-  -- had been shown. At an error nothing was received.
+  -- had been shown. At an error nothing was received, and the writer was flushed, or its flush failed.
   abbrev pub ReceivesBytes : T → O → History → Moved → Result (Unit {0}) HttpError → T → O → History → Type 0
   ReceivesBytes x w h moved (Ok u) y v k = (xs : List ℕ) × FlushesFirst x w moved.took v × ToldStripped reads x moved.told y
       × (moved.told ≡ arrived xs) × (k ≡ after_read h xs)
@@ -65,5 +65,5 @@ module _ {T O : Type 0} (reads : Runs ReadMark T) (buffer_of : T → List ℕ) (
       × (moved.told ≡ ReadMark.fault (error_kind e) ∷ []) × (k ≡ h)
   ReceivesBytes x w h moved (Err (Output e)) y v k =
       FlushesOutput writes w moved.took (Err e) v × (y ≡ x) × (moved.told ≡ []) × (k ≡ h)
-  ReceivesBytes x w h moved (Err Memory) y v k = FlushesFirst x w moved.took v × ToldStripped reads x moved.told y
+  ReceivesBytes x w h moved (Err Memory) y v k = FlushesOutput writes w moved.took (Ok tt) v × ToldStripped reads x moved.told y
       × ((moved.told ≡ []) ⊎ (moved.told ≡ ReadMark.end ∷ [])) × (k ≡ h)

@@ -37,7 +37,7 @@ abbrev pub IsSent : History → List ℕ → History → Type 0
 IsSent h taken k = (k.sent ≡ h.sent ++ taken) × (k.pending ≡ [])
 
 -- What was written when a session ends. At an error of the writer it took a prefix of what there was to send, and the
--- error is its last mark. Else it took all of that, and had no error.
+-- error is its last mark. Else it took all of that, had no error, and was flushed at last.
 abbrev pub WrittenAt : History → Moved → Result (Unit {0}) HttpError → History → Type 0
 WrittenAt h moved (Ok u) k = IsSent h (bytes_taken moved.took) k × WritesAndFlushes moved.took × EndsFlushed moved.took
     × IsDone k × (k.state ≢ Aborted)
@@ -45,6 +45,7 @@ WrittenAt h moved (Err (Input e)) k = IsSent h (bytes_taken moved.took) k × Wri
     × EndsFlushed moved.took
 WrittenAt h moved (Err (Output e)) k = StandsFirst (h.sent ++ bytes_taken moved.took) (output k) × FailsWith moved.took e
 WrittenAt h moved (Err Memory) k = IsSent h (bytes_taken moved.took) k × WritesAndFlushes moved.took
+    × EndsFlushed moved.took
 
 module _ {T O S : Type 0} (config : Config) (reads : Runs ReadMark T) (writes : Runs WriteMark O)
     (answers : S → Request (List ℕ) → Response → S → Type 0) where

@@ -9,6 +9,6 @@ pub enum HttpError {
     /// The writer returned this error. It took a prefix of what there was to write.
     Output(io::Error),
     /// Memory was refused, for received bytes, for a request or for a response. What was written is a prefix of the
-    /// responses.
+    /// responses, and was flushed.
     Memory,
 }

@@ -1,5 +1,5 @@
 //! How bytes move between a connection and its reader and writer.
-ghost use Rattle.std.specs.Prelude.{◌≡◌, ◌<◌, List, IsFalse, length};
+ghost use Rattle.std.specs.Prelude.{◌≡◌, ◌≢◌, ◌<◌, List, [], IsFalse, length};
 ghost use Rattle.http_server.specs.Connection.{config_of, history};
 ghost use Rattle.futures_lite.specs.Marks.{WriteMark};
 ghost use Rattle.example_http.specs.Moving.{FlushesOutput, Moved, ReceivesBytes, Refills, TakesInput, WritesOutput};
@@ -51,6 +51,8 @@ pub fn flush<R: Wait, O: AsyncWrite>(
 
 /// Moves more of the reader's bytes to the connection. If the reader shows none, it waits until it does, and flushes the
 /// writer before. At end of file the connection gets the end of its input.
+///
+/// At `Input` and `Memory` the writer was flushed, too.
 pub fn read_more<R, T, O>(
     waits: &mut Waits<'_>,
     rt: &R,
@@ -68,10 +70,37 @@ where
     ensures config { config_of connection.new ≡ config_of connection.old }
 {
     if !reader.buffer().is_empty() {
-        return take_in(reader, connection);
+        return take_shown(waits, rt, reader, writer, connection);
     }
     refill(waits, rt, reader, writer)?;
     take_in(reader, connection)
+}
+
+/// Moves bytes that the reader shows to the connection. If memory for them is refused, it flushes the writer.
+fn take_shown<R, T, O>(
+    waits: &mut Waits<'_>,
+    rt: &R,
+    reader: &mut T,
+    writer: &mut O,
+    connection: &mut Connection,
+) -> Result<(), HttpError>
+where
+    R: Wait,
+    T: AsyncBufRead,
+    O: AsyncWrite,
+    requires going { IsFalse (history connection.old).ended }
+    requires shown { T.buffer_of reader.old ≢ [] }
+    ensures received { (moved : Moved) × ReceivesBytes T.reads T.buffer_of O.writes reader.old writer.old (history connection.old)
+        moved result reader.new writer.new (history connection.new) }
+    ensures config { config_of connection.new ≡ config_of connection.old }
+{
+    match take_in(reader, connection) {
+        Ok(()) => Ok(()),
+        Err(refused) => match flush(waits, rt, writer) {
+            Ok(()) => Err(refused),
+            Err(e) => Err(HttpError::Output(e)),
+        },
+    }
 }
 
 /// Flushes the writer, and then waits until the reader shows bytes or is at end of file.

@@ -15,8 +15,8 @@ use std::sync::Wait;
 /// Answers the requests of `reader` by `service` to `writer`, until the connection is done.
 ///
 /// The connection finds the requests in the bytes, calls the service and makes the responses. They are written in the
-/// order of the requests. The writer is flushed before each wait for the reader, and at the end. So no response is held
-/// back while the client waits for it. The call blocks this thread, by `on` and `rt`, and may wait for ever.
+/// order of the requests. The writer is flushed before each wait for the reader, and at the end, also if memory was
+/// refused. So no response is held back while the client waits for it. The call blocks this thread, by `on` and `rt`, and may wait for ever.
 ///
 /// # Errors
 ///

@@ -1,6 +1,6 @@
 //! A whole session.
-ghost use Rattle.std.specs.Prelude.{IfOk};
-ghost use Rattle.example_redis.specs.Session.{Conversed, IsFresh, SessionEnds};
+ghost use Rattle.std.specs.Prelude.{IfErr, IfOk};
+ghost use Rattle.example_redis.specs.Session.{Conversed, IsFresh, SessionEnds, SessionStops};
 
 use crate::error::{ReplyError, RequestError};
 use crate::reply::Replies;
@@ -19,7 +19,8 @@ use std::sync::Wait;
 ///
 /// # Errors
 ///
-/// Those of [`serve`].
+/// Those of [`serve`]. At an error of the input the requests before it were answered in turn. It is why no request came of
+/// the bytes behind them, and the last words to it are written.
 pub fn serve_session<R, T, O>(
     on: &mut BlockOn,
     rt: &R,
@@ -39,6 +40,9 @@ where
         (record { requests = requests.new; replies = writer.new; encoder = encoder.new; service = store.new }) }
     ensures whole { IfOk result (λ u. Conversed T.reads O.writes
         (record { requests = requests.old; replies = writer.old; encoder = encoder.old; service = store.old })
+        (record { requests = requests.new; replies = writer.new; encoder = encoder.new; service = store.new })) }
+    ensures stopped { IfErr result (λ e. SessionStops T.reads O.writes
+        (record { requests = requests.old; replies = writer.old; encoder = encoder.old; service = store.old }) e
         (record { requests = requests.new; replies = writer.new; encoder = encoder.new; service = store.new })) }
 {
     serve(on, rt, requests, writer, encoder, store)

@@ -9,20 +9,23 @@ use Rattle.std.specs.Cmp.Lexicographic.{slice_cmp}
 use Rattle.std.specs.List.{All}
 use Rattle.std.specs.List.Sorted.{IsStrictlySortedBy}
 use Rattle.std.specs.Ordering.{nat_cmp}
-use Rattle.std.specs.Prelude.{Err, Ok, OnOk, Result, count_by, decimal, nat_eq}
+use Rattle.std.specs.Prelude.{Err, IfErr, Ok, OnOk, Result, count_by, decimal, nat_eq}
 use Rattle.futures_lite.specs.Laws.Told.{taken_both, told_follow, told_none}
 use Rattle.futures_lite.specs.Marks.{ReadMark, WriteMark, bytes}
 use Rattle.futures_lite.specs.Own.{MarkLaws, Runs}
 use Rattle.futures_lite.specs.Readers.{ToldStripped, Without}
 use Rattle.example_words.specs.Laws.{counts_append, counts_none, shards_make_whole, total_none}
-use Rattle.example_words.specs.Records.{Counted, TableSoFar, IsTable, counted_records, pending, record_line, record_lines, total_count}
-use Rattle.example_words.specs.Runs.{HasCounted, MapsText, ReadsWholeText, ReadsOneLine, Reduces, StopsAdding}
-use Rattle.example_words.specs.Runs.{StopsCounting, WritesFlushed, WritesText}
+use Rattle.example_words.specs.Records.{Counted, TableSoFar, IsTable, counted_records, held_record, pending, record_line, record_lines, total_count}
+use Rattle.example_words.specs.Runs.{CountStops, FailsToRead, FailsToWrite, HasCounted, MapStops, MapsText, ReadsWholeText, ReadsOneLine}
+use Rattle.example_words.specs.Runs.{ReduceStops, Reduces, StopsAdding, StopsCounting, SumsBefore, WritesFlushed, WritesText}
 use Rattle.example_words.proofs.Refusals.{refused_by}
+use Rattle.example_words.proofs.Taken.{fails_later, fails_sooner, writes_both}
 use Rattle.example_words.specs.Refusals.{RefusedLine, RefusedWords}
 use Rattle.example_words.specs.Words.{WholeLines, occurrences}
 use Rattle.example_words.specs.declared.counts.Counts.{Counts}
 use Rattle.example_words.specs.declared.fault.LineError.{LineError}
+use Rattle.example_words.specs.declared.fault.WordsError.{WordsError}
+use Rattle.example_words.specs.declared.fault.WordsError.TheVariants.{Input, Line, Memory, Output}
 use Rattle.example_words.specs.declared.sum.Sum.{Sum}
 
 module _ {T : Type 0} (reads : Runs ReadMark T) (laws : MarkLaws reads) where
@@ -122,6 +125,16 @@ module _ {T : Type 0} (reads : Runs ReadMark T) (laws : MarkLaws reads) where
     refused = refused_by (total_count (counted_records cs)) (occurrences so_far.text) line so_far.right e refused;
   }
 
+  -- A line was not read.
+  pub counts_unread : (x y z : T) (cs : Counts) (n : ℕ) (e : WordsError) → CountsSoFar reads x cs n y → FailsToRead reads y e z
+      → CountStops reads x e z
+  counts_unread x y z cs n (Input e) so_far (rest, told, leaves) =
+      (so_far.text, rest, told_follow laws x y z (bytes so_far.text) rest so_far.told told, so_far.lines, leaves)
+  counts_unread x y z cs n Memory so_far (rest, told, leaves) =
+      (so_far.text, rest, told_follow laws x y z (bytes so_far.text) rest so_far.told told, so_far.lines, leaves)
+  counts_unread x y z cs n (Output e) so_far (rest, told, leaves) = absurd leaves
+  counts_unread x y z cs n (Line number e) so_far (rest, told, leaves) = absurd leaves
+
   -- The text of the counts was written.
   pub mapped : {O : Type 0} (writes : Runs WriteMark O) (x y : T) (w v : O) (cs : Counts) (text : List ℕ) → HasCounted reads x cs y
       → IsStrictlySortedBy (slice_cmp nat_cmp) (map (λ r. r.0) (counted_records cs)) → text ≡ record_lines (counted_records cs)
@@ -136,7 +149,12 @@ module _ {T : Type 0} (reads : Runs ReadMark T) (laws : MarkLaws reads) where
 
 module _ {O : Type 0} (writes : Runs WriteMark O) (laws : MarkLaws writes) where
   more_wrote : (w u v : O) (p q : List ℕ) → WritesText writes w p u → WritesText writes u q v → WritesText writes w (p ++ q) v
-  more_wrote w u v p q h k = (h.0 ++ k.0, laws.follows w u v h.0 k.0 h.1 k.1, rw (taken_both h.0 k.0, h.2, k.2) refl)
+  more_wrote w u v p q h k = (
+    h.0 ++ k.0,
+    laws.follows w u v h.0 k.0 h.1 k.1,
+    writes_both h.0 k.0 h.2 k.2,
+    rw (taken_both h.0 k.0, h.3, k.3) refl,
+  )
 
   last_wrote : (w u v : O) (p q : List ℕ) → WritesText writes w p u → WritesFlushed writes u q v → WritesFlushed writes w (p ++ q) v
   last_wrote w u v p q h k = record {
@@ -173,6 +191,11 @@ pub on_ok : {A E P Q : Type 0} (r : Result A E) → (P → Q) → OnOk r P → O
 on_ok (Ok x) f h = f h
 on_ok (Err e) f h = tt
 
+-- What follows from a fact about an error.
+pub on_error : {A E : Type 0} {P Q : E → Type 0} (r : Result A E) → ((e : E) → P e → Q e) → IfErr r P → IfErr r Q
+on_error (Ok x) f h = h
+on_error (Err e) f h = f e h
+
 -- Records were read, and the lines of those whose sums are known were written.
 pub record SumsSoFar {T O : Type 0} (reads : Runs ReadMark T) (writes : Runs WriteMark O) (x : T) (w : O) (s : Sum) (n : ℕ) (y : T) (v : O)
     : Type 0 where
@@ -191,7 +214,7 @@ module _ {T O : Type 0} (reads : Runs ReadMark T) (writes : Runs WriteMark O) (l
     told = told_none laws x;
     holds = (rw none empty_table, λ e. refl);
     numbered = refl;
-    wrote = ([], rules.rests w, refl);
+    wrote = ([], rules.rests w, tt, refl);
   }
 
   line_told : (y z : T) (line : List ℕ) (r : Counted) (whole : Bool) → line ≡ record_line r → ReadsOneLine reads y line whole z
@@ -216,19 +239,40 @@ module _ {T O : Type 0} (reads : Runs ReadMark T) (writes : Runs WriteMark O) (l
         (more_wrote writes rules w u v (record_lines so_far.done) (record_lines more) so_far.wrote (rw f at wrote));
   }
 
+  -- What was read and written before `rest` came.
+  abbrev sums_rest : (x y z : T) (w u : O) (s : Sum) (n : ℕ) (rest : List ReadMark) → SumsSoFar reads writes x w s n y u
+      → ToldStripped reads y rest z → SumsBefore reads writes x w rest z u
+  sums_rest x y z w u s n rest so_far told = record {
+    records = so_far.records;
+    done = so_far.done;
+    word = s.word.items;
+    count = s.count;
+    read = told_follow laws x y z (bytes (record_lines so_far.records)) rest so_far.told told;
+    holds = so_far.holds;
+    wrote = so_far.wrote;
+  }
+
   -- A line is refused.
   pub sums_stop : (x y z : T) (w u : O) (s : Sum) (n : ℕ) (line : List ℕ) (whole : Bool) (e : LineError) → SumsSoFar reads writes x w s n y u
-      → ReadsOneLine reads y line whole z → RefusedLine s.word.items s.count line e → StopsAdding reads x (min (n + 1) (2 ^ 64 - 1)) e z
+      → ReadsOneLine reads y line whole z → RefusedLine s.word.items s.count line e
+      → StopsAdding reads writes x w (min (n + 1) (2 ^ 64 - 1)) e z u
   sums_stop x y z w u s n line whole e so_far read refused = record {
-    records = so_far.records;
     line = line;
     whole = whole;
     between = y;
-    before = so_far.told;
+    before = sums_rest x y y w u s n [] so_far (told_none laws y);
     read = read;
     numbered = omega (arith, so_far.numbered);
-    refused = (so_far.done, s.word.items, s.count, so_far.holds, refused);
+    refused = refused;
   }
+
+  -- A line was not read.
+  pub sums_unread : (x y z : T) (w u : O) (s : Sum) (n : ℕ) (e : WordsError) → SumsSoFar reads writes x w s n y u → FailsToRead reads y e z
+      → ReduceStops reads writes x w e z u
+  sums_unread x y z w u s n (Input e) so_far (rest, told, leaves) = (rest, sums_rest x y z w u s n rest so_far told, inl leaves)
+  sums_unread x y z w u s n Memory so_far (rest, told, leaves) = (rest, sums_rest x y z w u s n rest so_far told, inl leaves)
+  sums_unread x y z w u s n (Output e) so_far (rest, told, leaves) = absurd leaves
+  sums_unread x y z w u s n (Line number e) so_far (rest, told, leaves) = absurd leaves
 
   end_told : (y z : T) (line : List ℕ) (whole : Bool) → length line ≡ 0 → ReadsOneLine reads y line whole z → ReadsWholeText reads y [] z
   end_told y z [] true e read = absurd (no_newline read.1.0 read.1.2)
@@ -248,3 +292,57 @@ module _ {T O : Type 0} (reads : Runs ReadMark T) (writes : Runs WriteMark O) (l
         (last_wrote writes rules w u v (record_lines so_far.done) (record_lines (pending s)) so_far.wrote (rw f at written));
     whole = λ shards cut merged. shards_make_whole shards so_far.records (so_far.done ++ pending s) cut merged so_far.holds.0;
   }
+
+  abbrev end_follows : (x y z : T) (w u : O) (s : Sum) (n : ℕ) (line : List ℕ) (whole : Bool) → length line ≡ 0 → SumsSoFar reads writes x w s n y u
+      → ReadsOneLine reads y line whole z → SumsBefore reads writes x w (ReadMark.end ∷ []) z u
+  end_follows x y z w u s n line whole e so_far read =
+      sums_rest x y z w u s n (ReadMark.end ∷ []) so_far (end_told y z line whole e read)
+
+  -- Memory for the last line was refused.
+  pub sums_unmade : (x y z : T) (w u : O) (s : Sum) (n : ℕ) (line : List ℕ) (whole : Bool) → length line ≡ 0 → SumsSoFar reads writes x w s n y u
+      → ReadsOneLine reads y line whole z → ReduceStops reads writes x w Memory z u
+  sums_unmade x y z w u s n line whole e so_far read =
+      (ReadMark.end ∷ [], end_follows x y z w u s n line whole e so_far read, inr (refl, refl))
+
+  -- The output failed with the last line.
+  pub last_unwritten : (x y z : T) (w u v : O) (s : Sum) (n : ℕ) (line text : List ℕ) (whole : Bool) (e : WordsError) → length line ≡ 0
+      → text ≡ record_lines (pending s) → SumsSoFar reads writes x w s n y u → ReadsOneLine reads y line whole z
+      → FailsToWrite writes u text e v → ReduceStops reads writes x w e z v
+  last_unwritten x y z w u v s n line text whole (Output e) none f so_far read failed =
+      let ended = end_follows x y z w u s n line whole none so_far read in (
+        so_far.records,
+        so_far.done ++ pending s,
+        ReadMark.end ∷ [],
+        ended.read,
+        inr refl,
+        so_far.holds.0,
+        rw (lines_both so_far.done (pending s))
+            (fails_later writes rules w u v (record_lines so_far.done) (record_lines (pending s)) e so_far.wrote (rw f at failed)),
+      )
+  last_unwritten x y z w u v s n line text whole (Input e) none f so_far read failed = absurd failed
+  last_unwritten x y z w u v s n line text whole Memory none f so_far read failed = absurd failed
+  last_unwritten x y z w u v s n line text whole (Line number e) none f so_far read failed = absurd failed
+
+  -- The output failed with the lines that a record ends.
+  pub line_unwritten : (x y z : T) (w u v : O) (s t : Sum) (n : ℕ) (line text : List ℕ) (whole : Bool) (r : Counted) (more : List Counted)
+      (e : WordsError) → line ≡ record_line r → text ≡ record_lines more
+      → ((done read : List Counted) → TableSoFar done s.word.items s.count read → TableSoFar (done ++ more) t.word.items t.count (read ++ r ∷ []))
+      → SumsSoFar reads writes x w s n y u → ReadsOneLine reads y line whole z → FailsToWrite writes u text e v
+      → ReduceStops reads writes x w e z v
+  line_unwritten x y z w u v s t n line text whole r more (Output e) one f step so_far read failed =
+      let told : ToldStripped reads x (bytes (record_lines (so_far.records ++ r ∷ []))) z = rw (lines_more so_far.records r)
+      (more_told reads laws x y z (record_lines so_far.records) (record_line r) so_far.told (line_told y z line r whole one read)) in
+      let wrote : FailsToWrite writes w (record_lines (so_far.done ++ more)) (Output e) v = rw (lines_both so_far.done more)
+      (fails_later writes rules w u v (record_lines so_far.done) (record_lines more) e so_far.wrote (rw f at failed)) in (
+        so_far.records ++ r ∷ [],
+        (so_far.done ++ more) ++ held_record t.word.items t.count,
+        [],
+        rw (append-nil (bytes (record_lines (so_far.records ++ r ∷ [])))) told,
+        inl refl,
+        (step so_far.done so_far.records so_far.holds).0,
+        rw (lines_both (so_far.done ++ more) (held_record t.word.items t.count))
+            (fails_sooner writes w v (record_lines (so_far.done ++ more)) (record_lines (held_record t.word.items t.count)) e wrote),
+      )
+  line_unwritten x y z w u v s t n line text whole r more (Input e) one f step so_far read failed = absurd failed
+  line_unwritten x y z w u v s t n line text whole r more Memory one f step so_far read failed = absurd failed
+  line_unwritten x y z w u v s t n line text whole r more (Line number k) one f step so_far read failed = absurd failed

@@ -5,12 +5,10 @@ use Rattle.std.specs.Ordering.{nat_cmp}
 use Rattle.std.specs.Str.Parse.{IsNumeral, digits_value}
 use Rattle.std.specs.declared.cmp.Ordering.TheVariants.{Less}
 use Rattle.futures_lite.specs.Readers.{Without}
-use Rattle.example_words.specs.Records.{Counted, TableSoFar, record_line}
+use Rattle.example_words.specs.Records.{Counted, record_line}
 use Rattle.example_words.specs.Words.{IsWord, occurrences}
 use Rattle.example_words.specs.declared.fault.LineError.{LineError}
 use Rattle.example_words.specs.declared.fault.LineError.TheVariants.{CutOff, Memory, NoCount, NoTab, NoWord, OutOfOrder, TooLarge}
-use Rattle.example_words.specs.declared.fault.WordsError.{WordsError}
-use Rattle.example_words.specs.declared.fault.WordsError.TheVariants.{Line}
 
 -- Why these bytes are no count. `NoCount`: no number above 0 and of at most 64 digits is written so. `TooLarge`: they are
 -- the digits of a number past 64 bits.
@@ -54,12 +52,3 @@ abbrev pub RefusedWords : (List ℕ → ℕ) → List ℕ → LineError → Type
 RefusedWords counted line TooLarge = (word : List ℕ) × (2 ^ 64 ≤ counted word + occurrences line word)
 RefusedWords counted line Memory = (word : List ℕ) × (counted word ≡ 0) × (0 < occurrences line word)
 RefusedWords counted line _ = ⊥
-
--- Why a line is not added to the sums of the records before it. `word` is the last word of their table, and `count` its sum.
-abbrev pub RefusedNext : List Counted → List ℕ → LineError → Type 0
-RefusedNext records line e = (done : List Counted) × (word : List ℕ) × (count : ℕ) × TableSoFar done word count records × RefusedLine word count line e
-
--- The error names no line.
-abbrev pub NamesNoLine : WordsError → Type 0
-NamesNoLine (Line number e) = ⊥
-NamesNoLine _ = ⊤

@@ -1,7 +1,6 @@
 //! Lines of the input.
 ghost use Rattle.std.specs.Prelude.{IfErr, IfOk};
-ghost use Rattle.example_words.specs.Refusals.{NamesNoLine};
-ghost use Rattle.example_words.specs.Runs.{ReadsOneLine};
+ghost use Rattle.example_words.specs.Runs.{FailsToRead, ReadsOneLine};
 
 use crate::fault::WordsError;
 use futures_lite::future::Waits;
@@ -10,6 +9,10 @@ use std::io::ErrorKind;
 use std::sync::Wait;
 
 /// Reads a line into `line`, with its newline. Returns whether it has one; if not, the input ended behind it.
+///
+/// # Errors
+///
+/// `Input` has the reader's error, which came within the line, and `Memory` says that memory for the line was refused.
 pub fn read_line<R, T>(
     waits: &mut Waits<'_>,
     rt: &R,
@@ -21,7 +24,7 @@ where
     T: AsyncBufRead + CountedRead,
     requires counts { T.ranks.counts reader.old }
     ensures read { IfOk result (λ whole. ReadsOneLine T.reads reader.old line.new.items whole reader.new) }
-    ensures failed { IfErr result (λ e. NamesNoLine e) }
+    ensures failed { IfErr result (λ e. FailsToRead T.reads reader.old e reader.new) }
     ensures again { T.ranks.counts reader.new }
 {
     line.clear();
@@ -29,6 +32,6 @@ where
         Ok(Ok(_)) => Ok(line.last() == Some(&b'\n')),
         Ok(Err(e)) if e.kind() == ErrorKind::OutOfMemory => Err(WordsError::Memory),
         Ok(Err(e)) => Err(WordsError::Input(e)),
-        Err(_) => Err(WordsError::Memory),
+        Err(_) => unreachable!(),
     }
 }

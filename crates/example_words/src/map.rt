@@ -1,6 +1,6 @@
 //! Words become counts.
 ghost use Rattle.std.specs.Prelude.{IfErr, IfOk};
-ghost use Rattle.example_words.specs.Runs.{HasCounted, MapStops, MapsText};
+ghost use Rattle.example_words.specs.Runs.{CountStops, HasCounted, MapStops, MapsText};
 
 use crate::counts::Counts;
 use crate::fault::WordsError;
@@ -16,7 +16,8 @@ use std::sync::Wait;
 ///
 /// # Errors
 ///
-/// The input or the output failed, memory was refused, or a count passes 64 bits. The error of a line names the last one read.
+/// The input or the output failed, memory was refused, or a count passes 64 bits (`MapStops`). The error of a line names the
+/// last one read. If the output failed, it took a prefix of the lines. At any other error nothing was written.
 pub fn map<R, T, O>(
     waits: &mut Waits<'_>,
     rt: &R,
@@ -29,7 +30,7 @@ where
     O: AsyncWrite,
     requires counts { T.ranks.counts reader.old }
     ensures written { IfOk result (λ _. MapsText T.reads O.writes reader.old output.old reader.new output.new) }
-    ensures stopped { IfErr result (λ e. MapStops T.reads reader.old e reader.new) }
+    ensures stopped { IfErr result (λ e. MapStops T.reads O.writes reader.old output.old e reader.new output.new) }
 {
     let counts = count_words(waits, rt, reader)?;
     let text = counts.text()?;
@@ -43,7 +44,7 @@ where
     T: AsyncBufRead + CountedRead,
     requires counts { T.ranks.counts reader.old }
     ensures counted { IfOk result (λ counts. HasCounted T.reads reader.old counts reader.new) }
-    ensures stopped { IfErr result (λ e. MapStops T.reads reader.old e reader.new) }
+    ensures stopped { IfErr result (λ e. CountStops T.reads reader.old e reader.new) }
 {
     let mut counts = Counts::new(rt.alloc());
     let mut line = Vec::new(rt.alloc());

@@ -19,7 +19,9 @@ use std::sync::Wait;
 ///
 /// # Errors
 ///
-/// The input or the output failed, memory was refused, or a line was refused. The error of a line names the last one read.
+/// The input or the output failed, memory was refused, or a line was refused (`ReduceStops`). The error of a line names the
+/// last one read. If the output failed, it took a prefix of the lines of the sums. At any other error the sums of all words
+/// but the last were written, and not flushed.
 pub fn reduce<R, T, O>(
     waits: &mut Waits<'_>,
     rt: &R,
@@ -32,7 +34,7 @@ where
     O: AsyncWrite,
     requires counts { T.ranks.counts reader.old }
     ensures written { IfOk result (λ _. Reduces T.reads O.writes reader.old output.old reader.new output.new) }
-    ensures stopped { IfErr result (λ e. ReduceStops T.reads reader.old e reader.new) }
+    ensures stopped { IfErr result (λ e. ReduceStops T.reads O.writes reader.old output.old e reader.new output.new) }
 {
     let mut sum = Sum::new(rt.alloc());
     let mut line = Vec::new(rt.alloc());

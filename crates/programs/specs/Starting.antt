@@ -1,6 +1,7 @@
 -- What the words of a program ask for, and how it starts.
-use Rattle.std.specs.Prelude.{◌≡◌, ◌≢◌, ◌&&◌, ◌==◌, Bool, List, Result, Ok, Err, codes, length, String, not, string_bytes, ⊤}
-use Rattle.std.specs.List.{AllByRecursion}
+use Rattle.std.specs.Prelude.{◌≡◌, ◌≢◌, ◌&&◌, ◌==◌, Bool, true, false, List, Result, Ok, Err, codes, length, String, not, string_bytes, ⊤}
+use Rattle.std.specs.List.{AllByRecursion, filter, list_any}
+use Rattle.std.specs.Str.{bytes_eq}
 use Rattle.std.specs.declared.alloc.Global.{Global}
 use Rattle.std.specs.declared.io.Error.{Error}
 use Rattle.std.specs.declared.process.ExitCode.{ExitCode}
@@ -17,6 +18,20 @@ AreOthers words = AllByRecursion (λ word. (string_bytes word ≢ codes "--quiet
 abbrev pub HasOthers : Asked → Type 0
 HasOthers (Run command) = AreOthers command.words.items
 HasOthers Help = ⊤
+
+-- The word is `--quiet`, or `--help`.
+abbrev pub is_quiet : String Global → Bool
+is_quiet word = bytes_eq (string_bytes word) (codes "--quiet")
+
+abbrev pub is_help : String Global → Bool
+is_help word = bytes_eq (string_bytes word) (codes "--help")
+
+-- What words ask for. If `--help` is among them, it is the usage. If not, it is a run with all of them but `--quiet`, in their order, and it is
+-- quiet if that is among them.
+abbrev pub AsksFor : List (String Global) → Asked → Type 0
+AsksFor words (Run command) = (list_any is_help words ≡ false) × (command.words.items ≡ filter (λ word. not (is_quiet word)) words)
+    × (command.quiet ≡ list_any is_quiet words)
+AsksFor words Help = list_any is_help words ≡ true
 
 -- Words to run with are returned. If the usage is asked for, or the words were not read, the status says so.
 abbrev pub StartsBy : Result Asked Error → Result Command ExitCode → Type 0

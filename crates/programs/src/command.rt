@@ -1,12 +1,12 @@
 //! The words that a program is called with.
-ghost use Rattle.programs.specs.Starting.{AreOthers, HasOthers, StartsBy, has_none};
+ghost use Rattle.programs.specs.Starting.{AreOthers, AsksFor, HasOthers, StartsBy, has_none};
 ghost use Rattle.programs.specs.Statuses.{EndsUnstarted, EndsUnread};
-ghost use Rattle.std.specs.Prelude.{◌≡◌, IfErr, IfOk, false, true};
+ghost use Rattle.std.specs.Prelude.{◌≡◌, IfErr, IfOk, drop, false, true};
 ghost use Rattle.std.specs.Process.{exit_status};
 
 use crate::ending::{failed, help, misused};
-use std::alloc::AllocGlobal;
-use std::env::{self, Env};
+use std::alloc::{AllocGlobal, Global};
+use std::env::{self, Args, Env};
 use std::io::{self, Eprint, ErrorKind, Print};
 use std::process::ExitCode;
 
@@ -96,11 +96,27 @@ fn alone<R: Eprint>(rt: &R, name: &str, command: &Command) -> Result<(), ExitCod
 fn read_words<R: Env + AllocGlobal>(rt: &R) -> io::Result<Asked>
     ensures { IfOk result HasOthers }
 {
+    asked_by(rt.alloc(), behind_name(env::args(rt)?))
+}
+
+// Returns the words behind the first, which is the name of the program.
+fn behind_name(mut all: Args) -> Args
+    ensures { result.rest.items ≡ drop 1 all.rest.items }
+{
+    let _ = all.next();
+    all
+}
+
+// Returns what the words ask for.
+fn asked_by(alloc: Global, words: Args) -> io::Result<Asked>
+    ensures asks { IfOk result (AsksFor words.rest.items) }
+    ensures others { IfOk result HasOthers }
+{
     let mut command = Command {
-        words: Vec::new(rt.alloc()),
+        words: Vec::new(alloc),
         quiet: false,
     };
-    for word in env::args(rt)?.skip(1) {
+    for word in words {
         match word.as_str() {
             "--help" => return Ok(Asked::Help),
             "--quiet" => command.quiet = true,

@@ -2,7 +2,7 @@ use example_http::echo::Echo;
 use example_http::http_error::HttpError;
 use example_http::session::serve_session;
 use futures_lite::future::BlockOn;
-use futures_lite::io::{AsyncWrite, BufReader, BufWriter};
+use futures_lite::io::{AsyncWrite, BufReader, BufWriter, wait_write_all};
 use http_server::Config;
 use lite_mock::{Marks, Order, Takes};
 use std::alloc::AllocGlobal;
@@ -167,5 +167,50 @@ fn nothing_is_answered_behind_a_refusal(rt: HostRuntime) -> Result<(), Fail> {
     let served = serve_told(&rt, told, 4096, &mut writer)?;
     assert!(rt; served.is_ok());
     assert_eq!(rt; writer.taken(), wanted.as_slice());
+    Ok(())
+}
+
+#[test]
+fn a_response_takes_two_writes_at_most(rt: HostRuntime) -> Result<(), Fail> {
+    let (sent, wanted) = first_bytes(&rt, usize::MAX)?;
+    let mut told = Marks::new(rt.alloc());
+    told.chunk(&sent)?;
+    let mut writer = Takes::new(rt.alloc());
+    for _ in 0..2 * EXCHANGES.len() {
+        writer.order(Order::AtMost(usize::MAX))?;
+    }
+    writer.order(Order::Fail(ErrorKind::BrokenPipe))?;
+    assert!(rt; serve_told(&rt, told, 4096, &mut writer)?.is_ok());
+    assert_eq!(rt; writer.taken(), wanted.as_slice());
+    Ok(())
+}
+
+#[test]
+fn what_was_written_is_flushed_if_memory_is_refused(rt: HostRuntime) -> Result<(), Fail> {
+    let mut on = BlockOn::new(&rt)?;
+    let mut taken = Takes::new(rt.alloc());
+    let Ok(mut writer) = BufWriter::new(rt.alloc(), &mut taken) else {
+        return Err(Fail::from("no memory"));
+    };
+    wait_write_all(&mut on, &rt, &mut writer, b"before")??;
+    let mut config = Config::default();
+    // No memory has room for such a read.
+    config.read_size = usize::MAX;
+    let keys = RandomState::new(&rt)?;
+    let served = serve_session(
+        &mut on.waits(),
+        &rt,
+        &mut EXCHANGES[1].0.as_bytes(),
+        &mut writer,
+        keys,
+        config,
+        &mut Echo::new(),
+    );
+    drop(writer);
+    assert!(rt;
+        matches!(served, Err(HttpError::Memory)),
+        "memory is not refused"
+    );
+    assert_eq!(rt; taken.taken(), b"before".as_slice());
     Ok(())
 }

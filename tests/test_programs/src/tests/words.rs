@@ -1,4 +1,4 @@
-//! What no clause says: which errors are returned, and that shards give what the whole text gives.
+//! Real texts: what is written, which errors are returned, and that shards give what the whole text gives.
 use example_words::fault::{LineError, WordsError};
 use example_words::map::map;
 use example_words::reduce::reduce;

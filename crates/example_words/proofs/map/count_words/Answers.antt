@@ -1,5 +1,5 @@
-use Rattle.std.proofs.Common.{◌≡◌, false, rules, true}
-use Rattle.example_words.proofs.Runs.{counts_last, counts_line, counts_start, counts_stop}
+use Rattle.std.proofs.Common.{◌≡◌, Err, false, rules, true}
+use Rattle.example_words.proofs.Runs.{counts_last, counts_line, counts_start, counts_stop, counts_unread, on_error}
 use Rattle.example_words.proofs.map.count_words.Goals as goal
 
 pub loop-init : goal.loop-init
@@ -39,3 +39,10 @@ returns-in-Err-clause-stopped g c =
     (counts_stop g.T.ReadSpec.reads g.T.ReadSpec.read_laws c.args.reader.now c.loop.reader c.read_line.new.reader c.loop.counts c.loop.number
     c.read_line.new.line.items c.in_ok-more.more c.in-Err.e c.loop.invariant.3 c.in_ok-more.ensures.read
     (rw c.deref.ensures.value at c.in-Err.ensures.refused))
+
+pub returns-in_err-more-clause-stopped : goal.returns-in_err-more-clause-stopped
+returns-in_err-more-clause-stopped g c =
+    let is : c.from_residual.result ≡ Err c.in_err-more.field-0.0 = search rules in
+    rw is
+    (counts_unread g.T.ReadSpec.reads g.T.ReadSpec.read_laws c.args.reader.now c.loop.reader c.read_line.new.reader c.loop.counts c.loop.number
+    c.in_err-more.field-0.0 c.loop.invariant.3 c.in_err-more.ensures.failed)
