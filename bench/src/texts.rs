@@ -44,7 +44,8 @@ pub(crate) fn narrow_line(alloc: Global, letters: u64) -> Result<Vec<u8>, Fault>
     Ok(line)
 }
 
-/// One line, so many times.
+/// One line, so many times. It is never inlined, so that it costs the same in each case.
+#[inline(never)]
 pub(crate) fn repeated(alloc: Global, line: &[u8], n: u64) -> Result<Vec<u8>, Fault> {
     let mut bytes = Vec::new(alloc);
     for _ in 0..n {

@@ -48,6 +48,7 @@ pub fn narrow_line(letters: u64) -> Vec<u8> {
 }
 
 /// One line, so many times.
+#[inline(never)]
 pub fn repeated(line: &[u8], n: u64) -> Vec<u8> {
     let mut bytes = Vec::new();
     for _ in 0..n {
