@@ -22,7 +22,7 @@ const FOLDS: &[(&str, u64, &[u64])] = &[
 
 /// Cases, their sizes, and their numbers: of texts all bytes that are read, of writers all that are written, of futures
 /// all values.
-const NUMBERS: [(&str, u64, u64); 69] = [
+const NUMBERS: [(&str, u64, u64); 70] = [
     ("made_noise", 600, 600),
     ("made_numbers", 6, 6),
     ("made_text", 6, 96),
