@@ -11,7 +11,7 @@ use Rattle.framed.specs.FrameLaws.{step_keeps}
 use Rattle.framed.specs.Frames.{FrameStep, Framed}
 
 -- A `Pending` behind some marks is one.
-waits_last : (l : List ReadMark) → NoPendingRead (l ++ ReadMark.pending ∷ []) → ⊥
+pub waits_last : (l : List ReadMark) → NoPendingRead (l ++ ReadMark.pending ∷ []) → ⊥
 waits_last [] h = h
 waits_last (ReadMark.pending ∷ l) h = h
 waits_last (_ ∷ l) h = waits_last l h

@@ -10,3 +10,4 @@ pub mod StepLaws
 pub mod Performing
 pub mod Replies
 pub mod ReplyLaws
+pub mod PendingLaws

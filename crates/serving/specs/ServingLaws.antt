@@ -8,8 +8,9 @@ use Rattle.lite_base.specs.FutureLaws.{PolledByCalls}
 use Rattle.lite_base.specs.Laws.Calling.{folds_follow}
 use Rattle.lite_io_base.specs.Laws.Marks.{taken_both}
 use Rattle.lite_write.proofs.Handed.{flushes_both}
-use Rattle.serving.specs.Uses.{FoldsTo, FramesError, LastWords, MarkLaws, Pending, Poll, Ranks, ReadCounting}
-use Rattle.serving.specs.Uses.{ReadMark, Ready, Runs, ServiceStep, WriteMark, WritesAndFlushes, advance_counts, ap}
+use Rattle.lite_base.specs.Answers.{Answer}
+use Rattle.serving.specs.Uses.{Advances, FoldsTo, FramesError, LastWords, Lending, MarkLaws, Pending, Poll, Ranks, ReadCounting}
+use Rattle.serving.specs.Uses.{ReadMark, Ready, Runs, ServiceStep, WriteMark, WritesAndFlushes, ap}
 use Rattle.serving.specs.Uses.{append-nil, arith, bytes_taken, inl, inr, refl, subst, sym, ◌∙◌}
 use Rattle.serving.specs.Serving.{AllSent, EndsByStop, Goes, LastIs, LeavesFlushed, ServesPoll, ServesTurns, ServingEnds, WaitsWithin, side_of, value_of}
 use Rattle.serving.specs.Turns.{Server, ServingTurn, Side, TakesTurn, answered, ended, looked, pended, refused, said_by, said_in, unanswered, unrefused}
@@ -143,30 +144,37 @@ module _ {T C O S E : Type 0} (piece : C → List ℕ → List ℕ → Type 0) (
       by (Refused e) k = (x, Refused e, none, sent, k, refl, same)
       by Lacked k = (x, Lacked, none, sent, k, refl, same)
 
--- Each turn keeps a reader that counts.
+-- Each turn keeps what reads keep of a reader.
 module _ {T C S E : Type 0} (piece : C → List ℕ → List ℕ → Type 0) (refuses : C → List ℕ → E → Type 0) (cut_off : C → List ℕ → E → Type 0)
     (reads : Runs ReadMark T) (buffer_of : T → List ℕ) (answers : ServiceStep S (List ℕ) ℕ) (words : LastWords S (FramesError E) ℕ)
-    {r : Ranks T} (counting : ReadCounting reads r) where
-  turn_counts : (x y : Side T C S E) (turn : ServingTurn E) → r.counts x.requests.reader
-      → TakesTurn piece refuses cut_off reads buffer_of answers words x turn y → r.counts y.requests.reader
-  turn_counts x y looked c (inl (_, wrong, _), _) = cc wrong
-  turn_counts x y looked c (inr (_, xs, (took, _), _), _) = counting.counts_on _ _ _ c took.ran
-  turn_counts x y pended c (h, _) = advance_counts piece refuses cut_off reads buffer_of counting x.requests y.requests _ c h
-  turn_counts x y (answered request said on) c (h, _) = advance_counts piece refuses cut_off reads buffer_of counting x.requests y.requests _ c h.0
-  turn_counts x y (unanswered request) c (h, _) = advance_counts piece refuses cut_off reads buffer_of counting x.requests y.requests _ c h.0
-  turn_counts x y (refused e said) c (h, _) = advance_counts piece refuses cut_off reads buffer_of counting x.requests y.requests _ c h
-  turn_counts x y (unrefused e) c (h, _) = advance_counts piece refuses cut_off reads buffer_of counting x.requests y.requests _ c h
-  turn_counts x y ended c (h, _) = advance_counts piece refuses cut_off reads buffer_of counting x.requests y.requests _ c h
+    (P : T → Type 0) (keeps : (s t : T) (l : List ReadMark) → P s → reads s l t → P t) where
+  advance_keeps : (x y : Lending T C) (a : Answer (Result (Unit {0}) (FramesError E))) → P x.reader
+      → Advances piece refuses cut_off reads buffer_of x a y → P y.reader
+  advance_keeps x y a p (inl (_, _, is)) = rw is p
+  advance_keeps x y a p (inr (_, xs, last, took, _)) = keeps _ _ _ p took.ran
 
-  turns_count : (x y : Side T C S E) (turns : List (ServingTurn E)) → r.counts x.requests.reader
-      → FoldsTo (TakesTurn piece refuses cut_off reads buffer_of answers words) x turns y → r.counts y.requests.reader
-  turns_count x y [] c h = rw (← h) c
-  turns_count x y (turn ∷ turns) c (m, h, more) = turns_count m y turns (turn_counts x m turn c h) more
+  turn_keeps : (x y : Side T C S E) (turn : ServingTurn E) → P x.requests.reader
+      → TakesTurn piece refuses cut_off reads buffer_of answers words x turn y → P y.requests.reader
+  turn_keeps x y looked p (inl (_, wrong, _), _) = cc wrong
+  turn_keeps x y looked p (inr (_, xs, (took, _), _), _) = keeps _ _ _ p took.ran
+  turn_keeps x y pended p (h, _) = advance_keeps x.requests y.requests _ p h
+  turn_keeps x y (answered request said on) p (h, _) = advance_keeps x.requests y.requests _ p h.0
+  turn_keeps x y (unanswered request) p (h, _) = advance_keeps x.requests y.requests _ p h.0
+  turn_keeps x y (refused e said) p (h, _) = advance_keeps x.requests y.requests _ p h
+  turn_keeps x y (unrefused e) p (h, _) = advance_keeps x.requests y.requests _ p h
+  turn_keeps x y ended p (h, _) = advance_keeps x.requests y.requests _ p h
+
+  pub turns_keep : (x y : Side T C S E) (turns : List (ServingTurn E)) → P x.requests.reader
+      → FoldsTo (TakesTurn piece refuses cut_off reads buffer_of answers words) x turns y → P y.requests.reader
+  turns_keep x y [] p h = rw (← h) p
+  turns_keep x y (turn ∷ turns) p (m, h, more) = turns_keep m y turns (turn_keeps x m turn p h) more
 
 module _ {T C O S E : Type 0} {piece : C → List ℕ → List ℕ → Type 0} {refuses : C → List ℕ → E → Type 0} {cut_off : C → List ℕ → E → Type 0}
     {reads : Runs ReadMark T} {buffer_of : T → List ℕ} {writes : Runs WriteMark O} {answers : ServiceStep S (List ℕ) ℕ}
     {words : LastWords S (FramesError E) ℕ} {r : Ranks T} (counting : ReadCounting reads r) where
+  -- Each turn keeps a reader that counts.
   pub serves_counts : {x y : Server T C O S E} {turns : List (ServingTurn E)} {took : List WriteMark} → r.counts x.requests.reader
       → ServesTurns piece refuses cut_off reads buffer_of writes answers words x turns took y → r.counts y.requests.reader
   serves_counts {x} {y} {turns} c h =
-      turns_count piece refuses cut_off reads buffer_of answers words counting (side_of x) (side_of y) turns c h.taken
+      turns_keep piece refuses cut_off reads buffer_of answers words r.counts (λ s t l c came. counting.counts_on _ _ _ c came)
+      (side_of x) (side_of y) turns c h.taken

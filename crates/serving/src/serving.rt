@@ -11,6 +11,7 @@ ghost use Rattle.lite_base.specs.Registered.{Registered};
 ghost use Rattle.lite_io_base.specs.Marks.{bytes};
 ghost use Rattle.lent_frames.specs.Lending.{kept, nowhere, untaken};
 ghost use Rattle.serving.specs.Serving.{AllSent, MayTake, ServesPoll, ServingEnds, ServingRegisters};
+ghost use Rattle.serving.specs.PendingLaws.{serving_arms, serving_calm};
 ghost use Rattle.serving.specs.ServingLaws.{serves_counts};
 ghost use Rattle.serving.specs.ServingSteps.{GoesAhead, PerformsFound, PutsOut, TakesByRead, TakesInHand, serving_rank};
 
@@ -18,8 +19,10 @@ use crate::responder::Responder;
 use crate::serving_error::ServingError;
 use crate::stop::Stop;
 use framed::{Cutter, Frames, FramesError, FramesParts};
-use lite_base::{Context, Future, Poll, PollSteps, drive};
-use lite_io_base::{AsyncBufRead, AsyncWrite, CountedRead};
+use lite_base::{ArmedFuture, CalmFuture, Context, Future, Poll, PollSteps, drive};
+use lite_io_base::{
+    ArmedRead, ArmedWrite, AsyncBufRead, AsyncWrite, CalmRead, CalmWrite, CountedRead,
+};
 use std::alloc::Global;
 use std::io::{self, ErrorKind};
 use std::marker::Model;
@@ -662,6 +665,29 @@ where
     fn poll(&mut self, cx: &mut Context<'_>) -> Poll<Self::Output> {
         drive(self, cx)
     }
+}
+
+// A server is pending only if its reader or its writer is.
+impl<T, C, O, S> CalmFuture for Serving<T, C, O, S>
+where
+    T: AsyncBufRead + CountedRead + CalmRead,
+    C: Cutter,
+    O: CalmWrite,
+    S: Responder<Error = C::Error>,
+{
+    ghost is_calm = { λ x. T.is_calm x.requests.reader × O.is_calm x.replies };
+
+    ghost calm = { serving_calm C.piece C.refuses C.cut_off T.reads T.buffer_of O.writes S.answers S.refuses T.calm O.calm };
+}
+
+impl<T, C, O, S> ArmedFuture for Serving<T, C, O, S>
+where
+    T: AsyncBufRead + CountedRead + ArmedRead,
+    C: Cutter,
+    O: ArmedWrite,
+    S: Responder<Error = C::Error>,
+{
+    ghost armed = { serving_arms C.piece C.refuses C.cut_off T.reads T.buffer_of O.writes S.answers S.refuses T.armed O.armed };
 }
 
 // Drops the first `count` bytes.
