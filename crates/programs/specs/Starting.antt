@@ -19,10 +19,11 @@ abbrev pub HasOthers : Asked → Type 0
 HasOthers (Run command) = AreOthers command.words.items
 HasOthers Help = ⊤
 
--- The word is `--quiet`, or `--help`.
+-- The word asks for no messages.
 abbrev pub is_quiet : String Global → Bool
 is_quiet word = bytes_eq (string_bytes word) (codes "--quiet")
 
+-- The word asks for the usage.
 abbrev pub is_help : String Global → Bool
 is_help word = bytes_eq (string_bytes word) (codes "--help")
 
