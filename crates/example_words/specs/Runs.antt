@@ -27,7 +27,7 @@ LeavesLine (Input e) rest = (error_kind e ≢ OutOfMemory)
 LeavesLine Memory rest = (cut : List ℕ) × Without 10 cut × ((rest ≡ bytes cut) ⊎ (rest ≡ bytes cut ++ ReadMark.fault OutOfMemory ∷ []))
 LeavesLine _ rest = ⊥
 
--- The same, or the end of file came behind the last whole line.
+-- What the reader gave behind the last record: what `LeavesLine` says, or the end of file, if memory for the last sum was refused.
 abbrev pub LeavesLineOrEnd : WordsError → List ReadMark → Type 0
 LeavesLineOrEnd e rest = LeavesLine e rest ⊎ ((e ≡ Memory) × (rest ≡ ReadMark.end ∷ []))
 
