@@ -16,7 +16,7 @@ use Rattle.futures_lite.specs.Own.{MarkLaws, Runs}
 use Rattle.futures_lite.specs.Readers.{ToldStripped, Without}
 use Rattle.example_words.specs.Laws.{counts_append, counts_none, shards_make_whole, total_none}
 use Rattle.example_words.specs.Records.{Counted, TableSoFar, IsTable, counted_records, held_record, pending, record_line, record_lines, total_count}
-use Rattle.example_words.specs.Runs.{CountStops, FailsToRead, FailsToWrite, HasCounted, MapStops, MapsText, ReadsWholeText, ReadsOneLine}
+use Rattle.example_words.specs.Runs.{CountStops, LineUnread, TextUnwritten, HasCounted, MapsText, ReadsWholeText, ReadsOneLine}
 use Rattle.example_words.specs.Runs.{ReduceStops, Reduces, StopsAdding, StopsCounting, SumsBefore, WritesFlushed, WritesText}
 use Rattle.example_words.proofs.Refusals.{refused_by}
 use Rattle.example_words.proofs.Taken.{fails_later, fails_sooner, writes_both}
@@ -126,7 +126,7 @@ module _ {T : Type 0} (reads : Runs ReadMark T) (laws : MarkLaws reads) where
   }
 
   -- A line was not read.
-  pub counts_unread : (x y z : T) (cs : Counts) (n : ℕ) (e : WordsError) → CountsSoFar reads x cs n y → FailsToRead reads y e z
+  pub counts_unread : (x y z : T) (cs : Counts) (n : ℕ) (e : WordsError) → CountsSoFar reads x cs n y → LineUnread reads y e z
       → CountStops reads x e z
   counts_unread x y z cs n (Input e) so_far (rest, told, leaves) =
       (so_far.text, rest, told_follow laws x y z (bytes so_far.text) rest so_far.told told, so_far.lines, leaves)
@@ -267,7 +267,7 @@ module _ {T O : Type 0} (reads : Runs ReadMark T) (writes : Runs WriteMark O) (l
   }
 
   -- A line was not read.
-  pub sums_unread : (x y z : T) (w u : O) (s : Sum) (n : ℕ) (e : WordsError) → SumsSoFar reads writes x w s n y u → FailsToRead reads y e z
+  pub sums_unread : (x y z : T) (w u : O) (s : Sum) (n : ℕ) (e : WordsError) → SumsSoFar reads writes x w s n y u → LineUnread reads y e z
       → ReduceStops reads writes x w e z u
   sums_unread x y z w u s n (Input e) so_far (rest, told, leaves) = (rest, sums_rest x y z w u s n rest so_far told, inl leaves)
   sums_unread x y z w u s n Memory so_far (rest, told, leaves) = (rest, sums_rest x y z w u s n rest so_far told, inl leaves)
@@ -307,7 +307,7 @@ module _ {T O : Type 0} (reads : Runs ReadMark T) (writes : Runs WriteMark O) (l
   -- The output failed with the last line.
   pub last_unwritten : (x y z : T) (w u v : O) (s : Sum) (n : ℕ) (line text : List ℕ) (whole : Bool) (e : WordsError) → length line ≡ 0
       → text ≡ record_lines (pending s) → SumsSoFar reads writes x w s n y u → ReadsOneLine reads y line whole z
-      → FailsToWrite writes u text e v → ReduceStops reads writes x w e z v
+      → TextUnwritten writes u text e v → ReduceStops reads writes x w e z v
   last_unwritten x y z w u v s n line text whole (Output e) none f so_far read failed =
       let ended = end_follows x y z w u s n line whole none so_far read in (
         so_far.records,
@@ -327,12 +327,12 @@ module _ {T O : Type 0} (reads : Runs ReadMark T) (writes : Runs WriteMark O) (l
   pub line_unwritten : (x y z : T) (w u v : O) (s t : Sum) (n : ℕ) (line text : List ℕ) (whole : Bool) (r : Counted) (more : List Counted)
       (e : WordsError) → line ≡ record_line r → text ≡ record_lines more
       → ((done read : List Counted) → TableSoFar done s.word.items s.count read → TableSoFar (done ++ more) t.word.items t.count (read ++ r ∷ []))
-      → SumsSoFar reads writes x w s n y u → ReadsOneLine reads y line whole z → FailsToWrite writes u text e v
+      → SumsSoFar reads writes x w s n y u → ReadsOneLine reads y line whole z → TextUnwritten writes u text e v
       → ReduceStops reads writes x w e z v
   line_unwritten x y z w u v s t n line text whole r more (Output e) one f step so_far read failed =
       let told : ToldStripped reads x (bytes (record_lines (so_far.records ++ r ∷ []))) z = rw (lines_more so_far.records r)
       (more_told reads laws x y z (record_lines so_far.records) (record_line r) so_far.told (line_told y z line r whole one read)) in
-      let wrote : FailsToWrite writes w (record_lines (so_far.done ++ more)) (Output e) v = rw (lines_both so_far.done more)
+      let wrote : TextUnwritten writes w (record_lines (so_far.done ++ more)) (Output e) v = rw (lines_both so_far.done more)
       (fails_later writes rules w u v (record_lines so_far.done) (record_lines more) e so_far.wrote (rw f at failed)) in (
         so_far.records ++ r ∷ [],
         (so_far.done ++ more) ++ held_record t.word.items t.count,

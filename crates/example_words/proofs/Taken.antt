@@ -5,7 +5,7 @@ use Rattle.futures_lite.specs.Laws.Told.{front_follows, front_of_more}
 use Rattle.futures_lite.specs.Marks.{WriteMark, bytes_taken}
 use Rattle.futures_lite.specs.Own.{MarkLaws, Runs}
 use Rattle.futures_lite.specs.Writers.{FailsAfter, FailsBy, OnlyWrites}
-use Rattle.example_words.specs.Runs.{FailsToWrite, WritesText}
+use Rattle.example_words.specs.Runs.{TextUnwritten, WritesText}
 use Rattle.example_words.specs.declared.fault.WordsError.TheVariants.{Output}
 
 pub writes_both : (l m : List WriteMark) → OnlyWrites l → OnlyWrites m → OnlyWrites (l ++ m)
@@ -36,16 +36,16 @@ fails_after b l e p h =
 module _ {O : Type 0} (writes : Runs WriteMark O) where
   -- It failed behind a text.
   pub fails_later : MarkLaws writes → (w u v : O) (p q : List ℕ) (e : Error) → WritesText writes w p u
-      → FailsToWrite writes u q (Output e) v → FailsToWrite writes w (p ++ q) (Output e) v
+      → TextUnwritten writes u q (Output e) v → TextUnwritten writes w (p ++ q) (Output e) v
   fails_later laws w u v p q e h k = (h.0 ++ k.0, front_follows writes laws w u v p q h.0 k.0 h.1 h.3 k.1, fails_after h.0 k.0 e h.2 k.2)
 
   -- A prefix of a text is one of a longer text.
-  pub fails_sooner : (w v : O) (p q : List ℕ) (e : Error) → FailsToWrite writes w p (Output e) v → FailsToWrite writes w (p ++ q) (Output e) v
+  pub fails_sooner : (w v : O) (p q : List ℕ) (e : Error) → TextUnwritten writes w p (Output e) v → TextUnwritten writes w (p ++ q) (Output e) v
   fails_sooner w v p q e h = (h.0, front_of_more writes w v p q h.0 h.1, h.2)
 
   -- The flush behind a text failed.
   pub flush_fails : MarkLaws writes → (w u v : O) (p : List ℕ) (took : List WriteMark) (e : Error) → WritesText writes w p u
-      → writes u took v → bytes_taken took ≡ [] → FailsAfter OnlyWrites took e → FailsToWrite writes w p (Output e) v
+      → writes u took v → bytes_taken took ≡ [] → FailsAfter OnlyWrites took e → TextUnwritten writes w p (Output e) v
   flush_fails laws w u v p took e h ran none failed =
       rw (append-nil p) at
       (fails_later laws w u v p [] e h (took, (ran, ([], sym (append-nil (bytes_taken took) ∙ none))), failed))

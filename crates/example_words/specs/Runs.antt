@@ -1,5 +1,6 @@
 -- What `map` and `reduce` read and write, and where they stop.
-use Rattle.std.specs.Prelude.{◌≡◌, ◌≢◌, ◌⊎◌, ◌<◌, ◌+◌, ◌-◌, ◌^◌, ℕ, Bool, true, false, List, [], ◌∷◌, ◌++◌, count_by, length, min, nat_eq}
+use Rattle.std.specs.Prelude.{◌≡◌, ◌≢◌, ◌⊎◌, ◌<◌, ◌+◌, ◌-◌, ◌^◌, ℕ, Bool, true, false, List, [], ◌∷◌, ◌++◌}
+use Rattle.std.specs.Prelude.{count_by, length, min, nat_eq}
 use Rattle.std.specs.IoError.{error_kind}
 use Rattle.std.specs.declared.io.ErrorKind.TheVariants.{OutOfMemory}
 use Rattle.futures_lite.specs.Marks.{ReadMark, WriteMark, bytes, bytes_taken}
@@ -26,7 +27,7 @@ LeavesLine (Input e) rest = (error_kind e ≢ OutOfMemory)
 LeavesLine Memory rest = (cut : List ℕ) × Without 10 cut × ((rest ≡ bytes cut) ⊎ (rest ≡ bytes cut ++ ReadMark.fault OutOfMemory ∷ []))
 LeavesLine _ rest = ⊥
 
--- The same, or the end of file came behind the last whole line.
+-- What the reader gave behind the last record: what `LeavesLine` says, or the end of file, if memory for the last sum was refused.
 abbrev pub LeavesLineOrEnd : WordsError → List ReadMark → Type 0
 LeavesLineOrEnd e rest = LeavesLine e rest ⊎ ((e ≡ Memory) × (rest ≡ ReadMark.end ∷ []))
 
@@ -48,8 +49,8 @@ module _ {T : Type 0} (reads : Runs ReadMark T) where
     pub right : (word : List ℕ) → total_count (counted_records cs) word ≡ occurrences text word
 
   -- No line was read, for this error.
-  abbrev pub FailsToRead : T → WordsError → T → Type 0
-  FailsToRead x e y = (rest : List ReadMark) × ToldStripped reads x rest y × LeavesLine e rest
+  abbrev pub LineUnread : T → WordsError → T → Type 0
+  LineUnread x e y = (rest : List ReadMark) × ToldStripped reads x rest y × LeavesLine e rest
 
   -- Whole lines were read and counted, and then the line `number`, whose words are refused for `e`.
   pub record StopsCounting (x : T) (number : ℕ) (e : LineError) (y : T) : Type 0 where
@@ -79,9 +80,9 @@ module _ {O : Type 0} (writes : Runs WriteMark O) where
   WritesText w text v = (took : List WriteMark) × writes w took v × OnlyWrites took × (bytes_taken took ≡ text)
 
   -- The writer took a prefix of a text, and then failed with this error.
-  abbrev pub FailsToWrite : O → List ℕ → WordsError → O → Type 0
-  FailsToWrite w text (Output e) v = (took : List WriteMark) × TakesFront writes w text took v × FailsAfter OnlyWrites took e
-  FailsToWrite w text _ v = ⊥
+  abbrev pub TextUnwritten : O → List ℕ → WordsError → O → Type 0
+  TextUnwritten w text (Output e) v = (took : List WriteMark) × TakesFront writes w text took v × FailsAfter OnlyWrites took e
+  TextUnwritten w text _ v = ⊥
 
   -- The writer took just the bytes of a text, and was flushed after them.
   pub record WritesFlushed (w : O) (text : List ℕ) (v : O) : Type 0 where
@@ -96,7 +97,7 @@ module _ {T O : Type 0} (reads : Runs ReadMark T) (writes : Runs WriteMark O) wh
   -- A text was read to its end. The writer took a prefix of the lines of the table of its words, and then failed with this error.
   abbrev pub MapUnwritten : T → O → WordsError → T → O → Type 0
   MapUnwritten x w e y v = (text : List ℕ) × (table : List Counted) × ReadsWholeText reads x text y × IsTable (occurrences text) table
-      × FailsToWrite writes w (record_lines table) e v
+      × TextUnwritten writes w (record_lines table) e v
 
   -- `map` stopped with this error. Unless the output failed, nothing was written. Then a line was refused, or was not read, or
   -- memory for the lines of the table was refused.
@@ -129,7 +130,7 @@ module _ {T O : Type 0} (reads : Runs ReadMark T) (writes : Runs WriteMark O) wh
   abbrev pub ReduceUnwritten : T → O → WordsError → T → O → Type 0
   ReduceUnwritten x w e y v = (records : List Counted) × (table : List Counted) × (rest : List ReadMark)
       × ToldStripped reads x (bytes (record_lines records) ++ rest) y × ((rest ≡ []) ⊎ (rest ≡ ReadMark.end ∷ []))
-      × IsTable (total_count records) table × FailsToWrite writes w (record_lines table) e v
+      × IsTable (total_count records) table × TextUnwritten writes w (record_lines table) e v
 
   -- `reduce` stopped with this error. Unless the output failed, the sums of all words but the last were written. Then a line was
   -- refused, or was not read, or memory for the line of the last word was refused.

@@ -1,6 +1,6 @@
 //! Lines of the input.
 ghost use Rattle.std.specs.Prelude.{IfErr, IfOk};
-ghost use Rattle.example_words.specs.Runs.{FailsToRead, ReadsOneLine};
+ghost use Rattle.example_words.specs.Runs.{LineUnread, ReadsOneLine};
 
 use crate::fault::WordsError;
 use futures_lite::future::Waits;
@@ -24,7 +24,7 @@ where
     T: AsyncBufRead + CountedRead,
     requires counts { T.ranks.counts reader.old }
     ensures read { IfOk result (λ whole. ReadsOneLine T.reads reader.old line.new.items whole reader.new) }
-    ensures failed { IfErr result (λ e. FailsToRead T.reads reader.old e reader.new) }
+    ensures failed { IfErr result (λ e. LineUnread T.reads reader.old e reader.new) }
     ensures again { T.ranks.counts reader.new }
 {
     line.clear();

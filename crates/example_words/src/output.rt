@@ -1,6 +1,6 @@
 //! Text of the output.
 ghost use Rattle.std.specs.Prelude.{IfErr, IfOk};
-ghost use Rattle.example_words.specs.Runs.{FailsToWrite, WritesText, WritesFlushed};
+ghost use Rattle.example_words.specs.Runs.{TextUnwritten, WritesText, WritesFlushed};
 
 use crate::fault::WordsError;
 use futures_lite::AsyncWrite;
@@ -16,7 +16,7 @@ pub fn write<R: Wait, O: AsyncWrite>(
     text: &[u8],
 ) -> Result<(), WordsError>
     ensures written { IfOk result (λ _. WritesText O.writes output.old text.now output.new) }
-    ensures failed { IfErr result (λ e. FailsToWrite O.writes output.old text.now e output.new) }
+    ensures failed { IfErr result (λ e. TextUnwritten O.writes output.old text.now e output.new) }
 {
     match wait_write_all(waits, rt, output, text) {
         Ok(Ok(())) => Ok(()),
@@ -33,7 +33,7 @@ pub fn write_last<R: Wait, O: AsyncWrite>(
     text: &[u8],
 ) -> Result<(), WordsError>
     ensures written { IfOk result (λ _. WritesFlushed O.writes output.old text.now output.new) }
-    ensures failed { IfErr result (λ e. FailsToWrite O.writes output.old text.now e output.new) }
+    ensures failed { IfErr result (λ e. TextUnwritten O.writes output.old text.now e output.new) }
 {
     write(waits, rt, output, text)?;
     match wait_flush(waits, rt, output) {

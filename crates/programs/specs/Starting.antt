@@ -19,15 +19,16 @@ abbrev pub HasOthers : Asked → Type 0
 HasOthers (Run command) = AreOthers command.words.items
 HasOthers Help = ⊤
 
--- The word is `--quiet`, or `--help`.
+-- The word asks for no messages.
 abbrev pub is_quiet : String Global → Bool
 is_quiet word = bytes_eq (string_bytes word) (codes "--quiet")
 
+-- The word asks for the usage.
 abbrev pub is_help : String Global → Bool
 is_help word = bytes_eq (string_bytes word) (codes "--help")
 
--- What words ask for. If `--help` is among them, it is the usage. If not, it is a run with all of them but `--quiet`, in their order, and it is
--- quiet if that is among them.
+-- What words ask for. If `--help` is among them, they ask for the usage. If not, they ask for a run with all of them but `--quiet`, in their
+-- order, which is quiet if that is among them.
 abbrev pub AsksFor : List (String Global) → Asked → Type 0
 AsksFor words (Run command) = (list_any is_help words ≡ false) × (command.words.items ≡ filter (λ word. not (is_quiet word)) words)
     × (command.quiet ≡ list_any is_quiet words)

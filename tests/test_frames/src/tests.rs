@@ -1,2 +1,3 @@
 mod frames;
 mod serving;
+mod texts;

@@ -1,5 +1,5 @@
 use Rattle.std.proofs.Common.{◌≡◌, Err, false, rules, true}
-use Rattle.example_words.proofs.Runs.{counts_last, counts_line, counts_start, counts_stop, counts_unread, on_error}
+use Rattle.example_words.proofs.Runs.{counts_last, counts_line, counts_start, counts_stop, counts_unread}
 use Rattle.example_words.proofs.map.count_words.Goals as goal
 
 pub loop-init : goal.loop-init
