@@ -1,0 +1,42 @@
+//! The bytes of replies.
+ghost use Rattle.std.specs.Prelude.{◌≡◌, ◌++◌, List, OnOk, ℕ};
+ghost use Rattle.example_redis.specs.Commands.{said};
+ghost use Rattle.example_redis.specs.Replies.{line_bytes};
+ghost use Rattle.redis_session.specs.Commands.{said_bytes};
+
+use example_redis::reply::Reply;
+use itoa::Buffer;
+use std::alloc::AllocError;
+
+/// Pushes the bytes of a reply, if there is one. Of an array only its first line, since no command replies items.
+pub fn push_reply(reply: &Option<Reply>, out: &mut Vec<u8>) -> Result<(), AllocError>
+    ensures ok { OnOk result (out.new.items ≡ out.old.items ++ said_bytes (said reply.now)) }
+    ensures behind { (rest : List ℕ) × (out.new.items ≡ out.old.items ++ rest) }
+{
+    match reply {
+        None => Ok(()),
+        Some(Reply::Simple(text)) => push_line(b"+", text.as_bytes(), out),
+        Some(Reply::Error(text)) => push_line(b"-", text, out),
+        Some(Reply::Integer(number)) => {
+            push_line(b":", Buffer::new().format(*number).as_bytes(), out)
+        }
+        Some(Reply::Bulk(bytes)) => {
+            push_line(b"$", Buffer::new().format(bytes.len()).as_bytes(), out)?;
+            push_line(b"", bytes, out)
+        }
+        Some(Reply::Null) => push_line(b"$-1", b"", out),
+        Some(Reply::Array(items)) => {
+            push_line(b"*", Buffer::new().format(items.len()).as_bytes(), out)
+        }
+    }
+}
+
+/// Pushes a line, with its kind before it.
+pub fn push_line(kind: &[u8], text: &[u8], out: &mut Vec<u8>) -> Result<(), AllocError>
+    ensures ok { OnOk result (out.new.items ≡ out.old.items ++ line_bytes kind.now text.now) }
+    ensures behind { (rest : List ℕ) × (out.new.items ≡ out.old.items ++ rest) }
+{
+    out.extend_from_slice(kind)?;
+    out.extend_from_slice(text)?;
+    out.extend_from_slice(b"\r\n")
+}
