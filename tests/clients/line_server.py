@@ -47,13 +47,13 @@ def asked(talk, request, reply):
     agree(talk.hear(len(reply)), reply)
 
 
-def connected(at, count):
+def connected(at, count, request=b"GET nothing\n", reply=b"NONE\n"):
     """Returns so many connections, each of which was served once."""
     talks = []
     while len(talks) < count:
         fresh = [Talk(at.port) for _ in range(min(BURST, count - len(talks)))]
         for talk in fresh:
-            asked(talk, b"GET nothing\n", b"NONE\n")
+            asked(talk, request, reply)
         talks += fresh
     return talks
 

@@ -1,7 +1,7 @@
 //! A request that is an array of bulk strings.
-ghost use Rattle.std.specs.Prelude.{◌≡◌, ◌≢◌, ◌<◌, ◌+◌, IfSome, IsFalse, IsTrue, length, slice_index};
+ghost use Rattle.std.specs.Prelude.{◌≡◌, ◌≢◌, ◌≤◌, ◌<◌, ◌+◌, ◌*◌, IfSome, IsFalse, IsTrue, length, slice_index};
 ghost use Rattle.redis_session.specs.RequestFrames.{FindsRequest};
-ghost use Rattle.redis_session.specs.FoundWords.{FindsWord, FindsWords, FoundWords, NamesRefusal};
+ghost use Rattle.redis_session.specs.FoundWords.{FindsWord, FindsWords, FoundWords, IsLongest, NamesRefusal};
 
 use crate::refusal::Refusal;
 use example_redis::error::RequestError;
@@ -53,8 +53,7 @@ fn find_front(bytes: &[u8], limits: Limits) -> Result<Option<Found>, Refusal>
     requires array { (0 < length bytes.now) × (slice_index bytes.now 0 ≡ 42) }
     ensures { FindsWords limits bytes.now result }
 {
-    let most = limits.words.min(limits.request / EACH);
-    match read_number(&bytes[1..], most) {
+    match read_number(&bytes[1..], most_words(limits)) {
         Number::Whole(number, size) => Ok(Some(Found {
             missing: number as usize,
             room: limits.request as usize,
@@ -66,6 +65,20 @@ fn find_front(bytes: &[u8], limits: Limits) -> Result<Option<Found>, Refusal>
     }
 }
 
+/// Returns how many words an array has at most: those that there is room for, but no more than the limit.
+fn most_words(limits: Limits) -> u32
+    ensures few { result ≤ limits.words }
+    ensures fit { 16 * result ≤ limits.request }
+    ensures most { result < limits.words → limits.request < 16 * (result + 1) }
+{
+    let fitting = limits.request / EACH;
+    if fitting < limits.words {
+        fitting
+    } else {
+        limits.words
+    }
+}
+
 /// Finds the next word.
 fn find_word(bytes: &[u8], limits: Limits, found: Found) -> Result<Option<Found>, Refusal>
     requires some { 0 < found.missing }
@@ -73,32 +86,51 @@ fn find_word(bytes: &[u8], limits: Limits, found: Found) -> Result<Option<Found>
     ensures { FindsWord limits bytes.now found result }
 {
     let spare = (found.room - EACH as usize * found.missing) as u32;
-    let longest = limits.word.min(spare);
+    if spare < limits.word {
+        return find_within(bytes, limits, found, spare, Refusal::LongRequest);
+    }
+    find_within(bytes, limits, found, limits.word, Refusal::LongWord)
+}
+
+/// Finds the next word, which has at most `longest` bytes. A longer one is refused as `above`.
+fn find_within(
+    bytes: &[u8],
+    limits: Limits,
+    found: Found,
+    longest: u32,
+    above: Refusal,
+) -> Result<Option<Found>, Refusal>
+    requires some { 0 < found.missing }
+    requires found { FoundWords limits bytes.now found }
+    requires longest { IsLongest limits found longest above }
+    ensures { FindsWord limits bytes.now found result }
+{
     let narrow = Limits {
         words: limits.words,
         word: longest,
         request: limits.request,
         line: limits.line,
     };
-    match read_word(&bytes[found.at..], narrow, usize::MAX) {
-        Ok(Some(place)) => Ok(Some(Found {
-            missing: found.missing - 1,
-            room: found.room - EACH as usize - place.len,
-            at: found.at + place.start + place.len + 2,
-        })),
-        Ok(None) => Ok(None),
-        Err(error) => Err(refusal(&error, longest < limits.word)),
-    }
+    let read = match read_word(&bytes[found.at..], narrow, usize::MAX) {
+        Ok(read) => read,
+        Err(error) => return Err(refusal(&error, above)),
+    };
+    let Some(place) = read else {
+        return Ok(None);
+    };
+    Ok(Some(Found {
+        missing: found.missing - 1,
+        room: found.room - EACH as usize - place.len,
+        at: found.at + place.start + place.len + 2,
+    }))
 }
 
-/// Returns why a word is refused. `is_narrow` says that it may have fewer bytes than the limit of a word, since the other
-/// words need room.
-fn refusal(error: &RequestError, is_narrow: bool) -> Refusal
-    ensures { NamesRefusal error.now is_narrow result }
+/// Returns why a word is refused: as `above` if it is too long.
+fn refusal(error: &RequestError, above: Refusal) -> Refusal
+    ensures { NamesRefusal error.now above result }
 {
     match error {
-        RequestError::LongWord | RequestError::LongRequest if is_narrow => Refusal::LongRequest,
-        RequestError::LongWord | RequestError::LongRequest => Refusal::LongWord,
+        RequestError::LongWord | RequestError::LongRequest => above,
         _ => Refusal::Malformed,
     }
 }

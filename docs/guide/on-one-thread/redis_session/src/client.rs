@@ -87,7 +87,11 @@ impl Responder for Client {
         perform(&mut store, &mut self.refuses, &request.words, out)
     }
 
-    fn refuse(&mut self, error: &FramesError<Refusal>, out: &mut Vec<u8>) -> Result<(), AllocError> {
+    fn refuse(
+        &mut self,
+        error: &FramesError<Refusal>,
+        out: &mut Vec<u8>,
+    ) -> Result<(), AllocError> {
         match error {
             FramesError::NoFrame(Refusal::CutOff) => Ok(()),
             FramesError::NoFrame(refusal) => push_line(b"-", refusal.text(), out),
@@ -121,6 +125,9 @@ fn perform(
     store.set_refusing(*refuses);
     let outcome = store.perform(words)?;
     *refuses = store.refuses();
-    push_reply(&outcome.reply, out)?;
+    match &outcome.reply {
+        Some(reply) => push_reply(reply, out)?,
+        None => {}
+    }
     Ok(outcome.goes_on)
 }

@@ -1,5 +1,5 @@
 //! A request that is a line.
-ghost use Rattle.std.specs.Prelude.{◌≢◌, slice_index};
+ghost use Rattle.std.specs.Prelude.{◌≡◌, ◌≢◌, ◌≤◌, ◌<◌, All, length, slice_index, take};
 ghost use Rattle.redis_session.specs.RequestFrames.{FindsRequest};
 
 use crate::refusal::Refusal;
@@ -12,10 +12,24 @@ pub fn find_line(bytes: &[u8], limits: Limits) -> Result<Option<usize>, Refusal>
     requires { slice_index bytes.now 0 ≢ 42 }
     ensures { FindsRequest limits bytes.now result }
 {
-    let most = limits.line as usize;
+    let amount = text_length(bytes);
+    if amount > limits.line as usize {
+        return Err(Refusal::LongLine);
+    }
+    if amount == bytes.len() {
+        return Ok(None);
+    }
+    Ok(Some(amount + 1))
+}
+
+/// Returns how many bytes are before the first line feed, or all.
+fn text_length(bytes: &[u8]) -> usize
+    ensures within { result ≤ length bytes.now }
+    ensures one_line { All (λ b. b ≢ 10) (take result bytes.now) }
+    ensures feed { result < length bytes.now → slice_index bytes.now result ≡ 10 }
+{
     match memchr(b'\n', bytes) {
-        Some(place) if place <= most => Ok(Some(place + 1)),
-        None if bytes.len() <= most => Ok(None),
-        _ => Err(Refusal::LongLine),
+        Some(place) => place,
+        None => bytes.len(),
     }
 }

@@ -1,5 +1,5 @@
 //! The bytes of replies.
-ghost use Rattle.std.specs.Prelude.{◌≡◌, ◌++◌, List, OnOk, ℕ};
+ghost use Rattle.std.specs.Prelude.{◌≡◌, ◌++◌, List, OnOk, Some, ℕ};
 ghost use Rattle.example_redis.specs.Commands.{said};
 ghost use Rattle.example_redis.specs.Replies.{line_bytes};
 ghost use Rattle.redis_session.specs.Commands.{said_bytes};
@@ -8,26 +8,21 @@ use example_redis::reply::Reply;
 use itoa::Buffer;
 use std::alloc::AllocError;
 
-/// Pushes the bytes of a reply, if there is one. Of an array only its first line, since no command replies items.
-pub fn push_reply(reply: &Option<Reply>, out: &mut Vec<u8>) -> Result<(), AllocError>
-    ensures ok { OnOk result (out.new.items ≡ out.old.items ++ said_bytes (said reply.now)) }
+/// Pushes the bytes of a reply. Of an array only its first line, since no command replies items.
+pub fn push_reply(reply: &Reply, out: &mut Vec<u8>) -> Result<(), AllocError>
+    ensures ok { OnOk result (out.new.items ≡ out.old.items ++ said_bytes (said (Some reply.now))) }
     ensures behind { (rest : List ℕ) × (out.new.items ≡ out.old.items ++ rest) }
 {
     match reply {
-        None => Ok(()),
-        Some(Reply::Simple(text)) => push_line(b"+", text.as_bytes(), out),
-        Some(Reply::Error(text)) => push_line(b"-", text, out),
-        Some(Reply::Integer(number)) => {
-            push_line(b":", Buffer::new().format(*number).as_bytes(), out)
-        }
-        Some(Reply::Bulk(bytes)) => {
+        Reply::Simple(text) => push_line(b"+", text.as_bytes(), out),
+        Reply::Error(text) => push_line(b"-", text, out),
+        Reply::Integer(number) => push_line(b":", Buffer::new().format(*number).as_bytes(), out),
+        Reply::Bulk(bytes) => {
             push_line(b"$", Buffer::new().format(bytes.len()).as_bytes(), out)?;
             push_line(b"", bytes, out)
         }
-        Some(Reply::Null) => push_line(b"$-1", b"", out),
-        Some(Reply::Array(items)) => {
-            push_line(b"*", Buffer::new().format(items.len()).as_bytes(), out)
-        }
+        Reply::Null => push_line(b"$-1", b"", out),
+        Reply::Array(items) => push_line(b"*", Buffer::new().format(items.len()).as_bytes(), out),
     }
 }
 
