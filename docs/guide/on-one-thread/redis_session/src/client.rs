@@ -4,9 +4,9 @@ ghost use Rattle.example_redis.specs.Commands.{texts};
 ghost use Rattle.example_redis.specs.Store.{held};
 ghost use Rattle.framed.specs.Services.{RefusesBy};
 ghost use Rattle.serving.specs.Responding.{Pushes};
-ghost use Rattle.redis_session.specs.Commands.{AnswersShared, PerformsAs, asks_to_stop, words_to};
+ghost use Rattle.redis_session.specs.Commands.{AnswersShared, AnswersWords, PerformsAs, asks_to_stop, words_to};
 
-use crate::pushing::{push_line, push_reply};
+use crate::pushing::{push_line, push_outcome};
 use crate::refusal::Refusal;
 use crate::words::request_in;
 use example_redis::limits::Limits;
@@ -52,6 +52,20 @@ pub struct Client {
 }
 
 impl Client {
+    /// Pushes the reply to the words of a request.
+    fn answer_words(&mut self, words: &[Vec<u8>], out: &mut Vec<u8>) -> Result<bool, AllocError>
+        ensures { Pushes (AnswersWords self.old (texts words.now)) out.old.items result out.new.items self.new }
+    {
+        if is_stop(self.alloc, words)? {
+            self.told.wants_stop.set(true);
+            return Ok(false);
+        }
+        let Ok(mut store) = self.store.try_borrow_mut() else {
+            return Err(AllocError);
+        };
+        perform(&mut store, &mut self.refuses, words, out)
+    }
+
     /// Returns a client that has not asked yet.
     pub fn new(alloc: Global, limits: Limits, store: Rc<RefCell<Store>>, told: Rc<Told>) -> Client {
         Client {
@@ -77,14 +91,7 @@ impl Responder for Client {
         let Some(request) = request_in(self.alloc, self.limits, request)? else {
             return Err(AllocError);
         };
-        if is_stop(self.alloc, &request.words)? {
-            self.told.wants_stop.set(true);
-            return Ok(false);
-        }
-        let Ok(mut store) = self.store.try_borrow_mut() else {
-            return Err(AllocError);
-        };
-        perform(&mut store, &mut self.refuses, &request.words, out)
+        self.answer_words(&request.words, out)
     }
 
     fn refuse(
@@ -125,9 +132,6 @@ fn perform(
     store.set_refusing(*refuses);
     let outcome = store.perform(words)?;
     *refuses = store.refuses();
-    match &outcome.reply {
-        Some(reply) => push_reply(reply, out)?,
-        None => {}
-    }
+    push_outcome(&outcome.reply, out)?;
     Ok(outcome.goes_on)
 }

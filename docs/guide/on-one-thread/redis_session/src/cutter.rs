@@ -1,6 +1,6 @@
 //! The requests in the bytes of a client.
 ghost use Rattle.std.specs.Prelude.{◌≡◌};
-ghost use Rattle.redis_session.specs.RequestFrames.{ExplainedBy, IsRequestFrame};
+ghost use Rattle.redis_session.specs.RequestFrames.{ExplainedBy, FindsRequest, IsRequestFrame};
 ghost use Rattle.redis_session.specs.Laws.FrameLaws.{no_frame_empty, one_frame};
 ghost use Rattle.redis_session.specs.declared.refusal.Refusal.TheVariants.{CutOff};
 
@@ -20,6 +20,17 @@ pub struct RequestCutter {
     pub limits: Limits,
 }
 
+/// Finds the request at the front of some bytes, and returns how many bytes it has. `None` says that it is not whole.
+fn find_request(bytes: &[u8], limits: Limits) -> Result<Option<usize>, Refusal>
+    ensures { FindsRequest limits bytes.now result }
+{
+    if begins_array(bytes) {
+        find_array(bytes, limits)
+    } else {
+        find_line(bytes, limits)
+    }
+}
+
 impl Cutter for RequestCutter {
     type Error = Refusal;
 
@@ -30,12 +41,7 @@ impl Cutter for RequestCutter {
     ghost cut_off = { λ _ _ e. e ≡ CutOff };
 
     fn cut(&self, bytes: &[u8], seen: usize) -> Cut<Refusal> {
-        let found = if begins_array(bytes) {
-            find_array(bytes, self.limits)
-        } else {
-            find_line(bytes, self.limits)
-        };
-        match found {
+        match find_request(bytes, self.limits) {
             Ok(Some(size)) => Cut::Whole(Span {
                 from: 0,
                 to: size,

@@ -8,8 +8,19 @@ use example_redis::reply::Reply;
 use itoa::Buffer;
 use std::alloc::AllocError;
 
+/// Pushes the bytes of a reply, if there is one.
+pub fn push_outcome(reply: &Option<Reply>, out: &mut Vec<u8>) -> Result<(), AllocError>
+    ensures ok { OnOk result (out.new.items ≡ out.old.items ++ said_bytes (said reply.now)) }
+    ensures behind { (rest : List ℕ) × (out.new.items ≡ out.old.items ++ rest) }
+{
+    match reply {
+        Some(reply) => push_reply(reply, out),
+        None => Ok(()),
+    }
+}
+
 /// Pushes the bytes of a reply. Of an array only its first line, since no command replies items.
-pub fn push_reply(reply: &Reply, out: &mut Vec<u8>) -> Result<(), AllocError>
+fn push_reply(reply: &Reply, out: &mut Vec<u8>) -> Result<(), AllocError>
     ensures ok { OnOk result (out.new.items ≡ out.old.items ++ said_bytes (said (Some reply.now))) }
     ensures behind { (rest : List ℕ) × (out.new.items ≡ out.old.items ++ rest) }
 {
