@@ -7,11 +7,11 @@ use connections::ending::Ending;
 use connections::limit::{Limit, Reason};
 use framed::FramesError;
 use futures_lite::io::{AsyncBufRead, AsyncWrite, CountedRead};
-use futures_lite::{Context, Future, Poll};
+use futures_lite::{Context, Poll};
 use redis_session::client::{Client, Told};
 use redis_session::cutter::RequestCutter;
-use redis_session::pushing::push_line;
 use redis_session::refusal::Refusal;
+use redis_session::session::{Left, leave_session, poll_session};
 use serving::{Serving, ServingError};
 use std::mem;
 use std::rc::Rc;
@@ -54,7 +54,7 @@ impl<C: Clock, R: AsyncBufRead + CountedRead + Drop, W: AsyncWrite + Drop> Conne
         ensures context { Keeps cx.old cx.new }
     {
         match &mut self.stage {
-            Stage::Serves(serving) => match serving.poll(cx) {
+            Stage::Serves(serving) => match poll_session(serving, cx) {
                 Poll::Ready(value) => {
                     self.end(value);
                     cx.yield_now()
@@ -90,13 +90,16 @@ impl<C: Clock, R: AsyncBufRead + CountedRead + Drop, W: AsyncWrite + Drop> Conne
         let Stage::Serves(serving) = mem::replace(&mut self.stage, Stage::Over) else {
             return;
         };
-        let parts = serving.into_parts();
-        let mut out = parts.waiting;
-        if !words.is_empty() && push_line(b"-", words, &mut out).is_err() {
+        let Ok(Left {
+            reader,
+            writer,
+            out,
+        }) = leave_session(serving, words)
+        else {
             return;
-        }
+        };
         if self.limit.allow(LAST).is_ok() {
-            self.stage = Stage::Ends(Ending::new(parts.requests.reader, parts.replies, out));
+            self.stage = Stage::Ends(Ending::new(reader, writer, out));
         }
     }
 

@@ -7,4 +7,5 @@ pub mod cutter;
 pub mod line;
 pub mod pushing;
 pub mod refusal;
+pub mod session;
 pub mod words;
