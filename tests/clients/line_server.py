@@ -14,9 +14,11 @@ from talks import HOST, PATIENCE, Talk, Wrong, agree, agrees, within
 
 FOLDER = "docs/guide/on-one-thread/line_server"
 CLIENT = "line_client"
+CONNECTIONS = "docs/guide/on-one-thread/connections"
 CRATES = Crates(
     (f"docs/guide/on-one-thread/{CLIENT}", f"{CLIENT} may_wait=3: compat futures_lite bytes tokio"),
-    (FOLDER, "line_server may_wait=3: compat framed futures_lite bytes futures tokio"),
+    (CONNECTIONS, "connections: futures_lite futures tokio"),
+    (FOLDER, "line_server may_wait=3: connections compat framed futures_lite bytes futures tokio"),
 )
 
 

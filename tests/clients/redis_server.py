@@ -6,15 +6,15 @@ import subprocess
 import threading
 import time
 
+from line_server import CONNECTIONS, heard_whole, leave
 from line_server import connected as connected_by
-from line_server import heard_whole, leave
 from on_a_socket import NARROW
 from servers import Crates, Server, number_in
 from talks import HOST, PATIENCE, Talk, Wrong, agree, agrees, short, within
 
 HALL = "docs/guide/on-one-thread"
 CRATES = Crates(
-    (f"{HALL}/connections", "connections: futures_lite futures tokio"),
+    (CONNECTIONS, "connections: futures_lite futures tokio"),
     (f"{HALL}/redis_session", "redis_session: example_redis serving framed futures_lite bytes futures itoa memchr tokio_util thiserror"),
     (f"{HALL}/redis_server", "redis_server may_wait=3: redis_session connections example_redis compat serving framed futures_lite bytes futures tokio"),
 )

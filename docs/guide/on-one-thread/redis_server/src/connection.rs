@@ -90,11 +90,13 @@ impl<C: Clock, R: AsyncBufRead + CountedRead + Drop, W: AsyncWrite + Drop> Conne
         let Stage::Serves(serving) = mem::replace(&mut self.stage, Stage::Over) else {
             return;
         };
-        let Ok(Left {
-            reader,
-            writer,
-            out,
-        }) = leave_session(serving, words)
+        let Ok(
+            Left {
+                reader,
+                writer,
+                out,
+            },
+        ) = leave_session(serving, words)
         else {
             return;
         };
