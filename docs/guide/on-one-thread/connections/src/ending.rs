@@ -1,4 +1,5 @@
 //! The end of a connection.
+ghost use Rattle.std.specs.Prelude.{◌≡◌, ◌≤◌, drop, length};
 ghost use Rattle.futures_lite.specs.Contexts.{Keeps};
 
 use futures_lite::io::{AsyncBufRead, AsyncWrite};
@@ -27,13 +28,20 @@ pub struct Ending<R, W> {
     reader: R,
     writer: W,
     out: Vec<u8>,
+    // How many of these were written.
     written: usize,
     is_closed: bool,
+    ghost within: { written ≤ length out.items },
 }
 
 impl<R: AsyncBufRead, W: AsyncWrite> Ending<R, W> {
+    ghost use Rattle.connections.specs.Endings.{WritesLast};
+
     /// Returns the end of a connection, whose last bytes are `out`.
-    pub fn new(reader: R, writer: W, out: Vec<u8>) -> Ending<R, W> {
+    pub fn new(reader: R, writer: W, out: Vec<u8>) -> Ending<R, W>
+        ensures parts { (result.reader ≡ reader) × (result.writer ≡ writer) × (result.out ≡ out) }
+        ensures fresh { result.written ≡ 0 }
+    {
         Ending {
             reader,
             writer,
@@ -43,9 +51,11 @@ impl<R: AsyncBufRead, W: AsyncWrite> Ending<R, W> {
         }
     }
 
-    /// Goes on, and returns `Ready` once both sides have ended, or the connection failed.
+    /// Goes on, and returns `Ready` once both sides have ended, or the connection failed. Exactly the last bytes are
+    /// written, in order.
     pub fn poll_ended(&mut self, cx: &mut Context<'_>) -> Poll<()>
-        ensures { Keeps cx.old cx.new }
+        ensures writes { WritesLast W.writes self.old self.new }
+        ensures context { Keeps cx.old cx.new }
     {
         for _ in 0..STEPS {
             match self.step(cx) {
@@ -58,7 +68,8 @@ impl<R: AsyncBufRead, W: AsyncWrite> Ending<R, W> {
     }
 
     fn step(&mut self, cx: &mut Context<'_>) -> Step
-        ensures { Keeps cx.old cx.new }
+        ensures writes { WritesLast W.writes self.old self.new }
+        ensures context { Keeps cx.old cx.new }
     {
         if self.written < self.out.len() {
             return self.write(cx);
@@ -71,13 +82,13 @@ impl<R: AsyncBufRead, W: AsyncWrite> Ending<R, W> {
 
     /// Writes some of the last bytes.
     fn write(&mut self, cx: &mut Context<'_>) -> Step
-        ensures { Keeps cx.old cx.new }
+        ensures writes { WritesLast W.writes self.old self.new }
+        ensures context { Keeps cx.old cx.new }
     {
-        let left = self.out.get(self.written..).unwrap_or_default();
-        match self.writer.poll_write(cx, left) {
+        match self.writer.poll_write(cx, rest_of(&self.out, self.written)) {
             Poll::Ready(Ok(0)) => Step::Ended,
             Poll::Ready(Ok(n)) => {
-                self.written = self.written.saturating_add(n);
+                self.written += n;
                 Step::Done
             }
             Poll::Ready(Err(_)) => Step::Ended,
@@ -87,7 +98,8 @@ impl<R: AsyncBufRead, W: AsyncWrite> Ending<R, W> {
 
     /// Tells the client that no reply follows.
     fn close(&mut self, cx: &mut Context<'_>) -> Step
-        ensures { Keeps cx.old cx.new }
+        ensures writes { WritesLast W.writes self.old self.new }
+        ensures context { Keeps cx.old cx.new }
     {
         match self.writer.poll_close(cx) {
             Poll::Ready(Ok(())) => {
@@ -101,7 +113,8 @@ impl<R: AsyncBufRead, W: AsyncWrite> Ending<R, W> {
 
     /// Drops what the client has sent.
     fn drop_some(&mut self, cx: &mut Context<'_>) -> Step
-        ensures { Keeps cx.old cx.new }
+        ensures writes { WritesLast W.writes self.old self.new }
+        ensures context { Keeps cx.old cx.new }
     {
         let count = match self.reader.poll_fill_buf(cx) {
             Poll::Ready(Ok(bytes)) => bytes.len(),
@@ -114,4 +127,12 @@ impl<R: AsyncBufRead, W: AsyncWrite> Ending<R, W> {
         self.reader.consume(count);
         Step::Done
     }
+}
+
+/// Returns the bytes from a place on.
+fn rest_of(bytes: &[u8], from: usize) -> &[u8]
+    requires { from ≤ length bytes.now }
+    ensures { result.now ≡ drop from bytes.now }
+{
+    &bytes[from..]
 }
