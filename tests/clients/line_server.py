@@ -14,9 +14,11 @@ from talks import HOST, PATIENCE, Talk, Wrong, agree, agrees, within
 
 FOLDER = "docs/guide/on-one-thread/line_server"
 CLIENT = "line_client"
+CONNECTIONS = "docs/guide/on-one-thread/connections"
 CRATES = Crates(
     (f"docs/guide/on-one-thread/{CLIENT}", f"{CLIENT} may_wait=3: compat futures_lite bytes tokio"),
-    (FOLDER, "line_server may_wait=3: compat framed futures_lite bytes futures tokio"),
+    (CONNECTIONS, "connections: futures_lite futures tokio"),
+    (FOLDER, "line_server may_wait=3: connections compat framed futures_lite bytes futures tokio"),
 )
 
 
@@ -47,13 +49,13 @@ def asked(talk, request, reply):
     agree(talk.hear(len(reply)), reply)
 
 
-def connected(at, count):
+def connected(at, count, request=b"GET nothing\n", reply=b"NONE\n"):
     """Returns so many connections, each of which was served once."""
     talks = []
     while len(talks) < count:
         fresh = [Talk(at.port) for _ in range(min(BURST, count - len(talks)))]
         for talk in fresh:
-            asked(talk, b"GET nothing\n", b"NONE\n")
+            asked(talk, request, reply)
         talks += fresh
     return talks
 

@@ -4,7 +4,7 @@ import re
 import subprocess
 
 from programs import NotBuilt, environment, try_at
-from repository import TOP, files_of, lay_beside, read_text, stop
+from repository import PARTS, TOP, Crate, crates_in, files_of, lay_beside, lay_texts, read_text, stop, with_below
 from talks import HOST, Wrong, peak_of, within
 
 HANDLES = "Handles allowed: Threads, Wait, Net.\n"
@@ -16,8 +16,20 @@ def number_in(file, name):
     return int(words[1]) << int(words[2] or 0)
 
 
+def lay_programs(folder, lines):
+    """Copies the programs of this repository that crates use, by their lines for crates.txt, and what these programs use; the library is there."""
+    every, there = crates_in(TOP), crates_in(folder)
+    for name in with_below(every, [it for line in lines for it in Crate(line).below]):
+        if name not in there:
+            files = [f"{part}/{it}" for part in PARTS for it in files_of(f"{TOP}/crates/{name}/{part}")]
+            lay_texts(folder, {it: read_text(f"{TOP}/crates/{name}/{it}") for it in files}, every[name].line)
+
+
 class Crates:
-    """The crates of a server, lowest first, with its clients: a folder and a line for crates.txt each. The last one is the server."""
+    """The crates of a server, lowest first, with its clients: a folder and a line for crates.txt each. The last one is the server.
+
+    A program of this repository that they use is a library there.
+    """
 
     def __init__(self, *crates):
         self.crates = crates
@@ -30,6 +42,7 @@ class Crates:
             stop(f"tools/vendor failed: {ran.stderr}")
         with open(f"{folder}/HANDLES", "w", encoding="utf-8") as to:
             to.write(HANDLES)
+        lay_programs(folder, [it for _, it in self.crates])
         self.places = {lay_beside(folder, *it): it[0] for it in self.crates}
 
     def is_laid_out(self):

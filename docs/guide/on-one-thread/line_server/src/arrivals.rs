@@ -4,10 +4,10 @@ ghost use Rattle.futures.specs.Poll.{OnPending};
 ghost use Rattle.futures.specs.Task.{IsArmed, Keeps};
 
 use crate::connection::{Connection, Input, PATIENCE};
-use crate::limit::Limit;
 use crate::session::{Session, put_line};
 use crate::store::Store;
 use compat::{Compat, CompatExt};
+use connections::limit::Limit;
 use framed::{FramedRead, LineDelimited};
 use futures::Future;
 use futures_lite::io::{Budgeted, BufReader, BufWriter};

@@ -3,8 +3,8 @@ ghost use Rattle.std.specs.Prelude.{◌≡◌};
 ghost use Rattle.line_server.specs.Connection.{CanRead};
 ghost use Rattle.futures_lite.specs.Contexts.{Keeps};
 
-use crate::limit::{Limit, Reason};
 use crate::session::{Session, Then, last_words, put_line};
+use connections::limit::{Limit, Reason};
 use framed::{FrameError, FramedRead, LineDelimited};
 use futures_lite::io::{AsyncBufRead, AsyncWrite, CountedRead};
 use futures_lite::{Context, Poll, Stream, ready};

@@ -7,7 +7,6 @@
 
 mod arrivals;
 mod connection;
-mod limit;
 mod session;
 mod store;
 
