@@ -87,12 +87,6 @@ def count_words(text):
     return sum(bool(re.search(r"\w", it)) for it in text.split())
 
 
-def words_by_hand(pages):
-    """Returns how many words of these pages a hand wrote, their code left out."""
-    texts = [it for it in (read_text(f"{TOP}/{page}") for page in pages) if not it.startswith(WRITTEN)]
-    return sum(count_words(markers.without_code(markers.outside(it))) for it in texts)
-
-
 def stale(there):
     """Yields each file of the folders in which every file is generated that is not one of these."""
     for folder in WHOLE:

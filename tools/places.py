@@ -101,7 +101,7 @@ POLLED = re.compile(r"^impl\b[^{;]*? (?:Stream|PollSteps|Future|Folder|Decoder|E
 # Functions that no case of the measured program calls, by their names.
 NO_CASE = {
     # They return, lend or set a part of a value, or tell its state.
-    *"borrow borrow_mut buffer calls first_mut get_mut into_inner into_parts is_reading is_stopped from_parts limit second_mut set_limit set_position".split(),
+    *"borrow borrow_mut buffer calls first_mut get_mut into_inner is_reading is_stopped from_parts limit second_mut set_limit set_position".split(),
     *"size_hint start take_error take_future take_output_error take_result with_limit".split(),
     # They have no value.
     "pending",

@@ -35,11 +35,12 @@ write_waits_last (_ ∷ l) h = write_waits_last l h
 module _ {T C O S E : Type 0} (piece : C → List ℕ → List ℕ → Type 0) (refuses : C → List ℕ → E → Type 0) (cut_off : C → List ℕ → E → Type 0)
     (reads : Runs ReadMark T) (buffer_of : T → List ℕ) (writes : Runs WriteMark O) (answers : ServiceStep S (List ℕ) ℕ)
     (words : LastWords S (FramesError E) ℕ) where
-  abbrev Turns : Server T C O S E → List (ServingTurn E) → Server T C O S E → Type 0
-  Turns x turns y = FoldsTo (TakesTurn piece refuses cut_off reads buffer_of answers words) (side_of x) turns (side_of y)
+  -- Turns of these were taken.
+  abbrev FoldsTurns : Server T C O S E → List (ServingTurn E) → Server T C O S E → Type 0
+  FoldsTurns x turns y = FoldsTo (TakesTurn piece refuses cut_off reads buffer_of answers words) (side_of x) turns (side_of y)
 
   -- The last turn, if the reader was pending in it, and the marks that the reader left in it.
-  pended_last : (x y : Server T C O S E) (before : List (ServingTurn E)) → Turns x (before ++ pended ∷ []) y
+  pended_last : (x y : Server T C O S E) (before : List (ServingTurn E)) → FoldsTurns x (before ++ pended ∷ []) y
       → (m : Side T C S E) × FoldsTo (TakesTurn piece refuses cut_off reads buffer_of answers words) (side_of x) before m
       × (l : List ReadMark) × reads m.requests.reader (l ++ ReadMark.pending ∷ []) y.requests.reader
   pended_last x y before taken =
@@ -60,7 +61,7 @@ module _ {T C O S E : Type 0} (piece : C → List ℕ → List ℕ → Type 0) (
         → ServingRegisters by_reader by_writer y Lasting.armed
     pends_armed x y p = (
       (λ may.
-          let last = pended_last x y (p.reader may).0 (subst (λ l. Turns x l y) (p.reader may).1 p.served.taken) in
+          let last = pended_last x y (p.reader may).0 (subst (λ l. FoldsTurns x l y) (p.reader may).1 p.served.taken) in
           reader.at _ _ (last.2 ++ ReadMark.pending ∷ []) (last_join is_read_pending false last.2 (ReadMark.pending ∷ [])) last.3),
       (λ due.
           let before = (p.writer due).0 in
@@ -78,6 +79,7 @@ module _ {T C O S E : Type 0} (piece : C → List ℕ → List ℕ → Type 0) (
   -- If the reader and the writer are never pending, the server is not.
   module _ {reader_calm : T → Type 0} {writer_calm : O → Type 0} (reader : CalmReadLaws reads reader_calm)
       (writer : CalmWriteLaws writes writer_calm) where
+    -- Neither the reader nor the writer is ever pending.
     abbrev pub BothCalm : Server T C O S E → Type 0
     BothCalm x = reader_calm x.requests.reader × writer_calm x.replies
 
@@ -94,7 +96,7 @@ module _ {T C O S E : Type 0} (piece : C → List ℕ → List ℕ → Type 0) (
       where
         by : MayTake y ⊎ IsUnsent y → ⊥
         by (inl may) =
-            let last = pended_last x y (p.reader may).0 (subst (λ l. Turns x l y) (p.reader may).1 p.served.taken) in
+            let last = pended_last x y (p.reader may).0 (subst (λ l. FoldsTurns x l y) (p.reader may).1 p.served.taken) in
             waits_last last.2 (reader.no_pending _ _ _ (turns_calm (side_of x) last.0 _ k.0 last.1) last.3)
         by (inr due) =
             let marks = subst (λ l. writes x.replies l y.replies) (p.writer due).1 p.served.went in

@@ -11,7 +11,8 @@ use Rattle.lite_write.specs.Uses.{offered_marks}
 use Rattle.serving.specs.Uses.{Advances, AdvancesInHand, AtMost, AtMost-both, Below, Below-first, ErrorKind, untaken, ◌∙◌}
 use Rattle.serving.specs.Uses.{FramesError, LastWords, Lending, MarkLaws, NoneEmpty, Pending, Poll, Ranks}
 use Rattle.serving.specs.Uses.{ReadCounting, ReadMark, Ready, Runs, ServiceStep, StandsIn, WriteMark}
-use Rattle.serving.specs.Uses.{WritesAndFlushes, advance_counts, ap, append-nil, arith, bytes, inl, inr, kept}
+use Rattle.serving.specs.Uses.{WritesAndFlushes, ap, append-nil, arith, bytes, inl, inr, kept}
+use Rattle.lent_frames.specs.LendingLaws.{advance_counts}
 use Rattle.serving.specs.Uses.{length-append, length-take-le, lent_body, refl, subst, sym}
 use Rattle.serving.specs.RankLaws.{lends_lower, looks_lower, lower_behind, not_empty, same_size}
 use Rattle.serving.specs.Serving.{LastIs, ServingEnds, OutputFails, Goes, AllSent, IsUnsent, MayTake, ServesTurns, ServesPoll, side_of}

@@ -1,7 +1,6 @@
 -- What two or more files of this crate take from other crates. The prelude, and a name that two modules have, are imported from where they are.
 pub use Rattle.lent_frames.specs.Cutting.{NoneEmpty}
 pub use Rattle.lent_frames.specs.Lending.{Advances, AdvancesInHand, Lending, StandsIn, kept, lent_body, untaken}
-pub use Rattle.lent_frames.specs.LendingLaws.{advance_counts}
 pub use Rattle.framed.specs.Services.{LastWords, ServiceStep}
 pub use Rattle.lent_frames.specs.declared.frames_error.FramesError.{FramesError}
 pub use Rattle.futures.specs.declared.task.Poll.{Poll}
