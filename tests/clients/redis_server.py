@@ -217,6 +217,17 @@ def has_unread(at):
             sends.join(PATIENCE)
 
 
+def lingers(at):
+    """What a client sends behind the last reply is taken for a while, since a reset could lose that reply."""
+    for request, reply in ((b"QUIT\n", b"+OK\r\n"), (b"*a\r\n", refused(b"malformed request"))):
+        with Talk(at.port) as talk:
+            talk.say(request + b"PING\n" * 1000)
+            agree(heard_whole(talk), reply)
+            for _ in range(5):
+                talk.say(b"PING\n" * 1000)
+                time.sleep(LAST / 10)
+
+
 def takes_nothing(at):
     """Clients that send and take nothing lose their connections, and others are served meanwhile."""
     text = b"x" * 10_000
@@ -424,6 +435,7 @@ RUNS = {
     "a request of a web page": of_a_page,
     "half-closes": is_cut,
     "an end while the client sends": has_unread,
+    "bytes behind the last reply": lingers,
     "clients that take nothing": takes_nothing,
     f"{PIPELINED:,} requests before a reply is read": pipelines,
     "more requests than the limit lets wait": pipelines_too_much,
