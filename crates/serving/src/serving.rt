@@ -30,6 +30,9 @@ use std::marker::Model;
 // How many bytes of replies wait before no more requests are taken, unless the caller names another number.
 const MOST_WAITING: usize = 8 * 1024;
 
+// How many bytes of room the buffer of replies keeps behind a large reply, or as many as may wait.
+const MOST_KEPT: usize = 64 * 1024;
+
 // What a call finds.
 type Found<E> = Option<Result<(), FramesError<E>>>;
 
@@ -41,7 +44,7 @@ type Found<E> = Option<Result<(), FramesError<E>>>;
 ///
 /// While the writer is pending, the server goes on reading and performing requests, as long as no more than `limit`
 /// bytes wait. So a client that sends many requests before it reads a reply does not stall the server before that. At the
-/// limit the server reads no more, until the client has read.
+/// limit the server reads no more, until the client has read. Once a large reply is written, its memory is given back.
 ///
 /// The value is `Ok` once the input has ended, or the responder has ended the session, and all replies are written and
 /// flushed. A poll returns `Pending` only if the reader or the writer did.
@@ -519,7 +522,8 @@ impl<T: AsyncBufRead, C: Cutter, O: AsyncWrite, S: Responder<Error = C::Error>> 
         }
     }
 
-    // The writer took `count` of the bytes that wait. They are dropped once they are more than those that still wait.
+    // The writer took `count` of the bytes that wait. They are dropped once they are more than those that still wait, and then
+    // the buffer gives back the memory of a large reply.
     fn took(&mut self, count: usize)
         requires { count ≤ length self.old.waiting }
         ensures { self.new ≡ record self.old { waiting = drop count self.old.waiting; is_flushed = false } }
@@ -529,6 +533,10 @@ impl<T: AsyncBufRead, C: Cutter, O: AsyncWrite, S: Responder<Error = C::Error>> 
         if self.out.len() - self.written < self.written {
             drop_front(&mut self.out, self.written);
             self.written = 0;
+            let kept = self.limit.max(MOST_KEPT);
+            if self.out.capacity() / 2 > kept {
+                self.out.shrink_to(kept);
+            }
         }
     }
 

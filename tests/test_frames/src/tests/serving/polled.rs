@@ -11,8 +11,8 @@ use std::random::RandomSource;
 use std::sync::Wait;
 use std::test::Fail;
 
-/// Replies to a line with itself and `!`. Ends behind `quit`, and says that it has no memory for `lack`. It counts what it
-/// was asked, and notes whether memory was refused.
+/// Replies to a line with itself and `!`, and to `large` with 300,000 bytes more. Ends behind `quit`, and says that it has
+/// no memory for `lack`. It counts what it was asked, and notes whether memory was refused.
 #[derive(Drop)]
 struct Loud {
     asked: u32,
@@ -57,6 +57,11 @@ impl Responder for Loud {
         self.push(line, out)?;
         if line == b"lack".as_slice() {
             return Err(AllocError);
+        }
+        if line == b"large".as_slice() {
+            for _ in 0..300 {
+                self.push(&[b'x'; 1000], out)?;
+            }
         }
         self.push(b"!", out)?;
         Ok(line != b"quit".as_slice())
@@ -224,6 +229,22 @@ fn served<R: AllocGlobal + RandomSource + Wait>(
         parts.responder.asked,
         parts.requests.reader.len(),
     ))
+}
+
+// The buffer keeps 64 KiB, or what may wait.
+#[test]
+fn the_memory_of_a_large_reply_is_given_back(rt: HostRuntime) -> Result<(), Fail> {
+    for (limit, most) in [(0, 1 << 17), (1 << 18, 1 << 19)] {
+        let (input, output) = (chunks(rt.alloc(), &[b"large\n"])?, futures_lite::io::sink());
+        let mut server = server(rt.alloc(), input, output)?.with_limit(limit);
+        let value = value(&rt, &mut server, 10)?;
+        let parts = server.into_parts();
+        parts.responder.had_memory()?;
+        assert_eq!(rt; value, Some(Ok(())));
+        assert!(rt; parts.waiting.is_empty());
+        assert!(rt; parts.waiting.capacity() <= most);
+    }
+    Ok(())
 }
 
 #[test]
