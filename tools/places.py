@@ -110,7 +110,7 @@ NO_CASE = {
     # Sources that differ from `iter` in the type of their list alone.
     *"iter_array iter_range iter_slice iter_vec".split(),
     # Members of traits, and parts of a poll, that other calls make.
-    *"advance_in_hand answer at_end cut find_delimiter_behind finish in_hand poll_close poll_flush poll_seek poll_write_vectored refuse scan_line take_in wait".split(),
+    *"advance_in_hand answer at_end cut cut_body find_delimiter_behind finish in_hand poll_close poll_flush poll_seek poll_write_vectored refuse scan_line take_in wait".split(),
     # What is wrapped costs what it wraps, and a wait for it what `block_on` costs.
     *"collect_from_kit compat stream_from_kit wait_from_kit".split(),
     # They are parts of `wait_send` and `wait_send_all`.

@@ -15,7 +15,7 @@ from talks import HOST, PATIENCE, Talk, Wrong, agree, agrees, short, within
 HALL = "docs/guide/on-one-thread"
 CRATES = Crates(
     (CONNECTIONS, "connections: futures_lite futures tokio"),
-    (f"{HALL}/redis_session", "redis_session: example_redis serving framed futures_lite bytes futures itoa memchr tokio_util thiserror"),
+    (f"{HALL}/redis_session", "redis_session: example_redis serving lent_frames framed futures_lite bytes futures itoa memchr tokio_util thiserror"),
     (f"{HALL}/redis_server", "redis_server may_wait=3: redis_session connections example_redis compat serving framed futures_lite bytes futures tokio"),
 )
 

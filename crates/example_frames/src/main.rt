@@ -14,8 +14,9 @@ mod netstring;
 use bytes::BytesMut;
 use entries::read_entries;
 use fault::Fault;
-use framed::{FrameError, FramedRead, LengthDelimited, collect_frames, wait_send_all};
+use framed::{FrameError, FramedRead, Frames, LengthDelimited, collect_frames, wait_send_all};
 use framing::{read_all, send_and_read, write_frame};
+use futures_lite::Poll;
 use futures_lite::future::BlockOn;
 use futures_lite::io::{BufReader, Cursor};
 use netstring::Netstring;
@@ -80,7 +81,7 @@ where
     list(host, rt, &mut on, b"one\n\0\0\0\x03abctwo\n\0\0\0\0")
 }
 
-/// Sends the texts to memory as netstrings, and prints these and what is read of them.
+/// Sends the texts to memory as netstrings, and prints these and what is read of them, first with a copy and then lent.
 fn send_strings<R>(
     host: &HostRuntime,
     rt: &R,
@@ -99,6 +100,12 @@ where
     collect_frames(&mut on.waits(), rt, &mut strings, &mut read)?;
     for string in read {
         println!(host; "{} bytes", string.len())?;
+    }
+    let mut lent = Frames::new(rt.alloc(), sent.as_slice(), codec);
+    for _ in 0..2 {
+        if let Poll::Ready(Some(Ok(()))) = lent.advance_in_hand() {
+            println!(host; "{} bytes, lent", lent.frame().len())?;
+        }
     }
     Ok(())
 }

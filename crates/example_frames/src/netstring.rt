@@ -1,13 +1,16 @@
 //! Netstrings, as a codec of one's own.
 ghost use Rattle.std.specs.Prelude.{◌≡◌, ◌≤◌, IfNone, IfOk};
+ghost use Rattle.framed.specs.HeadCuts.{RefusesHeadedCut, headed_one, headed_some};
 ghost use Rattle.framed.specs.Heads.{HeadedFrame, gives_headed, headed_end, headed_partial, headed_prompt, headed_stable};
 ghost use Rattle.framed.specs.HeadsBack.{headed_back};
+ghost use Rattle.framed.specs.declared.CutError.TheVariants.{CutOff};
 ghost use Rattle.tokio_util.specs.Codec.Next.{Decodes};
 ghost use Rattle.example_frames.specs.Netstring.{RefusesNetstring, netstring, says_more, same_longest};
 
 use bytes::BytesMut;
 use framed::{
-    Delimiter, FrameError, PromptDecoder, RoundTrip, find_delimiter, read_decimal, take_body,
+    Cut, CutError, Cutter, Delimiter, FrameError, PromptDecoder, RoundTrip, cut_body,
+    find_delimiter, read_decimal, take_body,
 };
 use std::convert::AsSlice;
 use tokio_util::codec::{Decoder, Encoder};
@@ -64,6 +67,39 @@ impl Decoder for Netstring {
 
 impl PromptDecoder for Netstring {
     ghost prompt = { headed_prompt netstring };
+}
+
+impl Cutter for Netstring {
+    type Error = CutError;
+
+    ghost piece = { HeadedFrame netstring };
+
+    ghost refuses = { RefusesHeadedCut netstring };
+
+    ghost cut_off = { λ _ _ e. e ≡ CutOff };
+
+    fn cut(&self, bytes: &[u8], seen: usize) -> Cut<CutError> {
+        let at = match find_delimiter(bytes, b':', DIGITS) {
+            Delimiter::At(at) => at,
+            Delimiter::Missing => return Cut::More(bytes.len() + 1),
+            Delimiter::TooFar => return Cut::Refused(CutError::Malformed),
+        };
+        let Some(length) = read_decimal(&bytes[..at]) else {
+            return Cut::Refused(CutError::Malformed);
+        };
+        if self.max < length {
+            return Cut::Refused(CutError::TooLong(length));
+        }
+        cut_body(bytes, at + 1, length, b",")
+    }
+
+    fn at_end(&self, bytes: &[u8]) -> CutError {
+        CutError::CutOff
+    }
+
+    ghost one = { headed_one netstring };
+
+    ghost some = { headed_some netstring };
 }
 
 impl<T: AsSlice<u8> + Drop> Encoder<T> for Netstring {

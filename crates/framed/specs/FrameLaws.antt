@@ -18,7 +18,7 @@ use Rattle.lite_io_base.specs.Laws.Counting.{given_of}
 use Rattle.lite_base.specs.Laws.Chain.{steps_answer}
 use Rattle.tokio_util.specs.Codec.Next.{Gives, Next, PartialHasNoFrame, Resumes, at_end, decoded, partial}
 use Rattle.tokio_util.proofs.CodecLemmas.Next.{Resumes-append, Resumes_trans}
-use Rattle.lent_frames.specs.LendingLaws.{join_marks}
+pub use Rattle.lent_frames.specs.LendingLaws.{join_marks}
 use Rattle.framed.specs.Frames.{AfterEnd, Found, FrameStep, Framed, ResumesAt, Last, Phase, PollGives, NoFrame, ended, ending, frame_ranks, phase_rank, reading}
 use Rattle.framed.specs.Prompt.{PromptLaws}
 

@@ -1,6 +1,6 @@
 -- Frames with a head: a text up to a delimiter, which says how many bytes follow, then these bytes, and a tail.
 use Rattle.std.specs.Prelude.{◌≡◌, ◌≢◌, ◌⊎◌, ◌≤◌, ◌<◌, ◌+◌, ◌^◌, ℕ, List, [], ◌∷◌, ◌++◌}
-use Rattle.std.specs.Prelude.{Option, Some, None, Result, Ok, Err, decimal, length, slice_index, take}
+use Rattle.std.specs.Prelude.{Option, Some, None, Result, Ok, Err, decimal, drop, length, slice_index, take}
 use Rattle.std.specs.Char.{digit_value}
 use Rattle.std.specs.List.{All, Contains}
 use Rattle.std.specs.Option.{MatchOption}
@@ -15,6 +15,10 @@ use Rattle.framed.specs.FrameErrors.{SaysOutOfMemory}
 use Rattle.framed.specs.Pieces.{gives_pieces, pieces_end, pieces_partial, pieces_prompt, pieces_stable, up_to_delimiter}
 use Rattle.lent_frames.specs.Cutting.{Undecided}
 use Rattle.framed.specs.Prompt.{PromptLaws}
+use Rattle.lent_frames.specs.declared.cut.Cut.{Cut}
+use Rattle.lent_frames.specs.declared.cut.Cut.TheVariants.{More, Refused, Whole}
+use Rattle.framed.specs.declared.cut_error.CutError.{CutError}
+use Rattle.framed.specs.declared.cut_error.CutError.TheVariants as small
 use Rattle.framed.specs.declared.delimiter.Delimiter.{Delimiter}
 use Rattle.framed.specs.declared.delimiter.Delimiter.TheVariants.{At, Missing, TooFar}
 use Rattle.framed.specs.declared.frame_error.FrameError.{FrameError}
@@ -67,6 +71,14 @@ TakesBody start n tail xs (Ok None) ys = (ys ≡ xs) × (length xs < start + n +
 TakesBody start n tail xs (Err e) ys = (ys ≡ xs) × (front body other rest : List ℕ) × (length front ≡ start) × (length body ≡ n)
     × (length other ≡ length tail) × (xs ≡ front ++ (body ++ (other ++ rest)))
     × (((other ≢ tail) × (e ≡ Malformed)) ⊎ ((other ≡ tail) × SaysOutOfMemory e))
+
+-- The same for bytes that are not taken: where the body and the frame stand, or how many bytes are needed at least.
+abbrev pub CutsBody : ℕ → ℕ → List ℕ → List ℕ → Cut CutError → Type 0
+CutsBody start n tail xs (Whole s) = (s ≡ record { from = start; to = start + n; size = start + n + length tail })
+    × (start + n + length tail ≤ length xs) × (take (length tail) (drop (start + n) xs) ≡ tail)
+CutsBody start n tail xs (More least) = (length xs < least) × (least ≤ start + n + length tail)
+CutsBody start n tail xs (Refused e) =
+    (e ≡ small.Malformed) × (start + n + length tail ≤ length xs) × (take (length tail) (drop (start + n) xs) ≢ tail)
 
 -- What a codec `C` of such frames is.
 pub record HeadForm (C : Type 0) : Type 1 where
@@ -168,11 +180,11 @@ module _ {C : Type 0} (f : HeadForm C) where
 
   module _ (c : C) where
     -- No front of the bytes is a frame or is refused.
-    abbrev IsOpen : List ℕ → Type 0
+    abbrev pub IsOpen : List ℕ → Type 0
     IsOpen = Undecided {V = Filled} (λ c v. HeadedFrame c v.items) RefusesHeaded c
 
     -- Without a delimiter nothing is decided while there is room for a head.
-    open_head : (xs : List ℕ) → HasNo f.delimiter xs → length xs ≤ f.longest c → IsOpen xs
+    pub open_head : (xs : List ℕ) → HasNo f.delimiter xs → length xs ≤ f.longest c → IsOpen xs
     open_head xs none short front rest is = (λ v. no_frame v.items, not_refused)
       where
         has_none : (text behind : List ℕ) → front ≡ text ++ f.delimiter ∷ behind → ⊥
@@ -216,7 +228,7 @@ module _ {C : Type 0} (f : HeadForm C) where
           (body, other, sym same.0, as_long, differs, same.1 ∙ append_assoc body other more)
 
     -- Behind a head nothing is decided until there are all bytes of the body and the tail.
-    open_body : (text behind : List ℕ) (n : ℕ) → IsHead c text → f.says c text n → length behind < n + length f.tail
+    pub open_body : (text behind : List ℕ) (n : ℕ) → IsHead c text → f.says c text n → length behind < n + length f.tail
         → IsOpen (text ++ f.delimiter ∷ behind)
     open_body text behind n head number short front more is = (
       (λ v h.
@@ -239,7 +251,7 @@ module _ {C : Type 0} (f : HeadForm C) where
       abbrev head_text : List ℕ
       head_text = take at xs
 
-      is_head : IsHead c head_text
+      pub is_head : IsHead c head_text
       is_head = (omega (arith, text_length f.delimiter (f.longest c) xs at found, found.0), text_has_none f.delimiter (f.longest c) xs at found)
 
       pub head_denied : (e : FrameError) → f.denies c (take at xs) e → Decodes gives_headed c xs (Err e) c xs

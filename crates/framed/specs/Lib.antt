@@ -29,6 +29,7 @@ pub mod PiecesBack
 pub mod DelimitedBack
 pub mod LineBack
 pub mod HeadsBack
+pub mod HeadCuts
 pub mod Hexadecimal
 pub mod LinesBack
 pub mod SteadyFrames

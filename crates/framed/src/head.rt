@@ -1,8 +1,10 @@
 //! Parts of decoders for frames whose head says how many bytes follow.
-ghost use Rattle.framed.specs.Heads.{ReadsDecimal, StripsReturn, TakesBody};
+ghost use Rattle.framed.specs.Heads.{CutsBody, ReadsDecimal, StripsReturn, TakesBody};
 
+use crate::cut_error::CutError;
 use crate::frame_error::FrameError;
 use bytes::BytesMut;
+use lent_frames::{Cut, Span};
 use std::str;
 
 /// Returns the number that a text is, in decimal digits.
@@ -101,4 +103,44 @@ pub fn take_body(
     body.truncate(end);
     body.advance(start);
     Ok(Some(body))
+}
+
+/// Finds a frame's body, for a [`Cutter`](crate::Cutter): `start` bytes stand before it, it has `length` bytes, and behind it
+/// stands `tail`.
+///
+/// It returns `Whole` with where the body and the frame stand, or `More` with how many bytes are needed.
+///
+/// # Errors
+///
+/// `Refused(Malformed)`: as many bytes as the tail has stand behind the body, and are not the tail.
+///
+/// # Examples
+///
+/// ```
+/// use framed::{Cut, CutError, Span, cut_body};
+///
+/// assert_eq!(rt; cut_body(b"2:hi,3:a", 2, 2, b","), Cut::Whole(Span { from: 2, to: 4, size: 5 }));
+/// assert_eq!(rt; cut_body(b"3:a", 2, 3, b","), Cut::More(6));
+/// assert_eq!(rt; cut_body(b"1:ab", 2, 1, b","), Cut::Refused(CutError::Malformed));
+/// ```
+pub fn cut_body(bytes: &[u8], start: usize, length: usize, tail: &[u8]) -> Cut<CutError>
+    ensures { CutsBody start length tail.now bytes.now result }
+{
+    let Some(end) = start.checked_add(length) else {
+        return Cut::More(usize::MAX);
+    };
+    let Some(size) = end.checked_add(tail.len()) else {
+        return Cut::More(usize::MAX);
+    };
+    if bytes.len() < size {
+        return Cut::More(size);
+    }
+    if &bytes[end..size] != tail {
+        return Cut::Refused(CutError::Malformed);
+    }
+    Cut::Whole(Span {
+        from: start,
+        to: end,
+        size,
+    })
 }

@@ -40,7 +40,7 @@ pub use cut_error::CutError;
 pub use delimiter::{Delimiter, find_delimiter, find_delimiter_behind};
 pub use frame_error::FrameError;
 pub use framed_read::{FramedParts, FramedRead};
-pub use head::{read_decimal, strip_return, take_body};
+pub use head::{cut_body, read_decimal, strip_return, take_body};
 pub use held_frame::HeldFrame;
 pub use hexadecimal::{Hexadecimal, read_hexadecimal};
 pub use length_delimited::LengthDelimited;
