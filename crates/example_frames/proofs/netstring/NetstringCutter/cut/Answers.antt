@@ -15,7 +15,7 @@ returns-in_default c =
     let found : FindsDelimiter 58 20 c.args.bytes.now (At c.in-At.at) = search rules in
     head_cut_denied netstring c.args.self.now c.args.bytes.now c.in-At.at found Malformed (inl (refl, search rules))
 
-pub returns-then-self-length : goal.returns-then-length-self
+pub returns-then-self-length : goal.returns-then-self-length
 returns-then-self-length c =
     let found : FindsDelimiter 58 20 c.args.bytes.now (At c.in-At.at) = search rules in
     head_cut_denied netstring c.args.self.now c.args.bytes.now c.in-At.at found (TooLong c.in-Some.length)
