@@ -1,4 +1,4 @@
-//! Numbers are mapped, filtered and cut. List functions say what comes out, and what is printed is proved.
+//! Numbers are mapped, filtered and cut. List functions say what comes out, and the list that is printed is proved.
 #![tactic(auto)]
 
 ghost use Rattle.std.specs.Prelude.{◌≡◌, ◌==◌, ◌%◌, ◌*◌, IfOk, map, take};
