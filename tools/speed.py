@@ -43,7 +43,7 @@ LARGE = {
     **dict.fromkeys(("nest_of_eight", "collect", "or_streams", "race_streams"), ITEMS),
     **dict.fromkeys(("lines", "split"), LINES),
     **dict.fromkeys(("copy", "read_to_end", "read_to_string"), BYTES),
-    **dict.fromkeys(("values", "collect_frames", "served_lines", "wait_serving"), ITEMS),
+    **dict.fromkeys(("values", "poll_advance", "collect_frames", "served_lines", "wait_serving"), ITEMS),
 }
 OVER_STD = {it: f"std_{it}" for it in ("lines", "split", "copy", "read_to_end", "read_to_string")}
 # The plot has ratios from the least to the most; what is beyond is drawn at its edge.
